@@ -1,0 +1,4 @@
+pub mod Copies
+pub mod Names
+pub mod Numbers
+pub mod Parts

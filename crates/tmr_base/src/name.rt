@@ -1,0 +1,160 @@
+//! A name: the bytes that stand for a net or a model in the text format.
+ghost use Rattle.std.specs.Prelude.{◌≡◌, ◌==◌, ◌++◌, true, false, OnOk, IfOk, OnErr, IsErrOf, IsOkUnless, IsTrue};
+ghost use Rattle.std.proofs.Common.{rules};
+ghost use Rattle.std.specs.Cmp.Rules.{comparing, hashing};
+ghost use Rattle.std.specs.Cmp.{partial_order_from_own_ties};
+ghost use Rattle.std.specs.Cmp.Lexicographic.{slice_cmp};
+ghost use Rattle.std.specs.Ordering.{nat_cmp, as_partial_cmp};
+ghost use Rattle.std.specs.Hash as fed;
+ghost use Rattle.std.specs.List.{list_all};
+ghost use Rattle.std.specs.Str.{bytes_eq};
+ghost use Rattle.tmr_base.specs.Names.{is_name, is_name_byte};
+
+use crate::OutOfMemory;
+use std::alloc::Global;
+use std::cmp::Ordering;
+use std::hash::{Hash, Hasher};
+use std::marker::Model;
+
+/// One or more bytes above 0x20, none of them 0x7F or `#`, of which the last is no backslash.
+/// Names are equal, ordered and hashed as their bytes.
+#[derive(Debug, Drop)]
+pub struct Name {
+    bytes: Vec<u8>,
+}
+
+impl Model for Name {
+    ghost use Rattle.std.specs.Prelude.{List, ℕ, ◌≡◌, true};
+    ghost use Rattle.tmr_base.specs.Names.{is_name};
+
+    ghost Value = { List ℕ };
+
+    ghost view = { λ name. name.bytes.items };
+
+    ghost invariant = { λ name. is_name name.bytes.items ≡ true };
+}
+
+/// Why bytes are not made a name.
+#[derive(Clone, Copy, Debug, PartialEq, Eq, Drop)]
+pub enum NameFault {
+    /// The bytes are no name.
+    Bad,
+    /// There was no memory for the copy.
+    Memory,
+}
+
+fn may_stand(b: u8) -> bool
+    ensures { result ≡ is_name_byte b }
+{
+    32 < b && b != 0x7f && b != b'#'
+}
+
+fn all_may_stand(bytes: &[u8]) -> bool
+    ensures { result ≡ list_all is_name_byte bytes.now }
+{
+    bytes.iter().all(|b| may_stand(*b))
+}
+
+fn is_legal(bytes: &[u8]) -> bool
+    ensures { result ≡ is_name bytes.now }
+{
+    match bytes.last() {
+        Some(last) => { *last != b'\\' && all_may_stand(bytes) }
+        None => false,
+    }
+}
+
+impl Name {
+    /// The name with these bytes. `Bad` comes exactly where the bytes are no name.
+    pub fn read(alloc: Global, bytes: &[u8]) -> Result<Name, NameFault>
+        ensures ok { IfOk result (λ name. name ≡ bytes.now) }
+        ensures legal { OnOk result (is_name bytes.now ≡ true) }
+        ensures bad { IsErrOf result NameFault.Bad → is_name bytes.now ≡ false }
+        ensures bad_only { is_name bytes.now ≡ false → result ≡ Err NameFault.Bad }
+    {
+        if !is_legal(bytes) {
+            return Err(NameFault::Bad);
+        }
+        match bytes.to_vec(alloc) {
+            Ok(bytes) => Ok(Name { bytes }),
+            Err(_) => Err(NameFault::Memory),
+        }
+    }
+
+    /// The bytes, which are a name.
+    pub fn bytes(&self) -> &[u8]
+        ensures bytes { result.now ≡ self.now }
+        ensures legal { is_name self.now ≡ true }
+    {
+        self.bytes.as_slice()
+    }
+
+    /// The same name once more.
+    pub fn copy(&self, alloc: Global) -> Result<Name, OutOfMemory>
+        ensures { IfOk result (λ name. name ≡ self.now) }
+    {
+        let bytes = self.bytes.as_slice().to_vec(alloc)?;
+        Ok(Name { bytes })
+    }
+}
+
+/// The bytes of a name, and then those of another.
+#[tactic(auto, using(crate::proofs::NameLaws::name_append))]
+pub fn with_suffix(alloc: Global, x: &Name, suffix: &[u8]) -> Result<Name, OutOfMemory>
+    requires { is_name suffix.now ≡ true }
+    ensures { IfOk result (λ name. name ≡ x.now ++ suffix.now) }
+{
+    let start = x.bytes.as_slice();
+    let mut bytes = Vec::with_capacity(alloc, start.len().saturating_add(suffix.len()))?;
+    bytes.extend_from_slice(start)?;
+    bytes.extend_from_slice(suffix)?;
+    Ok(Name { bytes })
+}
+
+impl PartialEq for Name {
+    ghost eq = { bytes_eq };
+
+    ghost laws = { Prim.search (comparing, rules) };
+
+    fn eq(&self, other: &Name) -> bool {
+        self.bytes == other.bytes
+    }
+}
+
+impl Eq for Name {
+    ghost laws = { Prim.search (comparing, rules) };
+}
+
+impl Hash for Name {
+    ghost hash_input = { fed.slice fed.u8 };
+
+    ghost respects_eq = { Prim.search (hashing, rules) };
+
+    fn hash<H: Hasher>(&self, state: &mut H) {
+        self.bytes.hash(state);
+    }
+}
+
+impl Ord for Name {
+    ghost cmp = { slice_cmp nat_cmp };
+
+    ghost total = { Prim.search (comparing, rules) };
+
+    ghost matches_partial_cmp = { Prim.search (comparing, rules) };
+
+    ghost matches_eq = { Prim.search (comparing, rules) };
+
+    fn cmp(&self, other: &Name) -> Ordering {
+        self.bytes.cmp(&other.bytes)
+    }
+}
+
+impl PartialOrd for Name {
+    ghost partial_cmp = { as_partial_cmp (slice_cmp nat_cmp) };
+
+    ghost laws = { partial_order_from_own_ties (Prim.search (comparing, rules)) (Prim.search (comparing, rules)) };
+
+    fn partial_cmp(&self, other: &Name) -> Option<Ordering> {
+        Some(self.cmp(other))
+    }
+}
