@@ -1,0 +1,261 @@
+//! A cover.
+ghost use Rattle.std.specs.Prelude.{◌≡◌, ◌≢◌, ◌↔◌, ◌<◌, ◌^◌, ℕ, Some, None, [], ◌∷◌, ◌++◌, true, length, slice_get, IfOk, OnOk, OnErr, IfErr, IsTrue, ◌*◌, ◌+◌};
+ghost use Rattle.std.specs.List.{list_all};
+ghost use Rattle.table_cover.specs.Cover.{PlainCover, IsCover, IsMajority, IsRow, cover_value, majority_of, is_mark};
+ghost use Rattle.table_cover.specs.Pushing.{is_output, row_fault, with_row};
+ghost use Rattle.table_cover.specs.declared.cover.RowFault.{RowFault};
+
+use crate::majority;
+use crate::rows::{row_at, same_rows, some_row_fits};
+use std::alloc::Global;
+use std::marker::Model;
+use tmr_base::OutOfMemory;
+
+/// The rows of a table, and whether they tell where the value is 1 or where it is 0.
+///
+/// Each row is as wide as the cover. A cover without rows has polarity on, so its value is 0.
+#[derive(Debug, Drop)]
+pub struct Cover {
+    width: u32,
+    is_on: bool,
+    count: u32,
+    marks: Vec<u8>,
+}
+
+impl Model for Cover {
+    ghost use Rattle.std.specs.Prelude.{◌≡◌, ◌*◌, length};
+    ghost use Rattle.table_cover.specs.Cover.{PlainCover, IsCover};
+    ghost use Rattle.table_cover.specs.Rows.{cut_rows};
+
+    ghost Value = { PlainCover };
+
+    ghost view = { λ k. record { width = k.width; is_on = k.is_on; rows = cut_rows k.width k.count k.marks.items } };
+
+    ghost invariant = { λ k. (length k.marks.items ≡ k.count * k.width)
+        × IsCover (record { width = k.width; is_on = k.is_on; rows = cut_rows k.width k.count k.marks.items }) };
+}
+
+/// Why a row is refused.
+#[derive(Clone, Copy, Debug, PartialEq, Eq, Drop)]
+pub enum RowFault {
+    /// The row is not as wide as the cover.
+    Width,
+    /// A mark is none of `0`, `1` and `-`, or the output is neither `0` nor `1`.
+    BadChar,
+    /// A row with the other output is there.
+    Mixed,
+    /// There was no memory for the row.
+    Memory,
+}
+
+/// `0`, `1` or `-`.
+fn is_legal_mark(b: u8) -> bool
+    ensures { result ≡ is_mark b }
+{
+    b == b'0' || b == b'1' || b == b'-'
+}
+
+fn are_legal_marks(row: &[u8]) -> bool
+    ensures { result ≡ list_all is_mark row.now }
+{
+    row.iter().all(|b| is_legal_mark(*b))
+}
+
+fn is_legal_output(b: u8) -> bool
+    ensures { result ≡ is_output b }
+{
+    b == b'0' || b == b'1'
+}
+
+impl Cover {
+    /// A cover of this width without rows.
+    pub fn new(alloc: Global, width: u32) -> Cover
+        ensures { result ≡ record { width = width; is_on = true; rows = [] } }
+    {
+        Cover {
+            width,
+            is_on: true,
+            count: 0,
+            marks: Vec::new(alloc),
+        }
+    }
+
+    /// How many marks a row has.
+    pub fn width(&self) -> u32
+        ensures width { result ≡ self.now.width }
+        ensures cover { IsCover self.now }
+    {
+        self.width
+    }
+
+    /// The rows tell where the value is 1, and not where it is 0.
+    pub fn is_on(&self) -> bool
+        ensures { result ≡ self.now.is_on }
+    {
+        self.is_on
+    }
+
+    /// How many rows there are.
+    #[tactic(auto, using(crate::proofs::RowLaws::length_cut))]
+    pub fn row_count(&self) -> u32
+        ensures { result ≡ length self.now.rows }
+    {
+        self.count
+    }
+
+    /// The marks of row i, as many as the cover is wide.
+    #[tactic(auto, using(crate::proofs::CoverLaws::rows_of_covers))]
+    pub fn row(&self, i: u32) -> &[u8]
+        requires { i < length self.now.rows }
+        ensures row { slice_get self.now.rows i ≡ Some result.now }
+        ensures marks { IsRow self.now.width result.now }
+    {
+        row_at(&self.marks, self.width as usize, self.count, i)
+    }
+
+    /// The value on these bits, as many as the cover is wide.
+    #[tactic(auto, unfolding(crate::specs::Cover::cover_value))]
+    pub fn value(&self, bits: &[bool]) -> bool
+        requires { length bits.now ≡ self.now.width }
+        ensures { result ≡ cover_value self.now bits.now }
+    {
+        let some = some_row_fits(&self.marks, self.width as usize, self.count, bits);
+        if self.is_on { some } else { !some }
+    }
+
+    /// The width is 3, and the value is the majority on all eight rows of bits.
+    pub fn is_majority(&self) -> bool
+        ensures { IsTrue result ↔ IsMajority self.now }
+    {
+        if self.width != 3 {
+            return false;
+        }
+        self.votes(false, false, false)
+            && self.votes(false, false, true)
+            && self.votes(false, true, false)
+            && self.votes(false, true, true)
+            && self.votes(true, false, false)
+            && self.votes(true, false, true)
+            && self.votes(true, true, false)
+            && self.votes(true, true, true)
+    }
+
+    /// The value on these three bits is their majority.
+    fn votes(&self, a: bool, b: bool, c: bool) -> bool
+        requires { self.now.width ≡ 3 }
+        ensures { IsTrue result ↔ (cover_value self.now (a ∷ b ∷ c ∷ []) ≡ majority_of a b c) }
+    {
+        self.value(&[a, b, c]) == majority(a, b, c)
+    }
+
+    /// The same width, polarity and rows in order.
+    #[tactic(auto, using(crate::proofs::CoverLaws::same_counts))]
+    pub fn same(&self, other: &Cover) -> bool
+        ensures { IsTrue result ↔ (self.now ≡ other.now) }
+    {
+        if self.width != other.width || self.is_on != other.is_on || self.count != other.count {
+            return false;
+        }
+        same_rows(self.width as usize, self.count, &self.marks, &other.marks)
+    }
+
+    /// The same cover once more.
+    pub fn copy(&self, alloc: Global) -> Result<Cover, OutOfMemory>
+        ensures { IfOk result (λ cover. cover ≡ self.now) }
+    {
+        let marks = self.marks.as_slice().to_vec(alloc)?;
+        Ok(Cover {
+            width: self.width,
+            is_on: self.is_on,
+            count: self.count,
+            marks,
+        })
+    }
+
+    /// The first reason to refuse the row.
+    #[tactic(auto, using(crate::proofs::RowLaws::length_cut))]
+    fn first_fault(&self, row: &[u8], output: u8) -> Option<RowFault>
+        ensures { result ≡ row_fault self.now row.now output }
+    {
+        if row.len() != self.width as usize {
+            return Some(RowFault::Width);
+        }
+        if !(are_legal_marks(row) && is_legal_output(output)) {
+            return Some(RowFault::BadChar);
+        }
+        if self.count != 0 && self.is_on != (output == b'1') {
+            return Some(RowFault::Mixed);
+        }
+        None
+    }
+
+    /// Adds a row of marks (`0`, `1` and `-`) with its output (`0` or `1`) behind the others.
+    ///
+    /// `Width`, `BadChar` and `Mixed` come exactly where their cause stands, the first of them in this
+    /// order. After a refusal the cover is unchanged.
+    pub fn push_row(&mut self, row: &[u8], output: u8) -> Result<(), RowFault>
+        requires { length self.old.rows < 4294967295 }
+        ensures ok { OnOk result (self.new ≡ with_row self.old row.now output) }
+        ensures fits { OnOk result (row_fault self.old row.now output ≡ None) }
+        ensures refused { IfErr result (λ fault. fault ≢ RowFault.Memory → row_fault self.old row.now output ≡ Some fault) }
+        ensures refused_only { (fault : RowFault) → row_fault self.old row.now output ≡ Some fault → result ≡ Err fault }
+        ensures err { OnErr result (self.new ≡ self.old) }
+    {
+        if let Some(fault) = self.first_fault(row, output) {
+            return Err(fault);
+        }
+        match self.marks.extend_from_slice(row) {
+            Ok(()) => {
+                self.count += 1;
+                self.is_on = output == b'1';
+                Ok(())
+            }
+            Err(_) => Err(RowFault::Memory),
+        }
+    }
+}
+
+#[cfg(test)]
+mod tests {
+    use super::*;
+    use std::test::Fail;
+
+    #[test]
+    fn rows_that_tell_where_the_value_is_0(rt: HostRuntime) -> Result<(), Fail> {
+        let mut cover = Cover::new(rt.alloc(), 2);
+        cover.push_row(b"00", b'0')?;
+        assert_eq!(rt; cover.value(&[false, false]), false);
+        assert_eq!(rt; cover.value(&[false, true]), true);
+        assert_eq!(rt; cover.value(&[true, false]), true);
+        assert_eq!(rt; cover.value(&[true, true]), true);
+        assert_eq!(rt; cover.is_on(), false);
+        Ok(())
+    }
+
+    #[test]
+    fn the_majority_of_three(rt: HostRuntime) -> Result<(), Fail> {
+        let mut cover = Cover::new(rt.alloc(), 3);
+        cover.push_row(b"11-", b'1')?;
+        cover.push_row(b"-11", b'1')?;
+        assert_eq!(rt; cover.is_majority(), false);
+        let fewer = cover.copy(rt.alloc())?;
+        cover.push_row(b"1-1", b'1')?;
+        assert!(rt; cover.is_majority());
+        assert!(rt; !cover.same(&fewer));
+        assert_eq!(rt; cover.row_count(), 3);
+        assert_eq!(rt; cover.row(2), b"1-1".as_slice());
+        assert!(rt; majority(true, false, true));
+        Ok(())
+    }
+
+    #[test]
+    fn rows_that_are_refused(rt: HostRuntime) -> Result<(), Fail> {
+        let mut cover = Cover::new(rt.alloc(), 1);
+        cover.push_row(b"1", b'1')?;
+        assert_eq!(rt; cover.push_row(b"1x", b'2'), Err(RowFault::Width));
+        assert_eq!(rt; cover.push_row(b"x", b'0'), Err(RowFault::BadChar));
+        assert_eq!(rt; cover.push_row(b"0", b'0'), Err(RowFault::Mixed));
+        assert_eq!(rt; cover.row_count(), 1);
+        Ok(())
+    }
+}
