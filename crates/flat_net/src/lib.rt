@@ -1,0 +1,11 @@
+//! Flat designs: inputs, tables and registers by number, with their names.
+//!
+//! The layers above may rely on this: a `FlatNet` is a record of lists (model, inputs, nodes, outputs,
+//! clock) that is valid, and beside it an order in which its nodes can be evaluated.
+#![tactic(auto)]
+
+mod kind;
+mod net;
+
+pub use kind::Kind;
+pub use net::FlatNet;
