@@ -1,0 +1,15 @@
+//! Certificates: what each node of a hardened design is for.
+//!
+//! The layers above may rely on this: a `Certificate` is a record of lists that is consistent (each
+//! number in range, h is copy c of x exactly where h has that role). The definitions of reading, of the
+//! eight rules, and of allowed and quiet schedules stand here, in specs/.
+#![tactic(auto)]
+
+mod certificate;
+mod draft;
+mod role;
+mod triples;
+
+pub use certificate::Certificate;
+pub use draft::CertDraft;
+pub use role::Role;
