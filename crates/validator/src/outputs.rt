@@ -1,0 +1,70 @@
+//! The rule of outputs.
+ghost use Rattle.std.specs.Prelude.{◌≡◌, ◌↔◌, ◌+◌, ◌<◌, length, IsTrue};
+ghost use Rattle.flat_net.specs.Net.{net_count};
+ghost use Rattle.tmr_base.specs.Copies.{copy_number};
+ghost use Rattle.certificate.specs.Cert.{Fits, copy_of};
+ghost use Rattle.certificate.specs.Rules.{Rule8};
+ghost use Rattle.validator.specs.FirstBad.{IsFirstBad};
+
+use certificate::Certificate;
+use flat_net::FlatNet;
+use tmr_base::{CopyNo, NetId};
+
+/// Output j of h is the copy that it should be.
+#[tactic(auto, using(crate::proofs::OutputLaws::rule_8_at))]
+fn output_holds(n: &FlatNet, h: &FlatNet, c: &Certificate, j: u32) -> bool
+    requires fits { Fits n.now.net h.now.net c.now }
+    requires j { j < length h.now.net.outputs }
+    ensures { IsTrue result ↔ Rule8 n.now.net h.now.net c.now j }
+{
+    let i = j / 3;
+    if i >= n.output_count() {
+        return false;
+    }
+    let x = n.output(i);
+    u64::from(h.output(j).0) == copy_net(n, c, x, copy_at(j % 3))
+}
+
+/// Copy d of original net x.
+#[tactic(auto, using(flat_net::proofs::Slots::slot_below))]
+fn copy_net(n: &FlatNet, c: &Certificate, x: NetId, d: CopyNo) -> u64
+    requires inputs { c.now.original_inputs ≡ length n.now.net.inputs }
+    requires nodes { length c.now.part ≡ length n.now.net.nodes }
+    requires x { x.0 < net_count n.now.net }
+    ensures { result ≡ copy_of c.now x.0 d }
+{
+    if x.0 < n.input_count() {
+        3 * u64::from(x.0) + u64::from(d.number())
+    } else {
+        u64::from(c.copy(x, d).0)
+    }
+}
+
+/// The copy with this number.
+fn copy_at(number: u32) -> CopyNo
+    requires { number < 3 }
+    ensures { copy_number result ≡ number }
+{
+    match number {
+        0 => CopyNo::First,
+        1 => CopyNo::Second,
+        _ => CopyNo::Third,
+    }
+}
+
+/// The first output position that is wrong.
+pub fn first_bad_output(n: &FlatNet, h: &FlatNet, c: &Certificate) -> Option<u32>
+    requires { Fits n.now.net h.now.net c.now }
+    ensures { IsFirstBad (λ j. Rule8 n.now.net h.now.net c.now j) result }
+{
+    let count = h.output_count();
+    for j in 0..count {
+        if !output_holds(n, h, c, j) {
+            return Some(j);
+        }
+    }
+    if u64::from(count) < 3 * u64::from(n.output_count()) {
+        return Some(count);
+    }
+    None
+}

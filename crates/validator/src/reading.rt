@@ -1,0 +1,79 @@
+//! What a hardened net stands for, and what it counts.
+ghost use Rattle.std.specs.Prelude.{◌≡◌, ◌↔◌, ◌+◌, ◌<◌, ◌≤◌, length, IsTrue};
+ghost use Rattle.flat_net.specs.Net.{net_count, node_of, pins_at};
+ghost use Rattle.certificate.specs.Cert.{Fits, count_of};
+ghost use Rattle.certificate.specs.Reads.{Reads};
+ghost use Rattle.certificate.specs.Rules.{PinsRead};
+
+use certificate::{Certificate, Role};
+use flat_net::FlatNet;
+use tmr_base::{CopyNo, NetId, PartId};
+
+/// Hardened net g reads x for partition p and copy d.
+#[tactic(auto, using(flat_net::proofs::Slots::slot_below))]
+pub fn reads(
+    n: &FlatNet,
+    h: &FlatNet,
+    c: &Certificate,
+    g: NetId,
+    x: NetId,
+    p: PartId,
+    d: CopyNo,
+) -> bool
+    requires fits { Fits n.now.net h.now.net c.now }
+    requires g { g.0 < net_count h.now.net }
+    requires x { x.0 < net_count n.now.net }
+    ensures { IsTrue result ↔ Reads c.now g.0 x.0 p.0 d }
+{
+    if g.0 < c.hardened_inputs() {
+        return x.0 < n.input_count()
+            && u64::from(g.0) == 3 * u64::from(x.0) + u64::from(d.number());
+    }
+    match c.role(g) {
+        Role::Copy { node, copy } => node == x && copy == d && c.part(node) == p,
+        Role::Voter { node, part, copy } => node == x && part == p && copy == d,
+    }
+}
+
+/// A copy's label, and 0 for an input or a voter.
+#[tactic(auto, using(flat_net::proofs::Slots::slot_below))]
+pub fn count(h: &FlatNet, c: &Certificate, g: NetId) -> u32
+    requires inputs { c.now.hardened_inputs ≡ length h.now.net.inputs }
+    requires nodes { length c.now.roles ≡ length h.now.net.nodes }
+    requires g { g.0 < net_count h.now.net }
+    ensures { result ≡ count_of c.now g.0 }
+{
+    if g.0 < c.hardened_inputs() {
+        return 0;
+    }
+    match c.role(g) {
+        Role::Copy { node, copy } => c.label(node, copy),
+        Role::Voter { .. } => 0,
+    }
+}
+
+/// Each pin of g reads the pin of x at its place.
+pub fn pins_read(
+    n: &FlatNet,
+    h: &FlatNet,
+    c: &Certificate,
+    g: NetId,
+    x: NetId,
+    p: PartId,
+    d: CopyNo,
+) -> bool
+    requires fits { Fits n.now.net h.now.net c.now }
+    requires g_low { length h.now.net.inputs ≤ g.0 }
+    requires g_high { g.0 < net_count h.now.net }
+    requires x_low { length n.now.net.inputs ≤ x.0 }
+    requires x_high { x.0 < net_count n.now.net }
+    requires long { length (pins_at (node_of h.now.net g.0)) ≡ length (pins_at (node_of n.now.net x.0)) }
+    ensures { IsTrue result ↔ PinsRead c.now (pins_at (node_of h.now.net g.0)) (pins_at (node_of n.now.net x.0)) p.0 d }
+{
+    for j in 0..n.pin_count(x) {
+        if !reads(n, h, c, h.pin(g, j), n.pin(x, j), p, d) {
+            return false;
+        }
+    }
+    true
+}
