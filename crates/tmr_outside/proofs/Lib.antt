@@ -1,0 +1,4 @@
+pub mod ContentsLemmas
+pub mod FailedCallLemmas
+pub mod PieceLemmas
+pub mod PlanLemmas

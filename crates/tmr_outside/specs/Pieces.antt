@@ -1,0 +1,16 @@
+-- What a taker took of a file. A taker is seen by the lists of bytes that it stands for, and by its room.
+use Rattle.std.specs.Prelude.{◌≡◌, ◌≤◌, ◌+◌, ◌++◌, ℕ, List, [], length, take, Option, IfSome, unwrap_or}
+use Rattle.std.specs.FinMap.{get}
+use Rattle.tmr_outside.specs.Contents.{Contents}
+
+-- These bytes were taken: behind each list that the taker stood for stand these bytes now, and the room is lower by their number.
+pub record Takes (stood stands : List ℕ → Type 0) (room left : ℕ) (bytes : List ℕ) : Type 0 where
+  pub appended : (given : List ℕ) → stood given → stands (given ++ bytes)
+  pub room_left : left + length bytes ≡ room
+
+-- At most `limit` bytes were taken. Where contents are told, they are the first bytes of the file, and none where there is no file.
+pub record TakesSome (stood stands : List ℕ → Type 0) (room left limit : ℕ) (contents : Option Contents) (name : List ℕ) : Type 0 where
+  pub taken : List ℕ
+  pub takes : Takes stood stands room left taken
+  pub within : length taken ≤ limit
+  pub first : IfSome contents (λ held. take (length taken) (unwrap_or (get held name) []) ≡ taken)

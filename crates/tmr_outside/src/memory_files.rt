@@ -1,0 +1,323 @@
+//! Files in memory.
+ghost use Rattle.std.specs.Prelude.{◌≡◌, ◌≢◌, ◌<◌, ◌≤◌, ◌⊎◌, List, ℕ, [], take, vec_len, IfOk, OnOk, OnErr, IsErrOf, IsSome, IfSome, IfNone, ◌∷◌, ◌++◌, length, Option, IsSomeAnd, Some, None, option_map};
+ghost use Rattle.std.specs.FinMap.{empty, get, insert};
+ghost use Rattle.tmr_outside.specs.Contents.{IsTooLong};
+ghost use Rattle.tmr_outside.specs.Counts.{NoneFell, NoneRose, OthersStay};
+ghost use Rattle.tmr_outside.specs.FailedCalls.{loads_of, saves_of};
+ghost use Rattle.tmr_outside.specs.Pieces.{Takes, TakesSome};
+ghost use Rattle.tmr_outside.specs.Plan.{prefix_left};
+ghost use Rattle.tmr_outside.specs.MemoryFiles.{failed_loads, failed_saves, called, noting, holding, failing_at};
+
+use crate::failed_calls::{CallKind, FailedCalls};
+use crate::pieces::{front, hand_out};
+use crate::plan::CallPlan;
+use crate::stored_files::StoredFiles;
+use crate::{Files, LoadFault, SaveFault, Taker};
+use std::alloc::{AllocError, Global};
+use std::marker::Model;
+
+/// Keeps what each name holds, notes each call that fails, and fails exactly at the calls that were named
+/// to it and at loads of a name that is not there. It is seen as what the names hold, the calls that
+/// failed and the plan of its calls.
+#[derive(Drop)]
+pub struct MemFiles {
+    alloc: Global,
+    stored: StoredFiles,
+    failed: FailedCalls,
+    plan: CallPlan,
+}
+
+impl Model for MemFiles {
+    ghost use Rattle.tmr_outside.specs.contracts.failed_calls.CallKind as kind;
+    ghost use Rattle.tmr_outside.specs.MemoryFiles.{FilesInMemory, files_code};
+
+    ghost Value = { FilesInMemory };
+
+    ghost coded = { files_code kind.the_row.coded };
+
+    ghost view = { λ files. record { held = files.stored; failed = files.failed; plan = files.plan } };
+}
+
+impl MemFiles {
+    /// No file is there, no call failed and none is to fail.
+    pub fn new(alloc: Global) -> MemFiles
+        ensures held { result.held ≡ empty }
+        ensures failed { result.failed ≡ [] }
+        ensures next_call { result.plan.next_call ≡ 0 }
+        ensures failing { result.plan.failing ≡ empty }
+    {
+        MemFiles {
+            alloc,
+            stored: StoredFiles::new(alloc),
+            failed: FailedCalls::new(alloc),
+            plan: CallPlan::new(alloc),
+        }
+    }
+
+    /// Has the call of this number, counted from 0, fail. A save then leaves the first `keep` bytes of what
+    /// it was to save, or all where there are no more; for a load `keep` counts for nothing. Naming a call
+    /// again replaces its `keep`. After want of memory nothing has changed.
+    pub fn fail_at(&mut self, call: u64, keep: u64) -> Result<(), AllocError>
+        ensures ok { OnOk result (self.new ≡ failing_at self.old call keep) }
+        ensures err { OnErr result (self.new ≡ self.old) }
+    {
+        self.plan.fail_at(call, keep)
+    }
+
+    /// Makes the name hold the bytes. It is no call that is numbered, and never fails by the list. After
+    /// want of memory nothing has changed.
+    pub fn hold(&mut self, name: &str, bytes: &[u8]) -> Result<(), AllocError>
+        ensures ok { OnOk result (self.new ≡ holding self.old name.now bytes.now) }
+        ensures err { OnErr result (self.new ≡ self.old) }
+    {
+        self.stored.insert(self.alloc, name, bytes)
+    }
+
+    /// What the name holds, or `None` where it is not there.
+    pub fn held(&self, name: &str) -> Option<&[u8]>
+        ensures { option_map (λ bytes. bytes.now) result ≡ get self.now.held name.now }
+    {
+        self.stored.get(name)
+    }
+}
+
+/// The file of a load that is not to fail, if it is there.
+fn loadable<'a>(stored: &'a StoredFiles, name: &str, keep: Option<u64>) -> Option<&'a [u8]>
+    ensures file { IfSome result (λ bytes. get stored.now name.now ≡ Some bytes.now) }
+    ensures some { IsSome result → keep ≡ None }
+    ensures none { IfNone result (IsSome keep ⊎ (get stored.now name.now ≡ None)) }
+{
+    match keep {
+        None => stored.get(name),
+        Some(_) => None,
+    }
+}
+
+/// A copy of the bytes, if there are at most `limit`.
+fn copy_within(alloc: Global, bytes: &[u8], limit: u64) -> Result<Vec<u8>, LoadFault>
+    ensures ok { IfOk result (λ copy. copy.items ≡ bytes.now) }
+    ensures within { OnOk result (length bytes.now ≤ limit) }
+    ensures too_long { IsErrOf result LoadFault.TooLong → limit < length bytes.now }
+    ensures kinds { result ≢ Err LoadFault.Failed }
+{
+    if bytes.len() as u64 > limit {
+        return Err(LoadFault::TooLong);
+    }
+    match bytes.to_vec(alloc) {
+        Ok(copy) => Ok(copy),
+        Err(_) => Err(LoadFault::Memory),
+    }
+}
+
+/// Hands out the bytes in pieces, if there are at most `limit`.
+fn give<T: Taker>(bytes: &[u8], limit: u64, to: &mut T) -> Result<(), LoadFault>
+    requires { limit ≤ T.room to.old }
+    ensures ok { OnOk result (Takes (T.stands to.old) (T.stands to.new) (T.room to.old) (T.room to.new) bytes.now) }
+    ensures within { OnOk result (length bytes.now ≤ limit) }
+    ensures too_long { IsErrOf result LoadFault.TooLong → limit < length bytes.now }
+    ensures unchanged { OnErr result (to.new ≡ to.old) }
+    ensures kinds { (result ≢ Err LoadFault.Failed) × (result ≢ Err LoadFault.Memory) }
+{
+    if bytes.len() as u64 > limit {
+        return Err(LoadFault::TooLong);
+    }
+    hand_out(bytes, to);
+    Ok(())
+}
+
+/// Stores the bytes under the name, if there is room.
+fn store(alloc: Global, stored: &mut StoredFiles, name: &str, bytes: &[u8]) -> Result<(), SaveFault>
+    ensures ok { OnOk result (stored.new ≡ insert stored.old name.now bytes.now) }
+    ensures err { OnErr result (stored.new ≡ stored.old) }
+    ensures kinds { result ≢ Err SaveFault.Failed }
+{
+    match stored.insert(alloc, name, bytes) {
+        Ok(()) => Ok(()),
+        Err(_) => Err(SaveFault::Memory),
+    }
+}
+
+/// Notes that a load of this name failed, if there is room.
+fn fail_load(alloc: Global, failed: &mut FailedCalls, name: &str) -> LoadFault
+    ensures failed { result ≡ LoadFault.Failed → failed.new ≡ failed.old ++ (CallKind.Load, name.now) ∷ [] }
+    ensures memory { result ≡ LoadFault.Memory → failed.new ≡ failed.old }
+    ensures others { OthersStay name.now (loads_of failed.old) (loads_of failed.new) }
+    ensures kinds { result ≢ LoadFault.TooLong }
+{
+    match failed.note(alloc, CallKind::Load, name) {
+        Ok(()) => LoadFault::Failed,
+        Err(_) => LoadFault::Memory,
+    }
+}
+
+/// Leaves these bytes of a save that is to fail and notes that it failed, if there is room.
+fn fail_save(
+    alloc: Global,
+    stored: &mut StoredFiles,
+    failed: &mut FailedCalls,
+    name: &str,
+    kept: &[u8],
+) -> SaveFault
+    ensures noted { result ≡ SaveFault.Failed → failed.new ≡ failed.old ++ (CallKind.Save, name.now) ∷ [] }
+    ensures left { result ≡ SaveFault.Failed → stored.new ≡ insert stored.old name.now kept.now }
+    ensures memory { result ≡ SaveFault.Memory → failed.new ≡ failed.old }
+    ensures others { OthersStay name.now (saves_of failed.old) (saves_of failed.new) }
+    ensures memory_left { result ≡ SaveFault.Memory → stored.new ≡ stored.old }
+{
+    match failed.note(alloc, CallKind::Save, name) {
+        Ok(()) => {}
+        Err(_) => return SaveFault::Memory,
+    }
+    match stored.insert(alloc, name, kept) {
+        Ok(()) => SaveFault::Failed,
+        Err(_) => {
+            failed.forget_last();
+            SaveFault::Memory
+        }
+    }
+}
+
+impl Files for MemFiles {
+    ghost use Rattle.std.specs.Prelude.{Some, ◌≡◌, refl};
+    ghost use Rattle.std.specs.FinMap.{empty};
+    ghost use Rattle.tmr_outside.specs.MemoryFiles.{failed_loads, failed_saves};
+
+    ghost contents = { λ files. Some files.held };
+
+    ghost load_count = { failed_loads };
+
+    ghost save_count = { failed_saves };
+
+    ghost steady = { λ files. files.plan.failing ≡ empty };
+
+    ghost steady_tells = { λ files steady. refl };
+
+    #[tactic(auto, using(crate::proofs::FailedCallLemmas::call_rules))]
+    fn load(&mut self, alloc: Global, name: &str, limit: u64) -> Result<Vec<u8>, LoadFault>
+        ensures limit { IfOk result (λ bytes. vec_len bytes ≤ limit) }
+        ensures bytes { IfOk result (λ bytes. get self.old.held name.now ≡ Some bytes.items) }
+        ensures stays { self.new.held ≡ self.old.held }
+        ensures too_long { IsErrOf result LoadFault.TooLong → IsTooLong self.old.held name.now limit }
+        ensures too_long_only { OnOk result (¬ (IsTooLong self.old.held name.now limit)) }
+        ensures failed { IsErrOf result LoadFault.Failed
+            → failed_loads self.old name.now < failed_loads self.new name.now }
+        ensures missing { get self.old.held name.now ≡ None
+            → (IsErrOf result LoadFault.Failed) ⊎ (IsErrOf result LoadFault.Memory) }
+        ensures loads { NoneFell (failed_loads self.old) (failed_loads self.new) }
+        ensures other_loads { OthersStay name.now (failed_loads self.old) (failed_loads self.new) }
+        ensures no_saves { NoneRose (failed_saves self.old) (failed_saves self.new) }
+        ensures answered { result ≢ Err LoadFault.Failed
+            → failed_loads self.new name.now ≡ failed_loads self.old name.now }
+        ensures steady { self.old.plan.failing ≡ empty → self.new.plan.failing ≡ empty }
+        ensures steady_failed { self.old.plan.failing ≡ empty → IsErrOf result LoadFault.Failed
+            → get self.old.held name.now ≡ None }
+        ensures steady_counts { self.old.plan.failing ≡ empty → IsSome (get self.old.held name.now)
+            → NoneRose (failed_loads self.old) (failed_loads self.new) }
+
+        // Of a load that did not want memory: it fails exactly where its number is on the list or the
+        // name is not there.
+        ensures listed { IsErrOf result LoadFault.Failed
+            → IsSome (prefix_left self.old.plan) ⊎ (get self.old.held name.now ≡ None) }
+        ensures listed_only { (result ≢ Err LoadFault.Failed) → (result ≢ Err LoadFault.Memory)
+            → (prefix_left self.old.plan ≡ None) × IsSome (get self.old.held name.now) }
+
+        // What the object is after each answer.
+        ensures after_failed { IsErrOf result LoadFault.Failed
+            → self.new ≡ noting (called self.old) CallKind.Load name.now }
+        ensures after { result ≢ Err LoadFault.Failed → self.new ≡ called self.old }
+    {
+        let keep = self.plan.begin();
+        match loadable(&self.stored, name, keep) {
+            Some(bytes) => copy_within(alloc, bytes, limit),
+            None => Err(fail_load(self.alloc, &mut self.failed, name)),
+        }
+    }
+
+    #[tactic(auto, using(crate::proofs::FailedCallLemmas::call_rules))]
+    fn load_pieces<T: Taker>(
+        &mut self,
+        _alloc: Global,
+        name: &str,
+        limit: u64,
+        to: &mut T,
+    ) -> Result<(), LoadFault>
+        requires { limit ≤ T.room to.old }
+        ensures bytes { OnOk result (IsSomeAnd (get self.old.held name.now)
+            (Takes (T.stands to.old) (T.stands to.new) (T.room to.old) (T.room to.new))) }
+        ensures taken { TakesSome (T.stands to.old) (T.stands to.new) (T.room to.old) (T.room to.new) limit
+            (Some self.old.held) name.now }
+        ensures stays { self.new.held ≡ self.old.held }
+        ensures too_long { IsErrOf result LoadFault.TooLong → IsTooLong self.old.held name.now limit }
+        ensures too_long_only { OnOk result (¬ (IsTooLong self.old.held name.now limit)) }
+        ensures failed { IsErrOf result LoadFault.Failed
+            → failed_loads self.old name.now < failed_loads self.new name.now }
+        ensures missing { get self.old.held name.now ≡ None
+            → (IsErrOf result LoadFault.Failed) ⊎ (IsErrOf result LoadFault.Memory) }
+        ensures loads { NoneFell (failed_loads self.old) (failed_loads self.new) }
+        ensures other_loads { OthersStay name.now (failed_loads self.old) (failed_loads self.new) }
+        ensures no_saves { NoneRose (failed_saves self.old) (failed_saves self.new) }
+        ensures answered { result ≢ Err LoadFault.Failed
+            → failed_loads self.new name.now ≡ failed_loads self.old name.now }
+        ensures steady { self.old.plan.failing ≡ empty → self.new.plan.failing ≡ empty }
+        ensures steady_failed { self.old.plan.failing ≡ empty → IsErrOf result LoadFault.Failed
+            → get self.old.held name.now ≡ None }
+        ensures steady_counts { self.old.plan.failing ≡ empty → IsSome (get self.old.held name.now)
+            → NoneRose (failed_loads self.old) (failed_loads self.new) }
+
+        // Of a load that did not want memory: it fails exactly where its number is on the list or the
+        // name is not there.
+        ensures listed { IsErrOf result LoadFault.Failed
+            → IsSome (prefix_left self.old.plan) ⊎ (get self.old.held name.now ≡ None) }
+        ensures listed_only { (result ≢ Err LoadFault.Failed) → (result ≢ Err LoadFault.Memory)
+            → (prefix_left self.old.plan ≡ None) × IsSome (get self.old.held name.now) }
+
+        // What the object is after each answer.
+        ensures after_failed { IsErrOf result LoadFault.Failed
+            → self.new ≡ noting (called self.old) CallKind.Load name.now }
+        ensures after { result ≢ Err LoadFault.Failed → self.new ≡ called self.old }
+    {
+        let keep = self.plan.begin();
+        match loadable(&self.stored, name, keep) {
+            Some(bytes) => give(bytes, limit, to),
+            None => Err(fail_load(self.alloc, &mut self.failed, name)),
+        }
+    }
+
+    #[tactic(auto, using(crate::proofs::FailedCallLemmas::call_rules, crate::proofs::ContentsLemmas::contents_rules))]
+    fn save(&mut self, name: &str, bytes: &[u8]) -> Result<(), SaveFault>
+        ensures ok { OnOk result (self.new.held ≡ insert self.old.held name.now bytes.now) }
+        ensures memory { IsErrOf result SaveFault.Memory → self.new.held ≡ self.old.held }
+        ensures others { (other : List ℕ) → other ≢ name.now → get self.new.held other ≡ get self.old.held other }
+        ensures failed { IsErrOf result SaveFault.Failed
+            → failed_saves self.old name.now < failed_saves self.new name.now }
+        ensures saves { NoneFell (failed_saves self.old) (failed_saves self.new) }
+        ensures no_loads { NoneRose (failed_loads self.old) (failed_loads self.new) }
+        ensures other_saves { OthersStay name.now (failed_saves self.old) (failed_saves self.new) }
+        ensures answered { result ≢ Err SaveFault.Failed
+            → failed_saves self.new name.now ≡ failed_saves self.old name.now }
+        ensures steady { self.old.plan.failing ≡ empty → self.new.plan.failing ≡ empty }
+        ensures steady_ok { self.old.plan.failing ≡ empty → (result ≢ Err SaveFault.Failed)
+            × NoneRose (failed_saves self.old) (failed_saves self.new) × NoneRose (failed_loads self.old) (failed_loads self.new) }
+
+        // Of a save that did not want memory: it fails exactly where its number is on the list.
+        ensures listed { IsErrOf result SaveFault.Failed → IsSome (prefix_left self.old.plan) }
+        ensures listed_only { OnOk result (prefix_left self.old.plan ≡ None) }
+
+        // What the object is after each answer.
+        ensures after_ok { OnOk result (self.new ≡ holding (called self.old) name.now bytes.now) }
+        ensures after_failed { IsErrOf result SaveFault.Failed → IfSome (prefix_left self.old.plan) (λ keep.
+            self.new ≡ noting (holding (called self.old) name.now (take keep bytes.now)) CallKind.Save name.now) }
+        ensures after_memory { IsErrOf result SaveFault.Memory → self.new ≡ called self.old }
+    {
+        match self.plan.begin() {
+            None => store(self.alloc, &mut self.stored, name, bytes),
+            Some(keep) => Err(fail_save(
+                self.alloc,
+                &mut self.stored,
+                &mut self.failed,
+                name,
+                front(bytes, keep),
+            )),
+        }
+    }
+}
