@@ -1,0 +1,11 @@
+pub mod Pieces
+pub mod Steps
+pub mod Pass
+pub mod Rows
+pub mod Tables
+pub mod Refusals
+pub mod Inner
+pub mod Taken
+pub mod Examples
+pub mod Sound
+pub mod Told

@@ -1,0 +1,26 @@
+//! Reads a text of the Berkeley Logic Interchange Format: bytes, which may come in pieces, as the
+//! library of models that they spell, or as the first bad line with what is wrong there.
+//!
+//! Whether models fit together is decided above. The layers above may rely on `reading` of
+//! `specs/Reading.antt`: what a text gives is a definition over its bytes, and the reader answers it
+//! however the bytes are cut.
+#![tactic(auto)]
+
+mod fault;
+mod instance;
+mod latch;
+mod library;
+mod line;
+mod lines;
+mod model;
+mod name_lists;
+mod progress;
+mod reader;
+mod row;
+mod table;
+mod text;
+mod word;
+
+pub use fault::{TextFault, TextKind};
+pub use library::{BlifModel, Element, Init, Library};
+pub use reader::{Reader, read_library};

@@ -1,0 +1,268 @@
+//! The open model: what its statements have given so far.
+ghost use Rattle.std.specs.Prelude.{◌≡◌, ◌++◌, ◌∷◌, [], map, OnOk, IfOk, Some, None, true, List, ℕ, option_map};
+ghost use Rattle.blif_text.specs.Answers.{Answers, plain};
+ghost use Rattle.blif_text.specs.Kind.{kind_here, ports_kind, table_kind, row_kind, latch_kind, instance_kind};
+ghost use Rattle.blif_text.specs.Progress.{fresh, here_in, more_of, with_table, ended_model, all_elements, shape_of, with_row, with_elements};
+ghost use Rattle.blif_text.specs.Models.{appearing, register, instance};
+ghost use Rattle.blif_text.specs.Text.{statement_by};
+ghost use Rattle.blif_text.specs.Word.{is_inner};
+ghost use Rattle.blif_text.specs.Views.{plain_element, plain_model};
+
+use crate::fault::{Refusal, TextKind};
+use crate::instance::read_instance;
+use crate::latch::read_latch;
+use crate::library::{BlifModel, Element};
+use crate::name_lists::{list_inputs, list_names};
+use crate::table::OpenTable;
+use crate::word::Word;
+use indexmap::IndexSet;
+use std::alloc::{AllocError, Global};
+use std::marker::Model;
+use tmr_base::Name;
+
+#[derive(Drop)]
+pub(crate) struct OpenModel {
+    name: Name,
+    inputs: IndexSet<Name>,
+    clocks: IndexSet<Name>,
+    ports: IndexSet<Name>,
+    outputs: IndexSet<Name>,
+    elements: Vec<Element>,
+    table: Option<OpenTable>,
+}
+
+impl Model for OpenModel {
+    ghost use Rattle.std.specs.Prelude.{map};
+    ghost use Rattle.blif_text.specs.Progress.{OpenModel};
+    ghost use Rattle.blif_text.specs.Word.{is_inner};
+    ghost use Rattle.blif_text.specs.Views.{plain_element};
+
+    ghost Value = { OpenModel };
+
+    ghost view = { λ m. record {
+      name = m.name;
+      inputs = m.inputs.keys;
+      clocks = m.clocks.keys;
+      ports = m.ports.keys;
+      outputs = m.outputs.keys;
+      elements = map plain_element m.elements.items;
+      table = m.table;
+    } };
+}
+
+/// Ends the table, if there is one.
+fn end_table(elements: &mut Vec<Element>, table: Option<OpenTable>) -> Result<(), AllocError>
+    ensures { OnOk result (map plain_element elements.new.items ≡ with_table (map plain_element elements.old.items) table) }
+{
+    match table {
+        Some(table) => Ok(elements.push(table.ended())?),
+        None => Ok(()),
+    }
+}
+
+impl OpenModel {
+    pub fn new(alloc: Global, name: Name) -> OpenModel
+        ensures { result ≡ fresh name }
+    {
+        OpenModel {
+            name,
+            inputs: IndexSet::new(alloc),
+            clocks: IndexSet::new(alloc),
+            ports: IndexSet::new(alloc),
+            outputs: IndexSet::new(alloc),
+            elements: Vec::new(alloc),
+            table: None,
+        }
+    }
+
+    /// Ends the table whose rows are being read, if there is one.
+    fn end_rows(&mut self) -> Result<(), AllocError>
+        ensures { OnOk result (self.new ≡ record {
+          name = self.old.name;
+          inputs = self.old.inputs;
+          clocks = self.old.clocks;
+          ports = self.old.ports;
+          outputs = self.old.outputs;
+          elements = all_elements self.old;
+          table = None;
+        }) }
+    {
+        let table = self.table.take();
+        end_table(&mut self.elements, table)
+    }
+
+    /// Takes the tokens after `.inputs`.
+    fn take_inputs(&mut self, alloc: Global, tokens: &[&[u8]]) -> Result<(), Refusal>
+        ensures { Answers result (ports_kind self.old.inputs (plain tokens.now)) (λ _. self.new ≡ record {
+          name = self.old.name;
+          inputs = self.old.inputs ++ plain tokens.now;
+          clocks = self.old.clocks;
+          ports = appearing self.old.ports (plain tokens.now);
+          outputs = self.old.outputs;
+          elements = all_elements self.old;
+          table = None;
+        }) }
+    {
+        match list_inputs(alloc, &mut self.inputs, &mut self.ports, tokens) {
+            Ok(()) => Ok(self.end_rows()?),
+            Err(refusal) => Err(refusal),
+        }
+    }
+
+    /// Takes the tokens after `.clock`.
+    fn take_clocks(&mut self, alloc: Global, tokens: &[&[u8]]) -> Result<(), Refusal>
+        ensures { Answers result (ports_kind self.old.clocks (plain tokens.now)) (λ _. self.new ≡ record {
+          name = self.old.name;
+          inputs = self.old.inputs;
+          clocks = self.old.clocks ++ plain tokens.now;
+          ports = appearing self.old.ports (plain tokens.now);
+          outputs = self.old.outputs;
+          elements = all_elements self.old;
+          table = None;
+        }) }
+    {
+        match list_inputs(alloc, &mut self.clocks, &mut self.ports, tokens) {
+            Ok(()) => Ok(self.end_rows()?),
+            Err(refusal) => Err(refusal),
+        }
+    }
+
+    /// Takes the tokens after `.outputs`.
+    fn take_outputs(&mut self, alloc: Global, tokens: &[&[u8]]) -> Result<(), Refusal>
+        ensures { Answers result (ports_kind self.old.outputs (plain tokens.now)) (λ _. self.new ≡ record {
+          name = self.old.name;
+          inputs = self.old.inputs;
+          clocks = self.old.clocks;
+          ports = self.old.ports;
+          outputs = self.old.outputs ++ plain tokens.now;
+          elements = all_elements self.old;
+          table = None;
+        }) }
+    {
+        match list_names(alloc, &mut self.outputs, tokens) {
+            Ok(()) => Ok(self.end_rows()?),
+            Err(refusal) => Err(refusal),
+        }
+    }
+
+    /// Takes the tokens after `.names`.
+    fn take_table(&mut self, alloc: Global, tokens: &[&[u8]]) -> Result<(), Refusal>
+        ensures { Answers result (table_kind (plain tokens.now)) (λ _. self.new ≡ record {
+          name = self.old.name;
+          inputs = self.old.inputs;
+          clocks = self.old.clocks;
+          ports = self.old.ports;
+          outputs = self.old.outputs;
+          elements = all_elements self.old;
+          table = Some (record { tokens = plain tokens.now; rows = [] });
+        }) }
+    {
+        match OpenTable::read(alloc, tokens) {
+            Ok(table) => {
+                self.end_rows()?;
+                self.table = Some(table);
+                Ok(())
+            }
+            Err(refusal) => Err(refusal),
+        }
+    }
+
+    /// Takes a row.
+    #[tactic(auto, unfolding(crate::specs::Kind::row_kind))]
+    fn take_row(&mut self, first: &[u8], arguments: &[&[u8]]) -> Result<(), Refusal>
+        ensures { Answers result (row_kind (option_map shape_of self.old.table) (first.now ∷ plain arguments.now)) (λ _. self.new ≡ record {
+          name = self.old.name;
+          inputs = self.old.inputs;
+          clocks = self.old.clocks;
+          ports = self.old.ports;
+          outputs = self.old.outputs;
+          elements = self.old.elements;
+          table = option_map (with_row (first.now ∷ plain arguments.now)) self.old.table;
+        }) }
+    {
+        match self.table.take() {
+            Some(mut table) => match table.push_row(first, arguments) {
+                Ok(()) => {
+                    self.table = Some(table);
+                    Ok(())
+                }
+                Err(refusal) => Err(refusal),
+            },
+            None => Err(Refusal::Bad(TextKind::RowOutside)),
+        }
+    }
+
+    /// Takes one element, as `register` or `instance` has it of the tokens.
+    fn put(&mut self, element: Element) -> Result<(), AllocError>
+        ensures { OnOk result (self.new ≡ with_elements self.old (plain_element element ∷ []) None) }
+    {
+        self.end_rows()?;
+        Ok(self.elements.push(element)?)
+    }
+
+    /// Takes the tokens after `.latch`.
+    fn take_latch(&mut self, alloc: Global, tokens: &[&[u8]]) -> Result<(), Refusal>
+        ensures { Answers result (latch_kind (plain tokens.now)) (λ _. self.new ≡ with_elements self.old (register (plain tokens.now)) None) }
+    {
+        match read_latch(alloc, tokens) {
+            Ok(latch) => Ok(self.put(latch)?),
+            Err(refusal) => Err(refusal),
+        }
+    }
+
+    /// Takes the tokens after `.subckt`.
+    fn take_instance(&mut self, alloc: Global, tokens: &[&[u8]]) -> Result<(), Refusal>
+        ensures { Answers result (instance_kind (plain tokens.now)) (λ _. self.new ≡ with_elements self.old (instance (plain tokens.now)) None) }
+    {
+        match read_instance(alloc, tokens) {
+            Ok(instance) => Ok(self.put(instance)?),
+            Err(refusal) => Err(refusal),
+        }
+    }
+
+    /// Takes a statement in the model.
+    pub fn take(
+        &mut self,
+        alloc: Global,
+        word: Word,
+        first: &[u8],
+        arguments: &[&[u8]],
+    ) -> Result<(), Refusal>
+        requires { is_inner word ≡ true }
+        ensures { (line : ℕ) (models : List (List ℕ)) → Answers result (kind_here word models (here_in self.old) (statement_by line word first.now (plain arguments.now)))
+            (λ _. self.new ≡ more_of word (statement_by line word first.now (plain arguments.now)) self.old) }
+    {
+        match word {
+            Word::Inputs => self.take_inputs(alloc, arguments),
+            Word::Clock => self.take_clocks(alloc, arguments),
+            Word::Outputs => self.take_outputs(alloc, arguments),
+            Word::Names => self.take_table(alloc, arguments),
+            Word::Latch => self.take_latch(alloc, arguments),
+            Word::Subckt => self.take_instance(alloc, arguments),
+            Word::Row => self.take_row(first, arguments),
+            Word::Unknown | Word::Model | Word::End => Err(Refusal::Bad(TextKind::Unsupported)),
+        }
+    }
+
+    /// The model, where no more statements come.
+    pub fn ended(mut self, alloc: Global) -> Result<BlifModel, AllocError>
+        ensures { IfOk result (λ m. plain_model m ≡ ended_model self) }
+    {
+        self.end_rows()?;
+        let inputs = in_order(alloc, self.ports)?;
+        let outputs = in_order(alloc, self.outputs)?;
+        Ok(BlifModel {
+            name: self.name,
+            inputs,
+            outputs,
+            elements: self.elements,
+        })
+    }
+}
+
+/// The names of a set in their order.
+fn in_order(alloc: Global, names: IndexSet<Name>) -> Result<Vec<Name>, AllocError>
+    ensures { IfOk result (λ v. v.items ≡ names.keys) }
+{
+    names.into_iter().collect(alloc)
+}

@@ -1,0 +1,85 @@
+//! A table whose rows are being read.
+ghost use Rattle.std.specs.Prelude.{◌≡◌, ◌∷◌, ◌++◌, [], true, None, length};
+ghost use Rattle.blif_text.specs.Answers.{Answers, plain};
+ghost use Rattle.blif_text.specs.Kind.{table_kind, row_kind};
+ghost use Rattle.blif_text.specs.Models.{table};
+ghost use Rattle.blif_text.specs.Progress.{shape_of, with_row};
+ghost use Rattle.blif_text.specs.Views.{plain_element};
+
+use crate::fault::{Refusal, TextKind};
+use crate::library::Element;
+use crate::name_lists::read_names;
+use crate::row::put_row;
+use std::alloc::Global;
+use std::marker::Model;
+use table_cover::Cover;
+use tmr_base::Name;
+
+#[derive(Drop)]
+pub(crate) struct OpenTable {
+    pins: Vec<Name>,
+    out: Name,
+    cover: Cover,
+}
+
+impl Model for OpenTable {
+    ghost use Rattle.std.specs.Prelude.{◌≡◌, true, length};
+    ghost use Rattle.blif_text.specs.Progress.{OpenTable};
+    ghost use Rattle.blif_text.specs.Views.{table_view};
+
+    ghost Value = { OpenTable };
+
+    ghost view = { λ t. table_view t.pins.items t.out t.cover };
+
+    ghost invariant = { λ t. t.cover.width ≡ length t.pins.items };
+}
+
+/// A cover without rows of that many pins.
+fn cover_of(alloc: Global, pins: usize) -> Result<Cover, Refusal>
+    ensures { Answers result None (λ cover. cover ≡ record { width = pins; is_on = true; rows = [] }) }
+{
+    match u32::try_from(pins) {
+        Ok(width) => Ok(Cover::new(alloc, width)),
+        Err(_) => Err(Refusal::Memory),
+    }
+}
+
+impl OpenTable {
+    /// The table of the tokens after `.names`, with no rows.
+    #[tactic(auto, unfolding(crate::specs::Kind::table_kind))]
+    pub fn read(alloc: Global, tokens: &[&[u8]]) -> Result<OpenTable, Refusal>
+        ensures { Answers result (table_kind (plain tokens.now)) (λ t. t ≡ record { tokens = plain tokens.now; rows = [] }) }
+    {
+        if tokens.is_empty() {
+            return Err(Refusal::Bad(TextKind::Arguments));
+        }
+        let mut pins = read_names(alloc, tokens)?;
+        match pins.pop() {
+            Some(out) => {
+                let cover = cover_of(alloc, pins.len())?;
+                Ok(OpenTable { pins, out, cover })
+            }
+            None => Err(Refusal::Bad(TextKind::Arguments)),
+        }
+    }
+
+    /// Takes a row.
+    pub fn push_row(&mut self, first: &[u8], arguments: &[&[u8]]) -> Result<(), Refusal>
+        ensures { Answers result (row_kind (Some (shape_of self.old)) (first.now ∷ plain arguments.now)) (λ _. self.new ≡ with_row (first.now ∷ plain arguments.now) self.old) }
+    {
+        let width = self.pins.len();
+        put_row(&mut self.cover, width, first, arguments)
+    }
+
+    /// The table, where no more rows come.
+    pub fn ended(self) -> Element
+        ensures { plain_element result ≡ table self.tokens self.rows }
+    {
+        let _width = self.cover.width();
+        Element::Table {
+            pins: self.pins,
+            out: self.out,
+            cover: self.cover,
+        }
+    }
+}

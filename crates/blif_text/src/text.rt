@@ -1,0 +1,173 @@
+//! Takes the bytes of a text, its lines and their statements.
+ghost use Rattle.std.specs.Prelude.{◌≡◌, ◌≤◌, ◌<◌, ◌+◌, ◌-◌, ◌^◌, ◌++◌, ◌∷◌, [], List, ℕ, Ok, length, map, OnOk, IfErr, IfSome, Some, None};
+ghost use Rattle.blif_text.specs.Stands.{Stands, Takes, Refuses, IsBadOf, Reads, reading_in};
+ghost use Rattle.blif_text.specs.Reading.{reading};
+ghost use Rattle.blif_text.specs.Sound.{IsSound};
+ghost use Rattle.blif_text.specs.Reader.{HasRead};
+ghost use Rattle.blif_text.specs.Text.{spoken, tokens, joins_next, part};
+
+use crate::fault::{Refusal, TextFault, TextKind};
+use crate::library::Library;
+use crate::line::tokens;
+use crate::lines::Lines;
+use crate::progress::Progress;
+use std::alloc::Global;
+
+/// Takes the statement of a joined line, if it has tokens.
+#[tactic(auto, unfolding(crate::specs::Text::spoken))]
+fn take_text(alloc: Global, progress: &mut Progress, text: &[u8]) -> Result<(), Refusal>
+    ensures { (line : ℕ) → Takes (spoken line (tokens text.now)) progress.old progress.new result }
+{
+    let tokens = tokens(alloc, text)?;
+    match tokens.as_slice() {
+        [] => Ok(()),
+        [first, arguments @ ..] => progress.take(alloc, first, arguments),
+    }
+}
+
+/// Takes the statement of the joined line in hand, and begins the next.
+fn take_joined(alloc: Global, lines: &mut Lines, progress: &mut Progress) -> Result<(), TextFault>
+    ensures begun { OnOk result (lines.new ≡ record { first = lines.old.number; text = []; number = lines.old.number; line = lines.old.line }) }
+    ensures taken { OnOk result (Takes (spoken lines.old.first (tokens lines.old.text)) progress.old progress.new (Ok tt)) }
+    ensures refused { IfErr result (λ fault. Refuses lines.old.first (λ r. Takes (spoken lines.old.first (tokens lines.old.text)) progress.old progress.new r) fault) }
+    ensures sound { OnOk result (IsSound progress.old → IsSound progress.new) }
+    ensures number { lines.new.number ≡ lines.old.number }
+{
+    let line = lines.first();
+    match take_text(alloc, progress, lines.text()) {
+        Ok(()) => {
+            lines.begin();
+            Ok(())
+        }
+        Err(Refusal::Bad(kind)) => Err(TextFault::Bad { line, kind }),
+        Err(Refusal::Memory) => Err(TextFault::Memory),
+    }
+}
+
+/// Ends the line in hand, and takes the statement that ends with it.
+fn end_line(alloc: Global, lines: &mut Lines, progress: &mut Progress) -> Result<(), TextFault>
+    requires { lines.old.number < 2 ^ 32 - 1 }
+    ensures ok { OnOk result ((given : List ℕ) → Stands lines.old progress.old given → Stands lines.new progress.new (given ++ 10 ∷ [])) }
+    ensures bad { IfErr result (λ fault. (given : List ℕ) → Stands lines.old progress.old given → IsBadOf (given ++ 10 ∷ []) fault) }
+    ensures sound { OnOk result (IsSound progress.old → IsSound progress.new) }
+    ensures number { lines.new.number ≤ lines.old.number + 1 }
+{
+    match lines.end_line() {
+        Ok(true) => match take_joined(alloc, lines, progress) {
+            Ok(()) => Ok(()),
+            Err(fault) => Err(fault),
+        },
+        Ok(false) => Ok(()),
+        Err(_) => Err(TextFault::Memory),
+    }
+}
+
+/// Takes one byte.
+fn take_byte(
+    alloc: Global,
+    lines: &mut Lines,
+    progress: &mut Progress,
+    b: u8,
+) -> Result<(), TextFault>
+    requires { lines.old.number < 2 ^ 32 - 1 }
+    ensures ok { OnOk result ((given : List ℕ) → Stands lines.old progress.old given → Stands lines.new progress.new (given ++ b ∷ [])) }
+    ensures bad { IfErr result (λ fault. (given : List ℕ) → Stands lines.old progress.old given → IsBadOf (given ++ b ∷ []) fault) }
+    ensures sound { OnOk result (IsSound progress.old → IsSound progress.new) }
+    ensures number { lines.new.number ≤ lines.old.number + 1 }
+{
+    if b == b'\n' {
+        match end_line(alloc, lines, progress) {
+            Ok(()) => Ok(()),
+            Err(fault) => Err(fault),
+        }
+    } else {
+        match lines.push(b) {
+            Ok(()) => Ok(()),
+            Err(_) => Err(TextFault::Memory),
+        }
+    }
+}
+
+/// Takes a piece.
+fn take_bytes(
+    alloc: Global,
+    lines: &mut Lines,
+    progress: &mut Progress,
+    piece: &[u8],
+) -> Result<(), TextFault>
+    requires { lines.old.number + length piece.now < 2 ^ 32 - 1 }
+    ensures ok { OnOk result ((given : List ℕ) → Stands lines.old progress.old given → Stands lines.new progress.new (given ++ piece.now)) }
+    ensures bad { IfErr result (λ fault. (given : List ℕ) → Stands lines.old progress.old given → IsBadOf (given ++ piece.now) fault) }
+    ensures sound { OnOk result (IsSound progress.old → IsSound progress.new) }
+    ensures number { lines.new.number ≤ lines.old.number + length piece.now }
+{
+    for b in piece {
+        match take_byte(alloc, lines, progress, *b) {
+            Ok(()) => {}
+            Err(fault) => return Err(fault),
+        }
+    }
+    Ok(())
+}
+
+/// The library, where no more statements come.
+fn ended(alloc: Global, progress: Progress) -> Result<Library, TextFault>
+    requires { IsSound progress }
+    ensures { Reads result (reading_in progress) }
+{
+    if progress.is_empty() {
+        return Err(TextFault::Bad {
+            line: 1,
+            kind: TextKind::NoModel,
+        });
+    }
+    match progress.ended(alloc) {
+        Ok(models) => Ok(Library::new(models)),
+        Err(_) => Err(TextFault::Memory),
+    }
+}
+
+/// Ends the text: an LF ends the last line, and another what a backslash there leaves open.
+pub(crate) fn finish(
+    alloc: Global,
+    lines: &mut Lines,
+    mut progress: Progress,
+) -> Result<Library, TextFault>
+    requires number { lines.old.number < 2 ^ 32 - 2 }
+    requires sound { IsSound progress }
+    ensures { (given : List ℕ) → Stands lines.old progress given → Reads result (reading given) }
+{
+    match end_line(alloc, lines, &mut progress) {
+        Ok(()) => match end_line(alloc, lines, &mut progress) {
+            Ok(()) => match ended(alloc, progress) {
+                Ok(library) => Ok(library),
+                Err(fault) => Err(fault),
+            },
+            Err(fault) => Err(fault),
+        },
+        Err(fault) => Err(fault),
+    }
+}
+
+/// Takes a piece, unless a fault was met before. Gives the fault that is met by then.
+pub(crate) fn take_piece(
+    alloc: Global,
+    lines: &mut Lines,
+    progress: &mut Progress,
+    refused: Option<TextFault>,
+    piece: &[u8],
+) -> Option<TextFault>
+    requires { lines.old.number + length piece.now < 2 ^ 32 - 1 }
+    ensures read { (given : List ℕ) → HasRead refused lines.old progress.old given → HasRead result lines.new progress.new (given ++ piece.now) }
+    ensures again { IfSome refused (λ fault. result ≡ Some fault) }
+    ensures sound { (refused ≡ None → IsSound progress.old) → result ≡ None → IsSound progress.new }
+    ensures number { lines.new.number ≤ lines.old.number + length piece.now }
+{
+    match refused {
+        Some(fault) => Some(fault),
+        None => match take_bytes(alloc, lines, progress, piece) {
+            Ok(()) => None,
+            Err(fault) => Some(fault),
+        },
+    }
+}
