@@ -1,0 +1,4 @@
+pub mod Codes
+pub mod Line
+pub mod FileWords
+pub mod Steps
