@@ -2,3 +2,5 @@ pub mod Codes
 pub mod Line
 pub mod FileWords
 pub mod Steps
+pub mod Loads
+pub mod FileBytes

@@ -2,6 +2,7 @@
 #![tactic(auto)]
 
 mod line;
+mod loads;
 mod status;
 
 pub use status::Status;

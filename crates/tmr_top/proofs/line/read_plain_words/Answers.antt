@@ -12,14 +12,14 @@ returns-in-Option c =
 pub loop-word-preserved : goal.loop-word-preserved
 loop-word-preserved c =
     elim c.match-next_step.branch [
-        in-Mark w ↦ rw (w.plain-is, w.all_plain-is)
-            (after_mark c.loop-word.all_plain (read_words c.loop-word.plain.items) c.loop-word.word-index c.args.words.now c.word-item.result c.as_str.result.now _ c.loop-word-test.true (c.as_str.ensures.value ∙ ap string_bytes c.word-item.is) c.loop-word.invariant w.in-Mark.ensures)
-        | in-Plain+in_ok-push-in-Plain w ↦ rw (w.plain-is, w.all_plain-is)
-            (let pushed : w.push.new.self.items ≡ c.loop-word.plain.items ++ w.as_str-in-Plain.result ∷ [] = w.in_ok-push-in-Plain.ensures.items in
-            let same : w.as_str-in-Plain.result.now ≡ c.as_str.result.now = w.as_str-in-Plain.ensures.value ∙ sym c.as_str.ensures.value in
-            let read : read_words w.push.new.self.items ≡ read_words c.loop-word.plain.items ++ c.as_str.result.now ∷ [] =
-                ap read_words pushed ∙ (map-append _ c.loop-word.plain.items (w.as_str-in-Plain.result ∷ []) ∙ ap (λ (t : List ℕ). read_words c.loop-word.plain.items ++ t ∷ []) same) in
-            rw read (after_plain c.loop-word.all_plain (read_words c.loop-word.plain.items) c.loop-word.word-index c.args.words.now c.word-item.result c.as_str.result.now _ c.loop-word-test.true (c.as_str.ensures.value ∙ ap string_bytes c.word-item.is) c.loop-word.invariant w.in-Plain.ensures))
+      | in-Mark w ↦ rw (w.plain-is, w.all_plain-is)
+          (after_mark c.loop-word.all_plain (read_words c.loop-word.plain.items) c.loop-word.word-index c.args.words.now c.word-item.result c.as_str.result.now _ c.loop-word-test.true (c.as_str.ensures.value ∙ ap string_bytes c.word-item.is) c.loop-word.invariant w.in-Mark.ensures)
+      | in-Plain+in_ok-push-in-Plain w ↦ rw (w.plain-is, w.all_plain-is)
+          (let pushed : w.push.new.self.items ≡ c.loop-word.plain.items ++ w.as_str-in-Plain.result ∷ [] = w.in_ok-push-in-Plain.ensures.items in
+          let same : w.as_str-in-Plain.result.now ≡ c.as_str.result.now = w.as_str-in-Plain.ensures.value ∙ sym c.as_str.ensures.value in
+          let read : read_words w.push.new.self.items ≡ read_words c.loop-word.plain.items ++ c.as_str.result.now ∷ [] =
+          ap read_words pushed ∙ (map-append _ c.loop-word.plain.items (w.as_str-in-Plain.result ∷ []) ∙ ap (λ (t : List ℕ). read_words c.loop-word.plain.items ++ t ∷ []) same) in
+          rw read (after_plain c.loop-word.all_plain (read_words c.loop-word.plain.items) c.loop-word.word-index c.args.words.now c.word-item.result c.as_str.result.now _ c.loop-word-test.true (c.as_str.ensures.value ∙ ap string_bytes c.word-item.is) c.loop-word.invariant w.in-Plain.ensures))
     ]
 
 pub returns : goal.returns
