@@ -1,3 +1,4 @@
 pub mod FirstBad
 pub mod Masking
 pub mod NodeRules
+pub mod Place

@@ -1,5 +1,5 @@
 //! The rules of single hardened nodes.
-ghost use Rattle.std.specs.Prelude.{◌≡◌, ◌↔◌, ◌+◌, ◌<◌, ◌≤◌, length, IsTrue};
+ghost use Rattle.std.specs.Prelude.{◌≡◌, ◌↔◌, ◌+◌, ◌<◌, ◌≤◌, length, IsTrue, IfSome};
 ghost use Rattle.flat_net.specs.Net.{net_count};
 ghost use Rattle.certificate.specs.Cert.{Fits};
 ghost use Rattle.certificate.specs.Rules.{Rule3, Rule4, Rule5, Rule6, Rule7};
@@ -105,7 +105,8 @@ fn holds(rule: NodeRule, n: &FlatNet, h: &FlatNet, c: &Certificate, g: NetId) ->
 /// The first hardened node at which the rule fails.
 pub fn first_bad_node(rule: NodeRule, n: &FlatNet, h: &FlatNet, c: &Certificate) -> Option<u32>
     requires { Fits n.now.net h.now.net c.now }
-    ensures { IsFirstBad (λ place. NodeHolds n.now.net h.now.net c.now rule (length h.now.net.inputs + place)) result }
+    ensures first { IsFirstBad (λ place. NodeHolds n.now.net h.now.net c.now rule (length h.now.net.inputs + place)) result }
+    ensures node { IfSome result (λ place. place < length h.now.net.nodes) }
 {
     let inputs = h.input_count();
     for place in 0..h.node_count() {

@@ -1,10 +1,11 @@
 //! The check of a pair of designs against a certificate.
-ghost use Rattle.std.specs.Prelude.{IfOk, MatchResult};
+ghost use Rattle.std.specs.Prelude.{IfOk, IfErr, MatchResult};
 ghost use Rattle.flat_net.specs.Net.{Net, IsValid};
 ghost use Rattle.net_meaning.specs.Meaning.{TracesAreUnique};
 ghost use Rattle.certificate.specs.Cert.{PlainCert, IsCert, Fits};
 ghost use Rattle.certificate.specs.Rules.{Corresponds, IsFirstFailure};
 ghost use Rattle.validator.specs.Masking.{Masks};
+ghost use Rattle.validator.specs.Place.{IsPlace};
 
 use crate::Refusal;
 use crate::clocks::same_edge;
@@ -23,7 +24,8 @@ fn rules_are_enough()
 /// The first rule that fails, and the first place.
 fn first_failure(n: &FlatNet, h: &FlatNet, c: &Certificate) -> Result<(), Refusal>
     requires { Fits n.now.net h.now.net c.now }
-    ensures { MatchResult result (λ _. Corresponds n.now.net h.now.net c.now) (λ e. IsFirstFailure n.now.net h.now.net c.now e.rule e.at) }
+    ensures exact { MatchResult result (λ _. Corresponds n.now.net h.now.net c.now) (λ e. IsFirstFailure n.now.net h.now.net c.now e.rule e.at) }
+    ensures place { IfErr result (λ e. IsPlace h.now.net e.rule e.at) }
 {
     if u64::from(h.input_count()) != 3 * u64::from(n.input_count()) {
         return Err(Refusal { rule: 1, at: 0 });
@@ -61,6 +63,7 @@ fn first_failure(n: &FlatNet, h: &FlatNet, c: &Certificate) -> Result<(), Refusa
 pub fn check(n: &FlatNet, h: &FlatNet, c: &Certificate) -> Result<(), Refusal>
     requires { Fits n.now.net h.now.net c.now }
     ensures exact { MatchResult result (λ _. Corresponds n.now.net h.now.net c.now) (λ e. IsFirstFailure n.now.net h.now.net c.now e.rule e.at) }
+    ensures place { IfErr result (λ e. IsPlace h.now.net e.rule e.at) }
     ensures masks { IfOk result (λ _. Masks n.now.net h.now.net c.now) }
     ensures original_runs { TracesAreUnique n.now.net }
     ensures hardened_runs { TracesAreUnique h.now.net }

@@ -3,8 +3,8 @@ use Rattle.validator.specs.NodeRules.{NodeHolds}
 use Rattle.validator.proofs.Nodes.{node_rule_all}
 use Rattle.validator.proofs.node_rules.first_bad_node.Goals as goal
 
-pub returns : goal.returns
-returns c =
+pub returns-clause-first : goal.returns-clause-first
+returns-clause-first c =
     node_rule_all c.args.rule c.args.n.now.net c.args.h.now.net c.args.c.now c.requires (λ i l. c.loop-place.invariant i (omega arith))
 
 pub loop-place-preserved : goal.loop-place-preserved
