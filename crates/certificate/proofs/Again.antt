@@ -24,10 +24,10 @@ use Rattle.tmr_base.specs.Names.{is_name, is_name_byte}
 use Rattle.tmr_base.proofs.NumberLaws.{number_again}
 use Rattle.flat_net.specs.Net.{Net, IsValid, net_names, net_named, net_count, name_of}
 use Rattle.certificate.specs.declared.role.Role.TheVariants.{Voter}
-use Rattle.certificate.specs.Lines.{Rest, next_line, words_of, word, number_at, is_line_feed, is_blank}
+use Rattle.certificate.specs.Lines.{Rest, next_line, words_of, form_words, number_at, is_full, is_line_feed, is_blank}
 use Rattle.certificate.specs.Plain.{IsNode, AreNodes}
-use Rattle.certificate.specs.Text.{line_text, part_line, node_line}
-use Rattle.certificate.specs.Reading.{known, known_three, three_numbers, is_full, node_numbers, node_words, copy_named, voter_numbers, voter_words, part_words, parts_words}
+use Rattle.certificate.specs.Text.{line_text, three_words, part_line, node_line}
+use Rattle.certificate.specs.Reading.{known, known_three, three_numbers, node_numbers, read_node, copy_named, voter_numbers, read_voter, read_part, read_parts}
 use Rattle.certificate.proofs.Cases.{AreSmall, both_true}
 
 abbrev pub IsWord : List ℕ → Type 0
@@ -162,23 +162,32 @@ same_bytes w = (bytes_eq-Decides w w).1 refl
 same_number : (x : ℕ) → (x == x) ≡ true
 same_number x = grind (arith, nat_tests)
 
-pub part_words_again : (p depth line : ℕ) → p < 2 ^ 32 → depth < 2 ^ 32 → part_words p (part_line p depth) line ≡ Ok depth
-unfolding part_words
-part_words_again p depth line small low = rw (number_at_again p line small, number_at_again depth line low, same_number p) refl
+form_again : (text first : List ℕ) (words : List (List ℕ)) (count line : ℕ) → words_of text ≡ first ∷ words → length (first ∷ words) ≡ count → list_all is_full (first ∷ words) ≡ true → form_words text count first line ≡ Ok (first ∷ words)
+unfolding form_words
+form_again text first words count line all long full =
+    let as_long : (length (first ∷ words) == count) ≡ true = ap (λ (m : ℕ). length (first ∷ words) == m) (sym long) ∙ same_number (length (first ∷ words)) in
+    rw all (rw (as_long, full, same_bytes first) refl)
 
-pub parts_words_again : (count line : ℕ) → count < 2 ^ 32 → parts_words (codes "parts" ∷ decimal count ∷ []) line ≡ Ok count
-unfolding parts_words
-parts_words_again count line small = number_at_again count line small
+pub read_part_again : (text : List ℕ) (p depth line : ℕ) → words_of text ≡ part_line p depth → list_all is_full (part_line p depth) ≡ true → p < 2 ^ 32 → depth < 2 ^ 32 → read_part p text line ≡ Ok depth
+unfolding read_part
+read_part_again text p depth line all full small low =
+    let form = form_again text (codes "part") (decimal p ∷ codes "depth" ∷ decimal depth ∷ []) 4 line all refl full in
+    rw form (rw (number_at_again p line small, number_at_again depth line low, same_number p) refl)
 
-node_numbers_again : (n h : Net) (x p : ℕ) (copies labels : Three) (line : ℕ) → list_all is_full (node_line n h x p copies labels) ≡ true → p < 2 ^ 32 → AreSmall labels → node_numbers (node_line n h x p copies labels) line ≡ Ok (p, labels)
+pub read_parts_again : (text : List ℕ) (count line : ℕ) → words_of text ≡ codes "parts" ∷ decimal count ∷ [] → list_all is_full (codes "parts" ∷ decimal count ∷ []) ≡ true → count < 2 ^ 32 → read_parts text line ≡ Ok count
+unfolding read_parts
+read_parts_again text count line all full small = rw (form_again text (codes "parts") (decimal count ∷ []) 2 line all refl full) (number_at_again count line small)
+
+node_numbers_again : (n h : Net) (x p : ℕ) (copies labels : Three) (line : ℕ) → p < 2 ^ 32 → AreSmall labels → node_numbers (node_line n h x p copies labels) line ≡ Ok (p, labels)
 unfolding node_numbers
-node_numbers_again n h x p copies labels line full small labels_small = rw (full, number_at_again p line small, three_numbers_again labels line labels_small) refl
+node_numbers_again n h x p copies labels line small labels_small = rw (number_at_again p line small, three_numbers_again labels line labels_small) refl
 
-pub node_words_again : (n h : Net) (x p parts : ℕ) (copies labels : Three) (line : ℕ) → IsValid n → IsValid h → IsNode n x → AreNodes h copies → p < parts → parts ≤ 2 ^ 32 → AreSmall labels → list_all is_full (node_line n h x p copies labels) ≡ true
-    → node_words n h x parts (node_line n h x p copies labels) line ≡ Ok (record { part = p; copies = copies; labels = labels })
-unfolding node_words
-node_words_again n h x p parts copies labels line valid valid_h node nodes low small labels_small full =
-    rw (node_numbers_again n h x p copies labels line full (omega arith) labels_small, known_again n x line valid node, known_three_again h copies line valid_h nodes, same_number x, lt-ltb p parts low) refl
+pub read_node_again : (n h : Net) (text : List ℕ) (x p parts : ℕ) (copies labels : Three) (line : ℕ) → words_of text ≡ node_line n h x p copies labels → IsValid n → IsValid h → IsNode n x → AreNodes h copies → p < parts → parts ≤ 2 ^ 32 → AreSmall labels → list_all is_full (node_line n h x p copies labels) ≡ true
+    → read_node n h x parts text line ≡ Ok (record { part = p; copies = copies; labels = labels })
+unfolding read_node
+read_node_again n h text x p parts copies labels line all valid valid_h node nodes low small labels_small full =
+    let form = form_again text (codes "node") (name_of n x ∷ decimal p ∷ three_words (name_of h) copies ++ three_words decimal labels) 9 line all refl full in
+    rw form (rw (node_numbers_again n h x p copies labels line (omega arith) labels_small, known_again n x line valid node, known_three_again h copies line valid_h nodes, same_number x, lt-ltb p parts low) refl)
 
 copy_again : (c : CopyNo) → copy_named (decimal (copy_number c)) ≡ Some c
 copy_again First = rw (decimal_digit 0 (omega arith)) refl
@@ -193,15 +202,16 @@ copy_small Third = omega arith
 abbrev pub voter_text : Net → Net → ℕ → ℕ → ℕ → CopyNo → List (List ℕ)
 voter_text n h g x p c = codes "voter" ∷ name_of h g ∷ name_of n x ∷ decimal p ∷ decimal (copy_number c) ∷ []
 
-voter_numbers_again : (n h : Net) (g x p : ℕ) (c : CopyNo) (line : ℕ) → p < 2 ^ 32 → list_all is_full (voter_text n h g x p c) ≡ true → voter_numbers (voter_text n h g x p c) line ≡ Ok (p, c)
+voter_numbers_again : (n h : Net) (g x p : ℕ) (c : CopyNo) (line : ℕ) → p < 2 ^ 32 → voter_numbers (voter_text n h g x p c) line ≡ Ok (p, c)
 unfolding voter_numbers
-voter_numbers_again n h g x p c line small full = rw (full, number_at_again p line small, copy_again c) refl
+voter_numbers_again n h g x p c line small = rw (number_at_again p line small, copy_again c) refl
 
-pub voter_words_again : (n h : Net) (g x p parts : ℕ) (c : CopyNo) (line : ℕ) → IsValid n → IsValid h → IsNode h g → IsNode n x → p < parts → parts ≤ 2 ^ 32 → list_all is_full (voter_text n h g x p c) ≡ true
-    → voter_words n h g parts (voter_text n h g x p c) line ≡ Ok (Voter (record { 0 = x }) (record { 0 = p }) c)
-unfolding voter_words
-voter_words_again n h g x p parts c line valid valid_h node_h node low small full =
-    rw (voter_numbers_again n h g x p c line (omega arith) full, known_again h g line valid_h node_h, known_again n x line valid node, same_number g, lt-ltb p parts low) refl
+pub read_voter_again : (n h : Net) (text : List ℕ) (g x p parts : ℕ) (c : CopyNo) (line : ℕ) → words_of text ≡ voter_text n h g x p c → IsValid n → IsValid h → IsNode h g → IsNode n x → p < parts → parts ≤ 2 ^ 32 → list_all is_full (voter_text n h g x p c) ≡ true
+    → read_voter n h g parts text line ≡ Ok (Voter (record { 0 = x }) (record { 0 = p }) c)
+unfolding read_voter
+read_voter_again n h text g x p parts c line all valid valid_h node_h node low small full =
+    let form = form_again text (codes "voter") (name_of h g ∷ name_of n x ∷ decimal p ∷ decimal (copy_number c) ∷ []) 5 line all refl full in
+    rw form (rw (voter_numbers_again n h g x p c line (omega arith), known_again h g line valid_h node_h, known_again n x line valid node, same_number g, lt-ltb p parts low) refl)
 
 -- ---- each word of a line is a word
 
@@ -233,6 +243,9 @@ node_line_ok n h x p copies labels valid valid_h node nodes low small =
 pub voter_text_ok : (n h : Net) (g x p : ℕ) (c : CopyNo) → IsValid n → IsValid h → IsNode h g → IsNode n x → p < 2 ^ 32 → LineOk (voter_text n h g x p c)
 voter_text_ok n h g x p c valid valid_h node_h node low =
     more_words _ _ (coded (codes "voter") refl, refl) (more_words _ _ (name_ok h g valid_h node_h) (more_words _ _ (name_ok n x valid node) (more_words _ _ (number_ok p low) (more_words _ _ (number_ok (copy_number c) (copy_small c)) no_words))))
+
+pub parts_line_ok : (count : ℕ) → count < 2 ^ 32 → LineOk (codes "parts" ∷ decimal count ∷ [])
+parts_line_ok count small = more_words _ _ (coded (codes "parts") refl, refl) (more_words _ _ (number_ok count small) no_words)
 
 pub part_line_ok : (p d : ℕ) → p < 2 ^ 32 → d < 2 ^ 32 → LineOk (part_line p d)
 part_line_ok p d low small = more_words _ _ (coded (codes "part") refl, refl) (more_words _ _ (number_ok p low) (more_words _ _ (coded (codes "depth") refl, refl) (more_words _ _ (number_ok d small) no_words)))

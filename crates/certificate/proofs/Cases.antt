@@ -19,10 +19,10 @@ use Rattle.tmr_base.proofs.NumberLaws.{number_text}
 use Rattle.flat_net.specs.Net.{Net, net_names, net_named, net_count, name_of}
 use Rattle.certificate.specs.declared.fault.CertFault.{CertFault}
 use Rattle.certificate.specs.declared.fault.CertFault.TheVariants.{Line, UnknownNet, Order, Range}
-use Rattle.certificate.specs.Lines.{◌>>=◌, want, hold, number_at, word, has_form}
+use Rattle.certificate.specs.Lines.{◌>>=◌, want, hold, number_at, words_of, word, is_full, has_form, form_words}
 use Rattle.certificate.specs.Plain.{IsNode, AreNodes}
 use Rattle.certificate.specs.Text.{three_words, node_line, part_line, voter_line}
-use Rattle.certificate.specs.Reading.{known, known_three, three_numbers, node_or_none, NodeLine, node_numbers, node_words, is_full, copy_named, voter_numbers, voter_words, part_words, parts_words, repeat}
+use Rattle.certificate.specs.Reading.{known, known_three, three_numbers, node_or_none, NodeLine, node_numbers, read_node, copy_named, voter_numbers, read_voter, read_part, read_parts, repeat}
 
 -- the value of a step that did not fail
 pub bind_ok : {A B : Type 0} (r : Result A CertFault) (f : A → Result B CertFault) (y : B) → (r >>= f) ≡ Ok y → (x : A) × (r ≡ Ok x) × (f x ≡ Ok y)
@@ -151,17 +151,23 @@ nine_words (a ∷ []) e = absurd (omega arith)
 nine_words (a ∷ b ∷ []) e = absurd (omega arith)
 nine_words (a ∷ b ∷ c ∷ []) e = absurd (omega arith)
 
-form_is : (words : List (List ℕ)) (count : ℕ) (first : List ℕ) → has_form words count first ≡ true → (length words ≡ count) × (word words 0 ≡ first)
-form_is words count first e =
-    let b = both_true (length words == count) (bytes_eq (word words 0) first) e in
-    (eqb-true _ _ b.0, (bytes_eq-Decides (word words 0) first).0 b.1)
+pub record HasWords (text : List ℕ) (count : ℕ) (begin : List ℕ) (words : List (List ℕ)) : Type 0 where
+  pub all : words_of text ≡ words
+  pub long : length words ≡ count
+  pub first : word words 0 ≡ begin
+
+form_is : (text : List ℕ) (count : ℕ) (first : List ℕ) (line : ℕ) (words : List (List ℕ)) → form_words text count first line ≡ Ok words → HasWords text count first words
+unfolding form_words
+form_is text count first line words e =
+    let form = hold_ok (has_form (words_of text) count first) (Line line) _ words e in
+    let long = both_true (length (words_of text) == count) (list_all is_full (words_of text) && bytes_eq (word (words_of text) 0) first) form.0 in
+    let same = both_true (list_all is_full (words_of text)) (bytes_eq (word (words_of text) 0) first) long.1 in
+    subst (HasWords text count first) (ok_is (words_of text) words form.1) (record { all = refl; long = eqb-true _ _ long.0; first = (bytes_eq-Decides (word (words_of text) 0) first).0 same.1 })
 
 glue : (a b c a' b' c' : List ℕ) (s t s' t' : List (List ℕ)) → a ≡ a' → b ≡ b' → c ≡ c' → s ≡ s' → t ≡ t' → a ∷ b ∷ c ∷ s ++ t ≡ a' ∷ b' ∷ c' ∷ s' ++ t'
 glue a b c a' b' c' s t s' t' d e f g h = cc
 
 pub record NumbersRead (words : List (List ℕ)) (x : ℕ × Three) : Type 0 where
-  pub long : length words ≡ 9
-  pub first : word words 0 ≡ codes "node"
   pub part : word words 2 ≡ decimal x.0
   pub labels : word words 6 ∷ word words 7 ∷ word words 8 ∷ [] ≡ three_words decimal x.1
   pub small : AreSmall x.1
@@ -169,30 +175,29 @@ pub record NumbersRead (words : List (List ℕ)) (x : ℕ × Three) : Type 0 whe
 node_numbers_read : (words : List (List ℕ)) (line : ℕ) (x : ℕ × Three) → node_numbers words line ≡ Ok x → NumbersRead words x
 unfolding node_numbers
 node_numbers_read words line x e =
-    let form = hold_ok (has_form words 9 (codes "node") && list_all is_full words) (Line line) _ x e in
-    let f = form_is words 9 (codes "node") (both_true _ _ form.0).0 in
-    let p = bind_ok (number_at (word words 2) line) _ x form.1 in
+    let p = bind_ok (number_at (word words 2) line) _ x e in
     let labels = bind_ok (three_numbers (word words 6) (word words 7) (word words 8) line) _ x p.2 in
     let made : ℕ × Three = (p.0, labels.0) in
     subst (NumbersRead words) (ok_is made x labels.2) (record {
-      long = f.0;
-      first = f.1;
       part = (number_is (word words 2) line p.0 p.1).0;
       labels = (three_numbers_are (word words 6) (word words 7) (word words 8) line labels.0 labels.1).0;
       small = (three_numbers_are (word words 6) (word words 7) (word words 8) line labels.0 labels.1).1;
     })
 
 -- what a node's line says is what it is written with
-pub record NodeRead (n h : Net) (x parts : ℕ) (words : List (List ℕ)) (node : NodeLine) : Type 0 where
-  pub text : words ≡ node_line n h x node.part node.copies node.labels
+pub record NodeRead (n h : Net) (x parts : ℕ) (text : List ℕ) (node : NodeLine) : Type 0 where
+  pub words : words_of text ≡ node_line n h x node.part node.copies node.labels
   pub part : node.part < parts
   pub copies : AreNodes h node.copies
   pub labels : AreSmall node.labels
 
-pub node_words_read : (n h : Net) (x parts : ℕ) (words : List (List ℕ)) (line : ℕ) (node : NodeLine) → node_words n h x parts words line ≡ Ok node → NodeRead n h x parts words node
-unfolding node_words
-node_words_read n h x parts words line node e =
-    let numbers = bind_ok (node_numbers words line) _ node e in
+pub read_node_read : (n h : Net) (x parts : ℕ) (text : List ℕ) (line : ℕ) (node : NodeLine) → read_node n h x parts text line ≡ Ok node → NodeRead n h x parts text node
+unfolding read_node
+read_node_read n h x parts text line node e =
+    let form = bind_ok (form_words text 9 (codes "node") line) _ node e in
+    let words : List (List ℕ) = form.0 in
+    let f = form_is text 9 (codes "node") line words form.1 in
+    let numbers = bind_ok (node_numbers words line) _ node form.2 in
     let named = bind_ok (known n (word words 1) line) _ node numbers.2 in
     let copies = bind_ok (known_three h (word words 3) (word words 4) (word words 5) line) _ node named.2 in
     let order = hold_ok (named.0 == x) (Order line) _ node copies.2 in
@@ -202,9 +207,9 @@ node_words_read n h x parts words line node e =
     let k = known_is n (word words 1) line named.0 named.1 in
     let t = known_three_is h (word words 3) (word words 4) (word words 5) line copies.0 copies.1 in
     let name : word words 1 ≡ name_of n x = k.0 ∙ ap (name_of n) (eqb-true _ _ order.0) in
-    let text : words ≡ node_line n h x made.part made.copies made.labels =
-    nine_words words r.long ∙ glue _ _ _ (codes "node") (name_of n x) (decimal made.part) (word words 3 ∷ word words 4 ∷ word words 5 ∷ []) (word words 6 ∷ word words 7 ∷ word words 8 ∷ []) (three_words (name_of h) made.copies) (three_words decimal made.labels) r.first name r.part t.0 r.labels in
-    subst (NodeRead n h x parts words) (ok_is made node range.1) (record { text = text; part = ltb-true _ _ range.0; copies = t.1; labels = r.small })
+    let all : words_of text ≡ node_line n h x made.part made.copies made.labels =
+    f.all ∙ (nine_words words f.long ∙ glue _ _ _ (codes "node") (name_of n x) (decimal made.part) (word words 3 ∷ word words 4 ∷ word words 5 ∷ []) (word words 6 ∷ word words 7 ∷ word words 8 ∷ []) (three_words (name_of h) made.copies) (three_words decimal made.labels) f.first name r.part t.0 r.labels) in
+    subst (NodeRead n h x parts text) (ok_is made node range.1) (record { words = all; part = ltb-true _ _ range.0; copies = t.1; labels = r.small })
 
 copy_number_is : (w : List ℕ) (c : CopyNo) → copy_named w ≡ Some c → w ≡ decimal (copy_number c)
 copy_number_is w c e = first (bytes_eq w (codes "0")) refl e
@@ -222,39 +227,36 @@ copy_number_is w c e = first (bytes_eq w (codes "0")) refl e
     first false t e = second (bytes_eq w (codes "1")) refl e
 
 pub record VoterNumbersRead (words : List (List ℕ)) (x : ℕ × CopyNo) : Type 0 where
-  pub long : length words ≡ 5
-  pub first : word words 0 ≡ codes "voter"
   pub part : word words 3 ≡ decimal x.0
   pub copy : word words 4 ≡ decimal (copy_number x.1)
 
 voter_numbers_read : (words : List (List ℕ)) (line : ℕ) (x : ℕ × CopyNo) → voter_numbers words line ≡ Ok x → VoterNumbersRead words x
 unfolding voter_numbers
 voter_numbers_read words line x e =
-    let form = hold_ok (has_form words 5 (codes "voter") && list_all is_full words) (Line line) _ x e in
-    let f = form_is words 5 (codes "voter") (both_true _ _ form.0).0 in
-    let p = bind_ok (number_at (word words 3) line) _ x form.1 in
+    let p = bind_ok (number_at (word words 3) line) _ x e in
     let c = bind_ok (want (copy_named (word words 4)) (Line line)) _ x p.2 in
     let made : ℕ × CopyNo = (p.0, c.0) in
     subst (VoterNumbersRead words) (ok_is made x c.2) (record {
-      long = f.0;
-      first = f.1;
       part = (number_is (word words 3) line p.0 p.1).0;
       copy = copy_number_is (word words 4) c.0 (want_ok (copy_named (word words 4)) (Line line) c.0 c.1);
     })
 
-pub record VoterRead (n h : Net) (g parts : ℕ) (words : List (List ℕ)) (role : Role) : Type 0 where
+pub record VoterRead (n h : Net) (g parts : ℕ) (text : List ℕ) (role : Role) : Type 0 where
   pub x : ℕ
   pub p : ℕ
   pub c : CopyNo
   pub is : role ≡ Voter (record { 0 = x }) (record { 0 = p }) c
   pub node : IsNode n x
   pub part : p < parts
-  pub text : voter_line n h g role ≡ words ∷ []
+  pub words : voter_line n h g role ≡ words_of text ∷ []
 
-pub voter_words_read : (n h : Net) (g parts : ℕ) (words : List (List ℕ)) (line : ℕ) (role : Role) → voter_words n h g parts words line ≡ Ok role → VoterRead n h g parts words role
-unfolding voter_words
-voter_words_read n h g parts words line role e =
-    let numbers = bind_ok (voter_numbers words line) _ role e in
+pub read_voter_read : (n h : Net) (g parts : ℕ) (text : List ℕ) (line : ℕ) (role : Role) → read_voter n h g parts text line ≡ Ok role → VoterRead n h g parts text role
+unfolding read_voter
+read_voter_read n h g parts text line role e =
+    let form = bind_ok (form_words text 5 (codes "voter") line) _ role e in
+    let words : List (List ℕ) = form.0 in
+    let f = form_is text 5 (codes "voter") line words form.1 in
+    let numbers = bind_ok (voter_numbers words line) _ role form.2 in
     let named = bind_ok (known h (word words 1) line) _ role numbers.2 in
     let node = bind_ok (known n (word words 2) line) _ role named.2 in
     let order = hold_ok (named.0 == g) (Order line) _ role node.2 in
@@ -264,32 +266,34 @@ voter_words_read n h g parts words line role e =
     let k = known_is h (word words 1) line named.0 named.1 in
     let t = known_is n (word words 2) line node.0 node.1 in
     let name : word words 1 ≡ name_of h g = k.0 ∙ ap (name_of h) (eqb-true _ _ order.0) in
-    let text : words ≡ codes "voter" ∷ name_of h g ∷ name_of n node.0 ∷ decimal numbers.0.0 ∷ decimal (copy_number numbers.0.1) ∷ [] =
-    five_words words r.long ∙ same_five _ _ _ _ _ (codes "voter") (name_of h g) (name_of n node.0) (decimal numbers.0.0) (decimal (copy_number numbers.0.1)) r.first name t.0 r.part r.copy in
-    subst (VoterRead n h g parts words) (ok_is made role range.1) (record { x = node.0; p = numbers.0.0; c = numbers.0.1; is = refl; node = t.1; part = ltb-true _ _ range.0; text = ap (λ (w : List (List ℕ)). w ∷ []) (sym text) })
+    let all : words_of text ≡ codes "voter" ∷ name_of h g ∷ name_of n node.0 ∷ decimal numbers.0.0 ∷ decimal (copy_number numbers.0.1) ∷ [] =
+    f.all ∙ (five_words words f.long ∙ same_five _ _ _ _ _ (codes "voter") (name_of h g) (name_of n node.0) (decimal numbers.0.0) (decimal (copy_number numbers.0.1)) f.first name t.0 r.part r.copy) in
+    subst (VoterRead n h g parts text) (ok_is made role range.1) (record { x = node.0; p = numbers.0.0; c = numbers.0.1; is = refl; node = t.1; part = ltb-true _ _ range.0; words = ap (λ (w : List (List ℕ)). w ∷ []) (sym all) })
 
-pub record PartRead (p : ℕ) (words : List (List ℕ)) (depth : ℕ) : Type 0 where
-  pub text : words ≡ part_line p depth
+pub record PartRead (p : ℕ) (text : List ℕ) (depth : ℕ) : Type 0 where
+  pub words : words_of text ≡ part_line p depth
   pub small : depth < 2 ^ 32
 
-pub part_words_read : (p : ℕ) (words : List (List ℕ)) (line depth : ℕ) → part_words p words line ≡ Ok depth → PartRead p words depth
-unfolding part_words
-part_words_read p words line depth e =
-    let form = hold_ok (has_form words 4 (codes "part") && bytes_eq (word words 2) (codes "depth")) (Line line) _ depth e in
-    let both = both_true (has_form words 4 (codes "part")) (bytes_eq (word words 2) (codes "depth")) form.0 in
-    let f = form_is words 4 (codes "part") both.0 in
-    let q = bind_ok (number_at (word words 1) line) _ depth form.1 in
+pub read_part_read : (p : ℕ) (text : List ℕ) (line depth : ℕ) → read_part p text line ≡ Ok depth → PartRead p text depth
+unfolding read_part
+read_part_read p text line depth e =
+    let form = bind_ok (form_words text 4 (codes "part") line) _ depth e in
+    let words : List (List ℕ) = form.0 in
+    let f = form_is text 4 (codes "part") line words form.1 in
+    let third = hold_ok (bytes_eq (word words 2) (codes "depth")) (Line line) _ depth form.2 in
+    let q = bind_ok (number_at (word words 1) line) _ depth third.1 in
     let d = bind_ok (number_at (word words 3) line) _ depth q.2 in
     let order = hold_ok (q.0 == p) (Line line) _ depth d.2 in
     let first : word words 1 ≡ decimal p = (number_is (word words 1) line q.0 q.1).0 ∙ ap decimal (eqb-true _ _ order.0) in
     let last = number_is (word words 3) line d.0 d.1 in
-    let text : words ≡ part_line p d.0 = four_words words f.0 ∙ same_four _ _ _ _ (codes "part") (decimal p) (codes "depth") (decimal d.0) f.1 first ((bytes_eq-Decides (word words 2) (codes "depth")).0 both.1) last.0 in
-    subst (PartRead p words) (ok_is d.0 depth order.1) (record { text = text; small = last.1 })
+    let all : words_of text ≡ part_line p d.0 = f.all ∙ (four_words words f.long ∙ same_four _ _ _ _ (codes "part") (decimal p) (codes "depth") (decimal d.0) f.first first ((bytes_eq-Decides (word words 2) (codes "depth")).0 third.0) last.0) in
+    subst (PartRead p text) (ok_is d.0 depth order.1) (record { words = all; small = last.1 })
 
-pub parts_words_read : (words : List (List ℕ)) (line count : ℕ) → parts_words words line ≡ Ok count → (words ≡ codes "parts" ∷ decimal count ∷ []) × (count < 2 ^ 32)
-unfolding parts_words
-parts_words_read words line count e =
-    let form = hold_ok (has_form words 2 (codes "parts")) (Line line) _ count e in
-    let f = form_is words 2 (codes "parts") form.0 in
-    let c = number_is (word words 1) line count form.1 in
-    (two_words words f.0 ∙ same_two _ _ (codes "parts") (decimal count) f.1 c.0, c.1)
+pub read_parts_read : (text : List ℕ) (line count : ℕ) → read_parts text line ≡ Ok count → (words_of text ≡ codes "parts" ∷ decimal count ∷ []) × (count < 2 ^ 32)
+unfolding read_parts
+read_parts_read text line count e =
+    let form = bind_ok (form_words text 2 (codes "parts") line) _ count e in
+    let words : List (List ℕ) = form.0 in
+    let f = form_is text 2 (codes "parts") line words form.1 in
+    let c = number_is (word words 1) line count form.2 in
+    (f.all ∙ (two_words words f.long ∙ same_two _ _ (codes "parts") (decimal count) f.first c.0), c.1)

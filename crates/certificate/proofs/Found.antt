@@ -20,8 +20,8 @@ use Rattle.certificate.specs.declared.fault.CertFault.TheVariants.{Line}
 use Rattle.certificate.specs.Lines.{Rest, next_line, words_of, is_line_feed}
 use Rattle.certificate.specs.Cert.{PlainCert}
 use Rattle.certificate.specs.Text.{line_text, part_line, part_lines, node_line, node_lines, voter_line, voter_lines, cert_lines, cert_text}
-use Rattle.certificate.specs.Reading.{Depths, Nodes, Roles, give_copies, node_words, voter_words, part_words, parts_words, parts_line, first_line, last_line, part_step, node_step, role_step, voter_step, repeat, cert_of_text}
-use Rattle.certificate.proofs.Cases.{bind_ok, hold_ok, ok_is, repeat_all, node_words_read, voter_words_read, part_words_read, parts_words_read}
+use Rattle.certificate.specs.Reading.{Depths, Nodes, Roles, give_copies, read_node, read_voter, read_part, read_parts, parts_line, first_line, last_line, part_step, node_step, role_step, voter_step, repeat, cert_of_text}
+use Rattle.certificate.proofs.Cases.{bind_ok, hold_ok, ok_is, repeat_all, read_node_read, read_voter_read, read_part_read, read_parts_read}
 use Rattle.certificate.proofs.Filling.{copy_role}
 use Rattle.certificate.proofs.Validity.{NodesOk, nodes_ok, no_nodes, cert_made, depths_ok}
 
@@ -66,10 +66,10 @@ depth_text : (bytes : List ℕ) (i : ℕ) (s t : Depths) → Spells bytes (part_
 unfolding part_step
 depth_text bytes i s t so_far e =
     let line = bind_ok (next_line s.rest) _ t e in
-    let depth = bind_ok (part_words (length s.depth) (words_of line.0.0) s.rest.line) _ t line.2 in
+    let depth = bind_ok (read_part (length s.depth) line.0.0 s.rest.line) _ t line.2 in
     let made : Depths = record { depth = s.depth ++ depth.0 ∷ []; rest = line.0.1 } in
-    let r = part_words_read (length s.depth) (words_of line.0.0) s.rest.line depth.0 depth.1 in
-    let one = single s.rest line.0 (part_line (length s.depth) depth.0) line.1 r.text in
+    let r = read_part_read (length s.depth) line.0.0 s.rest.line depth.0 depth.1 in
+    let one = single s.rest line.0 (part_line (length s.depth) depth.0) line.1 r.words in
     let all = one_more bytes (part_lines 0 s.depth) (part_line (length s.depth) depth.0 ∷ []) s.rest line.0.1 so_far one in
     let zero_more : 0 + length s.depth ≡ length s.depth = omega arith in
     let lines : part_lines 0 s.depth ++ part_line (length s.depth) depth.0 ∷ [] ≡ part_lines 0 made.depth = ap (λ (q : ℕ). part_lines 0 s.depth ++ part_line q depth.0 ∷ []) (sym zero_more) ∙ sym (part_lines_push 0 s.depth depth.0) in
@@ -100,11 +100,11 @@ unfolding node_step
 nodes_text_keep n h parts bytes i s t so_far e =
     let x = length n.inputs + length s.part in
     let line = bind_ok (next_line s.rest) _ t e in
-    let node = bind_ok (node_words n h x parts (words_of line.0.0) s.rest.line) _ t line.2 in
+    let node = bind_ok (read_node n h x parts line.0.0 s.rest.line) _ t line.2 in
     let roles = bind_ok (give_copies (length h.inputs) x node.0.copies s.rest.line s.roles) _ t node.2 in
-    let r = node_words_read n h x parts (words_of line.0.0) s.rest.line node.0 node.1 in
+    let r = read_node_read n h x parts line.0.0 s.rest.line node.0 node.1 in
     let made : Nodes = record { part = s.part ++ node.0.part ∷ []; copies = s.copies ++ node.0.copies ∷ []; labels = s.labels ++ node.0.labels ∷ []; roles = roles.0; rest = line.0.1 } in
-    let one = single s.rest line.0 (node_line n h x node.0.part node.0.copies node.0.labels) line.1 r.text in
+    let one = single s.rest line.0 (node_line n h x node.0.part node.0.copies node.0.labels) line.1 r.words in
     let all = one_more bytes (node_lines n h (length n.inputs) s.part s.copies s.labels) (node_line n h x node.0.part node.0.copies node.0.labels ∷ []) s.rest line.0.1 so_far.text one in
     let lines = node_lines_push n h (length n.inputs) s.part s.copies s.labels node.0.part node.0.copies node.0.labels so_far.copies so_far.labels in
     subst (NodesText n h bytes) (ok_is made t roles.2) (record {
@@ -138,12 +138,12 @@ role_text n h parts given bytes s t (Some r) copies is so_far e =
 role_text n h parts given bytes s t None copies is so_far e =
     let g = length h.inputs + length s.roles in
     let line = bind_ok (next_line s.rest) _ t e in
-    let role = bind_ok (voter_words n h g parts (words_of line.0.0) s.rest.line) _ t line.2 in
-    let v = voter_words_read n h g parts (words_of line.0.0) s.rest.line role.0 role.1 in
+    let role = bind_ok (read_voter n h g parts line.0.0 s.rest.line) _ t line.2 in
+    let v = read_voter_read n h g parts line.0.0 s.rest.line role.0 role.1 in
     let made : Roles = record { roles = s.roles ++ role.0 ∷ []; rest = line.0.1 } in
     let one = single s.rest line.0 (words_of line.0.0) line.1 refl in
     let all = one_more bytes (voter_lines n h (length h.inputs) s.roles) (words_of line.0.0 ∷ []) s.rest line.0.1 so_far one in
-    let lines : voter_lines n h (length h.inputs) s.roles ++ words_of line.0.0 ∷ [] ≡ voter_lines n h (length h.inputs) made.roles = ap (λ (w : List (List (List ℕ))). voter_lines n h (length h.inputs) s.roles ++ w) (sym v.text) ∙ sym (voter_lines_push n h (length h.inputs) s.roles role.0) in
+    let lines : voter_lines n h (length h.inputs) s.roles ++ words_of line.0.0 ∷ [] ≡ voter_lines n h (length h.inputs) made.roles = ap (λ (w : List (List (List ℕ))). voter_lines n h (length h.inputs) s.roles ++ w) (sym v.words) ∙ sym (voter_lines_push n h (length h.inputs) s.roles role.0) in
     subst (λ (d : Roles). Spells bytes (voter_lines n h (length h.inputs) d.roles) d.rest) (ok_is made t role.2) (subst (λ (w : List (List (List ℕ))). Spells bytes w line.0.1) lines all)
 
 role_text_keep : (n h : Net) (parts : ℕ) (given : List (Option Role)) (bytes : List ℕ) → AreCopies given → (i : ℕ) (s t : Roles) → Spells bytes (voter_lines n h (length h.inputs) s.roles) s.rest → voter_step n h parts given s ≡ Ok t → Spells bytes (voter_lines n h (length h.inputs) t.roles) t.rest
@@ -178,9 +178,9 @@ parts_text : (r : Rest) (x : ℕ × Rest) → parts_line r ≡ Ok x → Spells r
 unfolding parts_line
 parts_text r x e =
     let line = bind_ok (next_line r) _ x e in
-    let count = bind_ok (parts_words (words_of line.0.0) r.line) _ x line.2 in
+    let count = bind_ok (read_parts line.0.0 r.line) _ x line.2 in
     let made : ℕ × Rest = (count.0, line.0.1) in
-    let words = (parts_words_read (words_of line.0.0) r.line count.0 count.1).0 in
+    let words = (read_parts_read line.0.0 r.line count.0 count.1).0 in
     subst (λ (y : ℕ × Rest). Spells r.bytes ((codes "parts" ∷ decimal y.0 ∷ []) ∷ []) y.1) (ok_is made x count.2) (single r line.0 (codes "parts" ∷ decimal count.0 ∷ []) line.1 words)
 
 copies_alone : (n h : Net) (parts i : ℕ) (s : Nodes) → NodesOk n h parts i s → AreCopies s.roles

@@ -3,6 +3,7 @@ pub mod LineLaws
 pub mod Names
 pub mod Steps
 pub mod Cases
+pub mod FormLaws
 pub mod Filling
 pub mod Validity
 pub mod Found

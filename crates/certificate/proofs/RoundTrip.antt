@@ -2,7 +2,7 @@
 use Rattle.std.proofs.Common.{◌≡◌, ℕ, suc, ◌+◌, ◌-◌, ◌^◌, ◌<◌, ◌≤◌, true, List, [], ◌∷◌, ◌++◌, length, get_or, Option, Some, None, Result, Ok, refl, sym, ap, subst, ◌∙◌, arith}
 use Rattle.std.proofs.Common.{inl, inr, append_assoc, set, slice_get}
 use Rattle.std.specs.Prelude.{codes, is_none}
-use Rattle.std.specs.List.{flat_map, AllByRecursion}
+use Rattle.std.specs.List.{flat_map, join_with_byte, AllByRecursion}
 use Rattle.std.specs.Fmt.{decimal}
 use Rattle.std.proofs.lemmas.List.{length-append, append-nil}
 use Rattle.std.proofs.Math.ListN.{get_or-append}
@@ -30,7 +30,7 @@ use Rattle.flat_net.proofs.Slots.{slot_at, slot_within}
 use Rattle.std.proofs.lemmas.Option.{slice_get-get_or}
 use Rattle.std.proofs.lemmas.List.Concat.{flat_map-append}
 use Rattle.certificate.proofs.Cases.{AreSmall}
-use Rattle.certificate.proofs.Again.{coded, number_word, AreWords, words_again, next_of, part_line_ok, part_words_again, parts_words_again, node_line_ok, node_words_again, voter_text, voter_text_ok, voter_words_again}
+use Rattle.certificate.proofs.Again.{coded, words_again, parts_line_ok, next_of, part_line_ok, read_part_again, read_parts_again, node_line_ok, read_node_again, voter_text, voter_text_ok, read_voter_again}
 
 -- where the steps lead
 pub record Leads {S : Type 0} (step : S → Result S CertFault) (count : ℕ) (s : S) (P : S → Type 0) : Type 0 where
@@ -59,7 +59,7 @@ part_step_again s d tail low small e =
     let words = codes "part" ∷ decimal p ∷ codes "depth" ∷ decimal d ∷ [] in
     let next = next_of s.rest (codes "part") (decimal p ∷ codes "depth" ∷ decimal d ∷ []) tail ok.words e in
     let w = words_again (codes "part") (decimal p ∷ codes "depth" ∷ decimal d ∷ []) ok.words in
-    rw next (rw (w, part_words_again p d s.rest.line low small) refl)
+    rw next (rw (read_part_again (join_with_byte 32 words) p d s.rest.line w ok.full low small) refl)
 
 depths_again : (more : List ℕ) (s : Depths) (tail : List ℕ) → AllByRecursion (λ d. d < 2 ^ 32) more → length s.depth + length more ≤ 2 ^ 32 → s.rest.bytes ≡ flat_map line_text (part_lines (length s.depth) more) ++ tail
     → Leads part_step (length more) s (λ t. (t.depth ≡ s.depth ++ more) × (t.rest.bytes ≡ tail))
@@ -155,12 +155,12 @@ node_step_again n h parts p t l s tail valid valid_h small node one long roles_l
     let more : List (List ℕ) = name_of n x ∷ decimal p ∷ three_words (name_of h) t ++ three_words decimal l in
     let next = next_of s.rest (codes "node") more tail ok.words e in
     let w = words_again (codes "node") more ok.words in
-    let line = node_words_again n h x p parts t l s.rest.line valid valid_h node one.copies one.part small one.labels ok.full in
+    let line = read_node_again n h (join_with_byte 32 (codes "node" ∷ more)) x p parts t l s.rest.line w valid valid_h node one.copies one.part small one.labels ok.full in
     let in_range = in_range_of h t (length s.roles) roles_long one.copies in
     let given = copies_again (IsCopyOf (length n.inputs) s.copies) (length h.inputs) x t s.rest.line s.roles filled in_range fresh one.distinct in
     let same : give_copies (length h.inputs) (length n.inputs + length s.copies) t s.rest.line s.roles ≡ Ok given.0 = subst (λ (m : ℕ). give_copies (length h.inputs) (length n.inputs + m) t s.rest.line s.roles ≡ Ok given.0) long given.1 in
     let f = copies_fill (length h.inputs) (length n.inputs) s.copies t s.rest.line s.roles given.0 filled in_range same in
-    (given.0, rw next (rw (w, line, given.1) refl), f.0, f.1)
+    (given.0, rw next (rw (line, given.1) refl), f.0, f.1)
   where
     in_range_of : (h : Net) (t : Three) (count : ℕ) → count ≡ length h.nodes → AreNodes h t → (c : CopyNo) → (length h.inputs ≤ of_copy t c) × (of_copy t c < length h.inputs + count)
     in_range_of h t count e nodes First = (nodes.0.0, omega (arith, nodes.0.1))
@@ -258,7 +258,7 @@ voter_step_again n h parts x p c s tail valid valid_h small node_h node low e =
     let more : List (List ℕ) = name_of h g ∷ name_of n x ∷ decimal p ∷ decimal (copy_number c) ∷ [] in
     let next = next_of s.rest (codes "voter") more tail ok.words e in
     let w = words_again (codes "voter") more ok.words in
-    rw next (rw (w, voter_words_again n h g x p parts c s.rest.line valid valid_h node_h node low small ok.full) refl)
+    rw next (rw (read_voter_again n h (join_with_byte 32 (codes "voter" ∷ more)) g x p parts c s.rest.line w valid valid_h node_h node low small ok.full) refl)
 
 abbrev RolesDone : PlainCert → List ℕ → Roles → Type 0
 RolesDone k tail s = (s.roles ≡ k.roles) × (s.rest.bytes ≡ tail)
@@ -380,10 +380,11 @@ first_line_again n tail = rw (next_of (record { line = n; bytes = line_text (cod
 parts_line_again : (n count : ℕ) (tail : List ℕ) → count < 2 ^ 32 → parts_line (record { line = n; bytes = line_text (codes "parts" ∷ decimal count ∷ []) ++ tail }) ≡ Ok (count, record { line = n + 1; bytes = tail })
 unfolding parts_line
 parts_line_again n count tail small =
-    let ok : AreWords (codes "parts" ∷ decimal count ∷ []) = (coded (codes "parts") refl, (number_word count (omega arith), tt)) in
+    let line = parts_line_ok count small in
+    let ok = line.words in
     let next = next_of (record { line = n; bytes = line_text (codes "parts" ∷ decimal count ∷ []) ++ tail }) (codes "parts") (decimal count ∷ []) tail ok refl in
     let w = words_again (codes "parts") (decimal count ∷ []) ok in
-    rw next (rw (w, parts_words_again count n small) refl)
+    rw next (rw (read_parts_again (join_with_byte 32 (codes "parts" ∷ decimal count ∷ [])) count n w line.full small) refl)
 
 last_line_again : (r : Rest) → r.bytes ≡ flat_map line_text ((codes "end" ∷ []) ∷ []) → last_line r ≡ Ok (record { line = r.line + 1; bytes = [] })
 unfolding last_line

@@ -11,11 +11,11 @@ use Rattle.flat_net.specs.Net.{Net, IsValid, slot}
 use Rattle.flat_net.proofs.Slots.{slot_at, slot_within}
 use Rattle.certificate.specs.declared.role.Role.{Role}
 use Rattle.certificate.specs.declared.role.Role.TheVariants.{Copy, Voter}
-use Rattle.certificate.specs.Lines.{Rest, next_line, words_of}
+use Rattle.certificate.specs.Lines.{Rest, next_line}
 use Rattle.certificate.specs.Plain.{IsNode, AreNodes}
 use Rattle.certificate.specs.Cert.{PlainCert, IsCert, Fits, RoleIsInRange, role_of, copy_of, three_or_input}
-use Rattle.certificate.specs.Reading.{Depths, Nodes, Roles, give_copies, node_words, voter_words, part_words, parts_words, parts_line, first_line, last_line, part_step, node_step, role_step, voter_step, repeat, cert_of_text}
-use Rattle.certificate.proofs.Cases.{AreSmall, bind_ok, ok_is, repeat_all, node_words_read, voter_words_read, part_words_read, parts_words_read}
+use Rattle.certificate.specs.Reading.{Depths, Nodes, Roles, give_copies, read_node, read_voter, read_part, read_parts, parts_line, first_line, last_line, part_step, node_step, role_step, voter_step, repeat, cert_of_text}
+use Rattle.certificate.proofs.Cases.{AreSmall, bind_ok, ok_is, repeat_all, read_node_read, read_voter_read, read_part_read, read_parts_read}
 use Rattle.certificate.proofs.Filling.{Filled, IsCopyOf, copies_fill, nothing_filled, no_three, copy_role}
 
 -- ---- one element more
@@ -49,9 +49,9 @@ depths_keep : (i : ℕ) (s t : Depths) → DepthsOk i s → part_step s ≡ Ok t
 unfolding part_step
 depths_keep i s t ok e =
     let line = bind_ok (next_line s.rest) _ t e in
-    let depth = bind_ok (part_words (length s.depth) (words_of line.0.0) s.rest.line) _ t line.2 in
+    let depth = bind_ok (read_part (length s.depth) line.0.0 s.rest.line) _ t line.2 in
     let made : Depths = record { depth = s.depth ++ depth.0 ∷ []; rest = line.0.1 } in
-    let r = part_words_read (length s.depth) (words_of line.0.0) s.rest.line depth.0 depth.1 in
+    let r = read_part_read (length s.depth) line.0.0 s.rest.line depth.0 depth.1 in
     subst (DepthsOk (i + 1)) (ok_is made t depth.2) (record {
       long = length-append s.depth (depth.0 ∷ []) ∙ omega (arith, ok.long);
       small = All-push (λ d. d < 2 ^ 32) s.depth depth.0 ok.small r.small;
@@ -81,9 +81,9 @@ unfolding node_step
 nodes_keep n h parts i s t ok e =
     let x = length n.inputs + length s.part in
     let line = bind_ok (next_line s.rest) _ t e in
-    let node = bind_ok (node_words n h x parts (words_of line.0.0) s.rest.line) _ t line.2 in
+    let node = bind_ok (read_node n h x parts line.0.0 s.rest.line) _ t line.2 in
     let roles = bind_ok (give_copies (length h.inputs) x node.0.copies s.rest.line s.roles) _ t node.2 in
-    let r = node_words_read n h x parts (words_of line.0.0) s.rest.line node.0 node.1 in
+    let r = read_node_read n h x parts line.0.0 s.rest.line node.0 node.1 in
     let same : length s.part ≡ length s.copies = omega (arith, ok.part, ok.copies) in
     let given : give_copies (length h.inputs) (length n.inputs + length s.copies) node.0.copies s.rest.line s.roles ≡ Ok roles.0 = subst (λ (m : ℕ). give_copies (length h.inputs) (length n.inputs + m) node.0.copies s.rest.line s.roles ≡ Ok roles.0) same roles.1 in
     let f = copies_fill (length h.inputs) (length n.inputs) s.copies node.0.copies s.rest.line s.roles roles.0 ok.filled (each_node h node.0.copies (length s.roles) ok.roles r.copies) given in
@@ -149,8 +149,8 @@ role_keeps n h parts given i s t (Some r) ok is e =
     subst (RolesOk n parts given (i + 1)) (ok_is made t e) (role_added n parts given i s r s.rest ok (λ q f. cc) (inl is))
 role_keeps n h parts given i s t None ok is e =
     let line = bind_ok (next_line s.rest) _ t e in
-    let role = bind_ok (voter_words n h (length h.inputs + length s.roles) parts (words_of line.0.0) s.rest.line) _ t line.2 in
-    let v = voter_words_read n h (length h.inputs + length s.roles) parts (words_of line.0.0) s.rest.line role.0 role.1 in
+    let role = bind_ok (read_voter n h (length h.inputs + length s.roles) parts line.0.0 s.rest.line) _ t line.2 in
+    let v = read_voter_read n h (length h.inputs + length s.roles) parts line.0.0 s.rest.line role.0 role.1 in
     let made : Roles = record { roles = s.roles ++ role.0 ∷ []; rest = line.0.1 } in
     subst (RolesOk n parts given (i + 1)) (ok_is made t role.2) (role_added n parts given i s role.0 line.0.1 ok (λ q f. absurd cc) (inr (record { x = v.x; p = v.p; c = v.c; is = v.is; node = v.node; part = v.part })))
 
@@ -273,6 +273,6 @@ cert_of_text_ok n h bytes k valid valid_h e =
     parts_small : (r : Rest) (p : ℕ × Rest) → parts_line r ≡ Ok p → p.0 < 2 ^ 32
     parts_small r p f =
         let line = bind_ok (next_line r) _ p f in
-        let count = bind_ok (parts_words (words_of line.0.0) r.line) _ p line.2 in
+        let count = bind_ok (read_parts line.0.0 r.line) _ p line.2 in
         let made : ℕ × Rest = (count.0, line.0.1) in
-        subst (λ (q : ℕ × Rest). q.0 < 2 ^ 32) (ok_is made p count.2) (parts_words_read (words_of line.0.0) r.line count.0 count.1).1
+        subst (λ (q : ℕ × Rest). q.0 < 2 ^ 32) (ok_is made p count.2) (read_parts_read line.0.0 r.line count.0 count.1).1

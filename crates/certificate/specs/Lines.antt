@@ -1,11 +1,12 @@
--- Lines and words of a text.
-use Rattle.std.specs.Prelude.{ℕ, ◌+◌, ◌==◌, ◌&&◌, Bool, nat_lt, List, [], length, Option, Some, None, Result, Ok, Err, if◌then◌else◌, slice_index_or}
-use Rattle.std.specs.List.{position_or_len, before_first, after_first, slice_split}
+-- The lines of a text, and the words of a line.
+use Rattle.std.specs.Prelude.{ℕ, ◌+◌, ◌==◌, ◌&&◌, not, Bool, nat_lt, List, [], length, Option, Some, None, Result, Ok, Err, if◌then◌else◌, slice_index_or}
+use Rattle.std.specs.List.{list_all, position_or_len, before_first, after_first, slice_split}
 use Rattle.std.specs.Str.{bytes_eq}
 use Rattle.tmr_base.specs.Numbers.{number_of}
 use Rattle.certificate.specs.declared.fault.CertFault.{CertFault}
 use Rattle.certificate.specs.declared.fault.CertFault.TheVariants.{Line}
 
+-- one after the other, up to the first fault
 infixl 10 ◌>>=◌
 abbrev pub ◌>>=◌ : {A B : Type 0} → Result A CertFault → (A → Result B CertFault) → Result B CertFault
 (Ok x) >>= f = f x
@@ -45,9 +46,18 @@ words_of line = slice_split is_blank line
 abbrev pub word : List (List ℕ) → ℕ → List ℕ
 word words i = slice_index_or words i []
 
--- as many words, of which this is the first
+abbrev pub is_full : List ℕ → Bool
+is_full w = not (length w == 0)
+
+-- as many words, none of them empty, of which this is the first
 abbrev pub has_form : List (List ℕ) → ℕ → List ℕ → Bool
-has_form words count first = length words == count && bytes_eq (word words 0) first
+has_form words count first = length words == count && (list_all is_full words && bytes_eq (word words 0) first)
+
+-- the words of a line of this form
+unfoldable pub form_words : List ℕ → ℕ → List ℕ → ℕ → Result (List (List ℕ)) CertFault
+form_words text count first line = do
+  _ ← hold (has_form (words_of text) count first) (Line line)
+  Ok (words_of text)
 
 -- a decimal number below 2 ^ 32
 unfoldable pub number_at : List ℕ → ℕ → Result ℕ CertFault

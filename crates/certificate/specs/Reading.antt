@@ -1,6 +1,5 @@
 -- Reading a certificate's text for two designs: what its lines say, or the first fault.
-use Rattle.std.specs.Prelude.{ℕ, zero, suc, ◌+◌, ◌-◌, ◌==◌, ◌&&◌, not, Bool, nat_lt, List, [], ◌∷◌, ◌++◌, length, replicate, codes, Option, Some, None, is_none, Result, Ok, if◌then◌else◌, slice_index_or, set}
-use Rattle.std.specs.List.{list_all}
+use Rattle.std.specs.Prelude.{ℕ, zero, suc, ◌+◌, ◌-◌, ◌==◌, nat_lt, List, [], ◌∷◌, ◌++◌, length, replicate, codes, Option, Some, None, is_none, Result, Ok, if◌then◌else◌, slice_index_or, set}
 use Rattle.std.specs.Str.{bytes_eq}
 use Rattle.tmr_base.specs.declared.copies.CopyNo.{CopyNo}
 use Rattle.tmr_base.specs.declared.copies.CopyNo.TheVariants.{First, Second, Third}
@@ -11,7 +10,7 @@ use Rattle.certificate.specs.declared.fault.CertFault.TheVariants.{Line, Unknown
 use Rattle.certificate.specs.declared.role.Role.{Role}
 use Rattle.certificate.specs.declared.role.Role.TheVariants.{Copy, Voter}
 use Rattle.certificate.specs.Cert.{PlainCert}
-use Rattle.certificate.specs.Lines.{◌>>=◌, want, hold, Rest, next_line, words_of, word, has_form, number_at}
+use Rattle.certificate.specs.Lines.{◌>>=◌, want, hold, Rest, next_line, word, form_words, number_at}
 
 -- as many steps, up to the first fault
 unfoldable pub repeat : {S : Type 0} → ℕ → (S → Result S CertFault) → S → Result S CertFault
@@ -33,15 +32,16 @@ last_line r = do
   Ok line.1
 
 -- how many partitions there are
-unfoldable pub parts_words : List (List ℕ) → ℕ → Result ℕ CertFault
-parts_words words line = do
-  _ ← hold (has_form words 2 (codes "parts")) (Line line)
+unfoldable pub read_parts : List ℕ → ℕ → Result ℕ CertFault
+read_parts text line = do
+  words ← form_words text 2 (codes "parts") line
   number_at (word words 1) line
 
 -- the depth of partition p
-unfoldable pub part_words : ℕ → List (List ℕ) → ℕ → Result ℕ CertFault
-part_words p words line = do
-  _ ← hold (has_form words 4 (codes "part") && bytes_eq (word words 2) (codes "depth")) (Line line)
+unfoldable pub read_part : ℕ → List ℕ → ℕ → Result ℕ CertFault
+read_part p text line = do
+  words ← form_words text 4 (codes "part") line
+  _ ← hold (bytes_eq (word words 2) (codes "depth")) (Line line)
   q ← number_at (word words 1) line
   depth ← number_at (word words 3) line
   _ ← hold (q == p) (Line line)
@@ -69,13 +69,9 @@ three_numbers a b c line = do
   third ← number_at c line
   Ok (record { first = first; second = second; third = third })
 
-abbrev pub is_full : List ℕ → Bool
-is_full w = not (length w == 0)
-
--- the partition and the labels of a node's line, which has the right form
+-- the partition and the labels of a node's line
 unfoldable pub node_numbers : List (List ℕ) → ℕ → Result (ℕ × Three) CertFault
 node_numbers words line = do
-  _ ← hold (has_form words 9 (codes "node") && list_all is_full words) (Line line)
   p ← number_at (word words 2) line
   labels ← three_numbers (word words 6) (word words 7) (word words 8) line
   Ok (p, labels)
@@ -87,8 +83,9 @@ pub record NodeLine : Type 0 where
   pub labels : Three
 
 -- the line of original node x, where there are so many partitions
-unfoldable pub node_words : Net → Net → ℕ → ℕ → List (List ℕ) → ℕ → Result NodeLine CertFault
-node_words n h x parts words line = do
+unfoldable pub read_node : Net → Net → ℕ → ℕ → List ℕ → ℕ → Result NodeLine CertFault
+read_node n h x parts text line = do
+  words ← form_words text 9 (codes "node") line
   numbers ← node_numbers words line
   named ← known n (word words 1) line
   copies ← known_three h (word words 3) (word words 4) (word words 5) line
@@ -116,7 +113,7 @@ pub record Depths : Type 0 where
 unfoldable pub part_step : Depths → Result Depths CertFault
 part_step s = do
   line ← next_line s.rest
-  depth ← part_words (length s.depth) (words_of line.0) s.rest.line
+  depth ← read_part (length s.depth) line.0 s.rest.line
   Ok (record { depth = s.depth ++ depth ∷ []; rest = line.1 })
 
 -- what was read of the nodes' lines, the roles that they give, and what is left
@@ -130,7 +127,7 @@ pub record Nodes : Type 0 where
 unfoldable pub node_step : Net → Net → ℕ → Nodes → Result Nodes CertFault
 node_step n h parts s = do
   line ← next_line s.rest
-  node ← node_words n h (length n.inputs + length s.part) parts (words_of line.0) s.rest.line
+  node ← read_node n h (length n.inputs + length s.part) parts line.0 s.rest.line
   roles ← give_copies (length h.inputs) (length n.inputs + length s.part) node.copies s.rest.line s.roles
   Ok (record {
     part = s.part ++ node.part ∷ [];
@@ -143,17 +140,17 @@ node_step n h parts s = do
 abbrev pub copy_named : List ℕ → Option CopyNo
 copy_named w = if bytes_eq w (codes "0") then Some First else if bytes_eq w (codes "1") then Some Second else if bytes_eq w (codes "2") then Some Third else None
 
--- the partition and the copy of a voter's line, which has the right form
+-- the partition and the copy of a voter's line
 unfoldable pub voter_numbers : List (List ℕ) → ℕ → Result (ℕ × CopyNo) CertFault
 voter_numbers words line = do
-  _ ← hold (has_form words 5 (codes "voter") && list_all is_full words) (Line line)
   p ← number_at (word words 3) line
   c ← want (copy_named (word words 4)) (Line line)
   Ok (p, c)
 
 -- the line of the voter at hardened net g
-unfoldable pub voter_words : Net → Net → ℕ → ℕ → List (List ℕ) → ℕ → Result Role CertFault
-voter_words n h g parts words line = do
+unfoldable pub read_voter : Net → Net → ℕ → ℕ → List ℕ → ℕ → Result Role CertFault
+read_voter n h g parts text line = do
+  words ← form_words text 5 (codes "voter") line
   numbers ← voter_numbers words line
   named ← known h (word words 1) line
   x ← known n (word words 2) line
@@ -171,7 +168,7 @@ abbrev pub role_step : Net → Net → ℕ → Option Role → Roles → Result 
 role_step n h parts (Some role) s = Ok (record { roles = s.roles ++ role ∷ []; rest = s.rest })
 role_step n h parts None s = do
   line ← next_line s.rest
-  role ← voter_words n h (length h.inputs + length s.roles) parts (words_of line.0) s.rest.line
+  role ← read_voter n h (length h.inputs + length s.roles) parts line.0 s.rest.line
   Ok (record { roles = s.roles ++ role ∷ []; rest = line.1 })
 
 unfoldable pub voter_step : Net → Net → ℕ → List (Option Role) → Roles → Result Roles CertFault
@@ -180,7 +177,7 @@ voter_step n h parts given s = role_step n h parts (slice_index_or given (length
 unfoldable pub parts_line : Rest → Result (ℕ × Rest) CertFault
 parts_line r = do
   line ← next_line r
-  count ← parts_words (words_of line.0) r.line
+  count ← read_parts line.0 r.line
   Ok (count, line.1)
 
 -- the certificate that the text gives for the designs n and h

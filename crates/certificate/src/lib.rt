@@ -8,6 +8,7 @@
 mod certificate;
 mod draft;
 mod fault;
+mod forms;
 mod line_kinds;
 mod lines;
 mod reading;

@@ -1,20 +1,18 @@
 //! The kinds of lines: their first and last, partitions, nodes and voters.
-ghost use Rattle.std.specs.Prelude.{◌≡◌, ◌+◌, ◌<◌, ◌≤◌, ◌==◌, ◌&&◌, ℕ, Some, None, map, length, codes, IfOk, Ok};
-ghost use Rattle.std.specs.List.{list_all};
-ghost use Rattle.std.specs.Str.{bytes_eq};
+ghost use Rattle.std.specs.Prelude.{◌≡◌, ◌+◌, ◌<◌, ◌≤◌, Some, None, length, IfOk};
 ghost use Rattle.flat_net.specs.Net.{net_count};
 ghost use Rattle.flat_net.specs.Nodes.{number_of};
 ghost use Rattle.certificate.specs.Gives.{Gives};
-ghost use Rattle.certificate.specs.Lines.{has_form};
 ghost use Rattle.certificate.specs.Plain.{texts, plain_line, AreNodes};
 ghost use Rattle.certificate.specs.Threes.{three_of, three_ids};
-ghost use Rattle.certificate.specs.Reading.{first_line, last_line, parts_words, part_words, known, known_three, three_numbers, is_full, node_numbers, node_words, copy_named, voter_numbers, voter_words, parts_line};
+ghost use Rattle.certificate.specs.Reading.{first_line, last_line, read_parts, read_part, known, known_three, three_numbers, node_numbers, read_node, copy_named, voter_numbers, read_voter, parts_line};
 
-use crate::lines::{Lines, number, words};
+use crate::forms::form_words;
+use crate::lines::{Lines, number};
 use crate::{CertFault, Role};
-use tmr_base::{CopyNo, Name, NameFault, NetId, PartId};
 use flat_net::FlatNet;
 use std::alloc::Global;
+use tmr_base::{CopyNo, Name, NameFault, NetId, PartId};
 
 /// What a node's line says.
 #[derive(Clone, Copy, Debug, Drop)]
@@ -53,41 +51,21 @@ pub fn last_line(lines: &mut Lines<'_>) -> Result<(), CertFault>
     Ok(())
 }
 
-/// As many words, of which this is the first.
-fn has_form(words: &[&[u8]], count: usize, first: &[u8]) -> bool
-    requires { 0 < count }
-    ensures { result ≡ has_form (texts words.now) count first.now }
+#[tactic(auto, unfolding(crate::specs::Reading::read_parts))]
+fn read_parts(alloc: Global, text: &[u8], line: u32) -> Result<u32, CertFault>
+    ensures { Gives (λ n. n) result (read_parts text.now line) }
 {
-    words.len() == count && words[0] == first
-}
-
-/// No word is empty.
-fn are_full(words: &[&[u8]]) -> bool
-    ensures { result ≡ list_all is_full (texts words.now) }
-{
-    for word in words {
-        if word.is_empty() {
-            return false;
-        }
-    }
-    true
-}
-
-#[tactic(auto, unfolding(crate::specs::Reading::parts_words))]
-fn parts_words(words: &[&[u8]], line: u32) -> Result<u32, CertFault>
-    ensures { Gives (λ n. n) result (parts_words (texts words.now) line) }
-{
-    if !has_form(words, 2, b"parts") {
-        return Err(CertFault::Line(line));
-    }
+    let words = form_words(alloc, text, 2, b"parts", line)?;
     number(words[1], line)
 }
 
-#[tactic(auto, unfolding(crate::specs::Reading::part_words))]
-pub fn part_words(p: u32, words: &[&[u8]], line: u32) -> Result<u32, CertFault>
-    ensures { Gives (λ n. n) result (part_words p (texts words.now) line) }
+/// The depth of partition p.
+#[tactic(auto, unfolding(crate::specs::Reading::read_part))]
+pub fn read_part(alloc: Global, p: u32, text: &[u8], line: u32) -> Result<u32, CertFault>
+    ensures { Gives (λ n. n) result (read_part p text.now line) }
 {
-    if !(has_form(words, 4, b"part") && words[2] == b"depth".as_slice()) {
+    let words = form_words(alloc, text, 4, b"part", line)?;
+    if words[2] != b"depth".as_slice() {
         return Err(CertFault::Line(line));
     }
     let q = number(words[1], line)?;
@@ -148,15 +126,12 @@ fn three_numbers(a: &[u8], b: &[u8], c: &[u8], line: u32) -> Result<[u32; 3], Ce
     Ok([first, second, third])
 }
 
-/// The partition and the labels of a node's line, which has the right form.
+/// The partition and the labels of a node's line.
 #[tactic(auto, unfolding(crate::specs::Reading::node_numbers))]
 fn node_numbers(words: &[&[u8]], line: u32) -> Result<(u32, [u32; 3]), CertFault>
-    ensures numbers { Gives (λ x. (x.0, three_of x.1)) result (node_numbers (texts words.now) line) }
-    ensures form { IfOk result (λ _. length words.now ≡ 9) }
+    requires { length words.now ≡ 9 }
+    ensures { Gives (λ x. (x.0, three_of x.1)) result (node_numbers (texts words.now) line) }
 {
-    if !(has_form(words, 9, b"node") && are_full(words)) {
-        return Err(CertFault::Line(line));
-    }
     let part = number(words[2], line)?;
     let labels = three_numbers(words[6], words[7], words[8], line)?;
     Ok((part, labels))
@@ -169,25 +144,25 @@ pub fn parts_line(alloc: Global, lines: &mut Lines<'_>) -> Result<u32, CertFault
 {
     let line = lines.number();
     let text = lines.next()?;
-    let words = words(alloc, text)?;
-    parts_words(&words, line)
+    read_parts(alloc, text, line)
 }
 
 /// The line of original node x, where there are so many partitions.
-#[tactic(auto, unfolding(crate::specs::Reading::node_words))]
-pub fn node_words(
+#[tactic(auto, unfolding(crate::specs::Reading::read_node))]
+pub fn read_node(
     alloc: Global,
     n: &FlatNet,
     h: &FlatNet,
     x: NetId,
     parts: u32,
-    words: &[&[u8]],
+    text: &[u8],
     line: u32,
 ) -> Result<NodeLine, CertFault>
-    ensures node { Gives plain_line result (node_words n.now.net h.now.net x.0 parts (texts words.now) line) }
+    ensures node { Gives plain_line result (read_node n.now.net h.now.net x.0 parts text.now line) }
     ensures range { IfOk result (λ l. AreNodes h.now.net (three_ids l.copies)) }
 {
-    let (part, labels) = node_numbers(words, line)?;
+    let words = form_words(alloc, text, 9, b"node", line)?;
+    let (part, labels) = node_numbers(&words, line)?;
     let named = known(alloc, n, words[1], line)?;
     let copies = known_three(alloc, h, words[3], words[4], words[5], line)?;
     if named.0 != x.0 {
@@ -219,15 +194,12 @@ fn copy_named(word: &[u8]) -> Option<CopyNo>
     None
 }
 
-/// The partition and the copy of a voter's line, which has the right form.
+/// The partition and the copy of a voter's line.
 #[tactic(auto, unfolding(crate::specs::Reading::voter_numbers))]
 fn voter_numbers(words: &[&[u8]], line: u32) -> Result<(u32, CopyNo), CertFault>
-    ensures numbers { Gives (λ x. x) result (voter_numbers (texts words.now) line) }
-    ensures form { IfOk result (λ _. length words.now ≡ 5) }
+    requires { length words.now ≡ 5 }
+    ensures { Gives (λ x. x) result (voter_numbers (texts words.now) line) }
 {
-    if !(has_form(words, 5, b"voter") && are_full(words)) {
-        return Err(CertFault::Line(line));
-    }
     let part = number(words[3], line)?;
     match copy_named(words[4]) {
         Some(copy) => Ok((part, copy)),
@@ -236,19 +208,20 @@ fn voter_numbers(words: &[&[u8]], line: u32) -> Result<(u32, CopyNo), CertFault>
 }
 
 /// The line of the voter at hardened node g.
-#[tactic(auto, unfolding(crate::specs::Reading::voter_words))]
-pub fn voter_words(
+#[tactic(auto, unfolding(crate::specs::Reading::read_voter))]
+pub fn read_voter(
     alloc: Global,
     n: &FlatNet,
     h: &FlatNet,
     g: NetId,
     parts: u32,
-    words: &[&[u8]],
+    text: &[u8],
     line: u32,
 ) -> Result<Role, CertFault>
-    ensures { Gives (λ role. role) result (voter_words n.now.net h.now.net g.0 parts (texts words.now) line) }
+    ensures { Gives (λ role. role) result (read_voter n.now.net h.now.net g.0 parts text.now line) }
 {
-    let (part, copy) = voter_numbers(words, line)?;
+    let words = form_words(alloc, text, 5, b"voter", line)?;
+    let (part, copy) = voter_numbers(&words, line)?;
     let named = known(alloc, h, words[1], line)?;
     let node = known(alloc, n, words[2], line)?;
     if named.0 != g.0 {

@@ -1,14 +1,13 @@
-//! The lines of a text, and the words of a line.
-ghost use Rattle.std.specs.Prelude.{◌≡◌, ◌==◌, map, IfOk};
+//! The lines of a text, and the numbers in them.
+ghost use Rattle.std.specs.Prelude.{◌≡◌, ◌==◌};
 ghost use Rattle.certificate.specs.Gives.{Gives};
-ghost use Rattle.certificate.specs.Lines.{next_line, words_of, number_at, is_line_feed};
+ghost use Rattle.certificate.specs.Lines.{next_line, number_at, is_line_feed};
 ghost use Rattle.std.specs.List.{position_or_len};
 ghost use Rattle.std.specs.Prelude.{◌+◌, ◌<◌, ◌^◌, length};
 
 use crate::CertFault;
-use tmr_base::read_u32;
-use std::alloc::{AllocError, Global};
 use std::marker::Model;
+use tmr_base::read_u32;
 
 /// What is still to be read of a text, and the number of its next line.
 #[derive(Drop)]
@@ -83,13 +82,6 @@ impl<'a> Lines<'a> {
         self.bytes = rest;
         Ok(line)
     }
-}
-
-/// The words of a line.
-pub fn words(alloc: Global, line: &[u8]) -> Result<Vec<&[u8]>, AllocError>
-    ensures { IfOk result (λ v. map (λ x. x.now) v.items ≡ words_of line.now) }
-{
-    line.split(|b| *b == b' ').collect(alloc)
 }
 
 /// A number, in the line with this number.

@@ -10,12 +10,12 @@ ghost use Rattle.certificate.specs.Reading.{give, give_copies, part_step, node_s
 ghost use Rattle.std.specs.Prelude.{◌^◌, IfErr};
 ghost use Rattle.certificate.specs.declared.fault.CertFault.TheVariants.{Memory};
 
-use crate::line_kinds::{first_line, last_line, node_words, part_words, parts_line, voter_words};
-use crate::lines::{Lines, words};
+use crate::line_kinds::{first_line, last_line, parts_line, read_node, read_part, read_voter};
+use crate::lines::Lines;
 use crate::{CertDraft, CertFault, Role};
-use tmr_base::{CopyNo, NetId};
 use flat_net::FlatNet;
 use std::alloc::Global;
+use tmr_base::{CopyNo, NetId};
 
 /// What was read of the nodes' lines, and the roles that they give to hardened nodes.
 #[derive(Drop)]
@@ -88,8 +88,7 @@ fn part_step(alloc: Global, depths: &mut Vec<u32>, lines: &mut Lines<'_>) -> Res
 {
     let line = lines.number();
     let text = lines.next()?;
-    let words = words(alloc, text)?;
-    let depth = part_words(depths.len() as u32, &words, line)?;
+    let depth = read_part(alloc, depths.len() as u32, text, line)?;
     depths.push(depth)?;
     Ok(())
 }
@@ -112,9 +111,8 @@ fn node_step(
 {
     let line = lines.number();
     let text = lines.next()?;
-    let words = words(alloc, text)?;
     let x = NetId(n.input_count() + nodes.part.len() as u32);
-    let node = node_words(alloc, n, h, x, parts, &words, line)?;
+    let node = read_node(alloc, n, h, x, parts, text, line)?;
     give_copies(&mut nodes.roles, h.input_count(), x, node.copies, line)?;
     nodes.part.push(node.part)?;
     nodes.copies.push(node.copies)?;
@@ -191,9 +189,8 @@ fn voter_step(
         None => {
             let line = lines.number();
             let text = lines.next()?;
-            let words = words(alloc, text)?;
             let g = NetId(inputs + roles.len() as u32);
-            let role = voter_words(alloc, n, h, g, parts, &words, line)?;
+            let role = read_voter(alloc, n, h, g, parts, text, line)?;
             roles.push(role)?;
         }
     }
