@@ -1,1 +1,12 @@
 pub mod TripleLaws
+pub mod LineLaws
+pub mod Names
+pub mod Steps
+pub mod Cases
+pub mod FormLaws
+pub mod Filling
+pub mod Validity
+pub mod Found
+pub mod Again
+pub mod RoundTrip
+pub mod Puts

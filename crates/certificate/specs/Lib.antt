@@ -5,3 +5,9 @@ pub mod Schedules
 pub mod Threes
 pub mod View
 pub mod Draft
+pub mod Lines
+pub mod Gives
+pub mod Text
+pub mod Reading
+pub mod Plain
+pub mod Tables

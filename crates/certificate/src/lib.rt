@@ -7,9 +7,17 @@
 
 mod certificate;
 mod draft;
+mod fault;
+mod forms;
+mod line_kinds;
+mod lines;
+mod reading;
 mod role;
+mod text;
 mod triples;
 
 pub use certificate::Certificate;
 pub use draft::CertDraft;
+pub use fault::CertFault;
 pub use role::Role;
+pub use text::read_cert;

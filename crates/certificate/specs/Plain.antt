@@ -1,0 +1,24 @@
+-- What is read, without where it lies in memory.
+use Rattle.std.specs.Prelude.{ℕ, ◌<◌, ◌≤◌, List, map, length}
+use Rattle.tmr_base.specs.Copies.{Three}
+use Rattle.flat_net.specs.Net.{Net, net_count}
+use Rattle.std.specs.Borrow.{Bor}
+use Rattle.certificate.specs.declared.line_kinds.NodeLine as declared
+use Rattle.certificate.specs.Threes.{three_of, three_ids}
+use Rattle.certificate.specs.Reading.{NodeLine}
+
+abbrev pub text : Bor (List ℕ) → List ℕ
+text w = w.now
+
+abbrev pub texts : List (Bor (List ℕ)) → List (List ℕ)
+texts ws = map text ws
+
+abbrev pub plain_line : declared.NodeLine → NodeLine
+plain_line l = record { part = l.part; copies = three_ids l.copies; labels = three_of l.labels }
+
+abbrev pub IsNode : Net → ℕ → Type 0
+IsNode n x = (length n.inputs ≤ x) × (x < net_count n)
+
+-- three nodes of a design
+abbrev pub AreNodes : Net → Three → Type 0
+AreNodes n t = IsNode n t.first × IsNode n t.second × IsNode n t.third

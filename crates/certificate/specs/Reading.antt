@@ -1,0 +1,200 @@
+-- Reading a certificate's text for two designs: what its lines say, or the first fault.
+use Rattle.std.specs.Prelude.{ℕ, zero, suc, ◌+◌, ◌-◌, ◌==◌, nat_lt, List, [], ◌∷◌, ◌++◌, length, replicate, codes, Option, Some, None, is_none, Result, Ok, if◌then◌else◌, slice_index_or, set}
+use Rattle.std.specs.Str.{bytes_eq}
+use Rattle.tmr_base.specs.declared.copies.CopyNo.{CopyNo}
+use Rattle.tmr_base.specs.declared.copies.CopyNo.TheVariants.{First, Second, Third}
+use Rattle.tmr_base.specs.Copies.{Three}
+use Rattle.flat_net.specs.Net.{Net, net_named}
+use Rattle.certificate.specs.declared.fault.CertFault.{CertFault}
+use Rattle.certificate.specs.declared.fault.CertFault.TheVariants.{Line, UnknownNet, Order, Range, Doubled}
+use Rattle.certificate.specs.declared.role.Role.{Role}
+use Rattle.certificate.specs.declared.role.Role.TheVariants.{Copy, Voter}
+use Rattle.certificate.specs.Cert.{PlainCert}
+use Rattle.certificate.specs.Lines.{◌>>=◌, want, hold, Rest, next_line, word, form_words, number_at}
+
+-- as many steps, up to the first fault
+unfoldable pub repeat : {S : Type 0} → ℕ → (S → Result S CertFault) → S → Result S CertFault
+repeat zero step s = Ok s
+repeat (suc n) step s = step s >>= repeat n step
+
+unfoldable pub first_line : Rest → Result Rest CertFault
+first_line r = do
+  line ← next_line r
+  _ ← hold (bytes_eq line.0 (codes "tmr-cert 1")) (Line r.line)
+  Ok line.1
+
+-- nothing stands after the last line
+unfoldable pub last_line : Rest → Result Rest CertFault
+last_line r = do
+  line ← next_line r
+  _ ← hold (bytes_eq line.0 (codes "end")) (Line r.line)
+  _ ← hold (length line.1.bytes == 0) (Line line.1.line)
+  Ok line.1
+
+-- how many partitions there are
+unfoldable pub read_parts : List ℕ → ℕ → Result ℕ CertFault
+read_parts text line = do
+  words ← form_words text 2 (codes "parts") line
+  number_at (word words 1) line
+
+-- the depth of partition p
+unfoldable pub read_part : ℕ → List ℕ → ℕ → Result ℕ CertFault
+read_part p text line = do
+  words ← form_words text 4 (codes "part") line
+  _ ← hold (bytes_eq (word words 2) (codes "depth")) (Line line)
+  q ← number_at (word words 1) line
+  depth ← number_at (word words 3) line
+  _ ← hold (q == p) (Line line)
+  Ok depth
+
+abbrev pub node_or_none : ℕ → Option ℕ → Option ℕ
+node_or_none inputs None = None
+node_or_none inputs (Some x) = if nat_lt x inputs then None else Some x
+
+-- the number of the node with this name; an input is none
+unfoldable pub known : Net → List ℕ → ℕ → Result ℕ CertFault
+known n name line = want (node_or_none (length n.inputs) (net_named n name)) (UnknownNet line)
+
+unfoldable pub known_three : Net → List ℕ → List ℕ → List ℕ → ℕ → Result Three CertFault
+known_three h a b c line = do
+  first ← known h a line
+  second ← known h b line
+  third ← known h c line
+  Ok (record { first = first; second = second; third = third })
+
+unfoldable pub three_numbers : List ℕ → List ℕ → List ℕ → ℕ → Result Three CertFault
+three_numbers a b c line = do
+  first ← number_at a line
+  second ← number_at b line
+  third ← number_at c line
+  Ok (record { first = first; second = second; third = third })
+
+-- the partition and the labels of a node's line
+unfoldable pub node_numbers : List (List ℕ) → ℕ → Result (ℕ × Three) CertFault
+node_numbers words line = do
+  p ← number_at (word words 2) line
+  labels ← three_numbers (word words 6) (word words 7) (word words 8) line
+  Ok (p, labels)
+
+-- what a node's line says
+pub record NodeLine : Type 0 where
+  pub part : ℕ
+  pub copies : Three
+  pub labels : Three
+
+-- the line of original node x, where there are so many partitions
+unfoldable pub read_node : Net → Net → ℕ → ℕ → List ℕ → ℕ → Result NodeLine CertFault
+read_node n h x parts text line = do
+  words ← form_words text 9 (codes "node") line
+  numbers ← node_numbers words line
+  named ← known n (word words 1) line
+  copies ← known_three h (word words 3) (word words 4) (word words 5) line
+  _ ← hold (named == x) (Order line)
+  _ ← hold (nat_lt numbers.0 parts) (Range line)
+  Ok (record { part = numbers.0; copies = copies; labels = numbers.1 })
+
+-- the role of a hardened node, if it has none yet
+unfoldable pub give : ℕ → ℕ → Role → ℕ → List (Option Role) → Result (List (Option Role)) CertFault
+give inputs g role line roles = do
+  _ ← hold (is_none (slice_index_or roles (g - inputs) None)) (Doubled line)
+  Ok (set roles (g - inputs) (Some role))
+
+unfoldable pub give_copies : ℕ → ℕ → Three → ℕ → List (Option Role) → Result (List (Option Role)) CertFault
+give_copies inputs x copies line roles = do
+  one ← give inputs copies.first (Copy (record { 0 = x }) First) line roles
+  two ← give inputs copies.second (Copy (record { 0 = x }) Second) line one
+  give inputs copies.third (Copy (record { 0 = x }) Third) line two
+
+-- what was read of the parts' lines, and what is left
+pub record Depths : Type 0 where
+  pub depth : List ℕ
+  pub rest : Rest
+
+unfoldable pub part_step : Depths → Result Depths CertFault
+part_step s = do
+  line ← next_line s.rest
+  depth ← read_part (length s.depth) line.0 s.rest.line
+  Ok (record { depth = s.depth ++ depth ∷ []; rest = line.1 })
+
+-- what was read of the nodes' lines, the roles that they give, and what is left
+pub record Nodes : Type 0 where
+  pub part : List ℕ
+  pub copies : List Three
+  pub labels : List Three
+  pub roles : List (Option Role)
+  pub rest : Rest
+
+unfoldable pub node_step : Net → Net → ℕ → Nodes → Result Nodes CertFault
+node_step n h parts s = do
+  line ← next_line s.rest
+  node ← read_node n h (length n.inputs + length s.part) parts line.0 s.rest.line
+  roles ← give_copies (length h.inputs) (length n.inputs + length s.part) node.copies s.rest.line s.roles
+  Ok (record {
+    part = s.part ++ node.part ∷ [];
+    copies = s.copies ++ node.copies ∷ [];
+    labels = s.labels ++ node.labels ∷ [];
+    roles = roles;
+    rest = line.1;
+  })
+
+abbrev pub copy_named : List ℕ → Option CopyNo
+copy_named w = if bytes_eq w (codes "0") then Some First else if bytes_eq w (codes "1") then Some Second else if bytes_eq w (codes "2") then Some Third else None
+
+-- the partition and the copy of a voter's line
+unfoldable pub voter_numbers : List (List ℕ) → ℕ → Result (ℕ × CopyNo) CertFault
+voter_numbers words line = do
+  p ← number_at (word words 3) line
+  c ← want (copy_named (word words 4)) (Line line)
+  Ok (p, c)
+
+-- the line of the voter at hardened net g
+unfoldable pub read_voter : Net → Net → ℕ → ℕ → List ℕ → ℕ → Result Role CertFault
+read_voter n h g parts text line = do
+  words ← form_words text 5 (codes "voter") line
+  numbers ← voter_numbers words line
+  named ← known h (word words 1) line
+  x ← known n (word words 2) line
+  _ ← hold (named == g) (Order line)
+  _ ← hold (nat_lt numbers.0 parts) (Range line)
+  Ok (Voter (record { 0 = x }) (record { 0 = numbers.0 }) numbers.1)
+
+-- the roles of the first hardened nodes, and what is left
+pub record Roles : Type 0 where
+  pub roles : List Role
+  pub rest : Rest
+
+-- a hardened node that is no copy has a voter's line
+abbrev pub role_step : Net → Net → ℕ → Option Role → Roles → Result Roles CertFault
+role_step n h parts (Some role) s = Ok (record { roles = s.roles ++ role ∷ []; rest = s.rest })
+role_step n h parts None s = do
+  line ← next_line s.rest
+  role ← read_voter n h (length h.inputs + length s.roles) parts line.0 s.rest.line
+  Ok (record { roles = s.roles ++ role ∷ []; rest = line.1 })
+
+unfoldable pub voter_step : Net → Net → ℕ → List (Option Role) → Roles → Result Roles CertFault
+voter_step n h parts given s = role_step n h parts (slice_index_or given (length s.roles) None) s
+
+unfoldable pub parts_line : Rest → Result (ℕ × Rest) CertFault
+parts_line r = do
+  line ← next_line r
+  count ← read_parts line.0 r.line
+  Ok (count, line.1)
+
+-- the certificate that the text gives for the designs n and h
+unfoldable pub cert_of_text : Net → Net → List ℕ → Result PlainCert CertFault
+cert_of_text n h bytes = do
+  start ← first_line (record { line = 1; bytes = bytes })
+  parts ← parts_line start
+  depths ← repeat parts.0 part_step (record { depth = []; rest = parts.1 })
+  nodes ← repeat (length n.nodes) (node_step n h parts.0) (record { part = []; copies = []; labels = []; roles = replicate (length h.nodes) None; rest = depths.rest })
+  voters ← repeat (length h.nodes) (voter_step n h parts.0 nodes.roles) (record { roles = []; rest = nodes.rest })
+  end ← last_line voters.rest
+  Ok (record {
+    original_inputs = length n.inputs;
+    hardened_inputs = length h.inputs;
+    depth = depths.depth;
+    part = nodes.part;
+    copies = nodes.copies;
+    labels = nodes.labels;
+    roles = voters.roles;
+  })

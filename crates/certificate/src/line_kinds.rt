@@ -1,0 +1,238 @@
+//! The kinds of lines: their first and last, partitions, nodes and voters.
+ghost use Rattle.std.specs.Prelude.{◌≡◌, ◌+◌, ◌<◌, ◌≤◌, Some, None, length, IfOk};
+ghost use Rattle.flat_net.specs.Net.{net_count};
+ghost use Rattle.flat_net.specs.Nodes.{number_of};
+ghost use Rattle.certificate.specs.Gives.{Gives};
+ghost use Rattle.certificate.specs.Plain.{texts, plain_line, AreNodes};
+ghost use Rattle.certificate.specs.Threes.{three_of, three_ids};
+ghost use Rattle.certificate.specs.Reading.{first_line, last_line, read_parts, read_part, known, known_three, three_numbers, node_numbers, read_node, copy_named, voter_numbers, read_voter, parts_line};
+
+use crate::forms::form_words;
+use crate::lines::{Lines, number};
+use crate::{CertFault, Role};
+use flat_net::FlatNet;
+use std::alloc::Global;
+use tmr_base::{CopyNo, Name, NameFault, NetId, PartId};
+
+/// What a node's line says.
+#[derive(Clone, Copy, Debug, Drop)]
+pub struct NodeLine {
+    pub part: u32,
+    pub copies: [NetId; 3],
+    pub labels: [u32; 3],
+}
+
+/// The line with which each text begins.
+#[tactic(auto, unfolding(crate::specs::Reading::first_line))]
+pub fn first_line(lines: &mut Lines<'_>) -> Result<(), CertFault>
+    ensures { Gives (λ _. lines.new) result (first_line lines.old) }
+{
+    let number = lines.number();
+    let line = lines.next()?;
+    if line != b"tmr-cert 1".as_slice() {
+        return Err(CertFault::Line(number));
+    }
+    Ok(())
+}
+
+/// The line with which each text ends.
+#[tactic(auto, unfolding(crate::specs::Reading::last_line))]
+pub fn last_line(lines: &mut Lines<'_>) -> Result<(), CertFault>
+    ensures { Gives (λ _. lines.new) result (last_line lines.old) }
+{
+    let number = lines.number();
+    let line = lines.next()?;
+    if line != b"end".as_slice() {
+        return Err(CertFault::Line(number));
+    }
+    if !lines.is_done() {
+        return Err(CertFault::Line(lines.number()));
+    }
+    Ok(())
+}
+
+#[tactic(auto, unfolding(crate::specs::Reading::read_parts))]
+fn read_parts(alloc: Global, text: &[u8], line: u32) -> Result<u32, CertFault>
+    ensures { Gives (λ n. n) result (read_parts text.now line) }
+{
+    let words = form_words(alloc, text, 2, b"parts", line)?;
+    number(words[1], line)
+}
+
+/// The depth of partition p.
+#[tactic(auto, unfolding(crate::specs::Reading::read_part))]
+pub fn read_part(alloc: Global, p: u32, text: &[u8], line: u32) -> Result<u32, CertFault>
+    ensures { Gives (λ n. n) result (read_part p text.now line) }
+{
+    let words = form_words(alloc, text, 4, b"part", line)?;
+    if words[2] != b"depth".as_slice() {
+        return Err(CertFault::Line(line));
+    }
+    let q = number(words[1], line)?;
+    let depth = number(words[3], line)?;
+    if q != p {
+        return Err(CertFault::Line(line));
+    }
+    Ok(depth)
+}
+
+/// The node with this name.
+#[tactic(auto, using(crate::proofs::Names::names), unfolding(crate::specs::Reading::known))]
+fn known(alloc: Global, net: &FlatNet, name: &[u8], line: u32) -> Result<NetId, CertFault>
+    ensures node { Gives number_of result (known net.now.net name.now line) }
+    ensures range { IfOk result (λ x. (length net.now.net.inputs ≤ x.0) × (x.0 < net_count net.now.net)) }
+{
+    let inputs = net.input_count();
+    match Name::read(alloc, name) {
+        Ok(name) => match net.find(&name) {
+            Some(x) => {
+                if x.0 < inputs {
+                    return Err(CertFault::UnknownNet(line));
+                }
+                Ok(x)
+            }
+            None => Err(CertFault::UnknownNet(line)),
+        },
+        Err(NameFault::Bad) => Err(CertFault::UnknownNet(line)),
+        Err(NameFault::Memory) => Err(CertFault::Memory),
+    }
+}
+
+#[tactic(auto, unfolding(crate::specs::Reading::known_three))]
+fn known_three(
+    alloc: Global,
+    net: &FlatNet,
+    a: &[u8],
+    b: &[u8],
+    c: &[u8],
+    line: u32,
+) -> Result<[NetId; 3], CertFault>
+    ensures nodes { Gives three_ids result (known_three net.now.net a.now b.now c.now line) }
+    ensures range { IfOk result (λ t. AreNodes net.now.net (three_ids t)) }
+{
+    let first = known(alloc, net, a, line)?;
+    let second = known(alloc, net, b, line)?;
+    let third = known(alloc, net, c, line)?;
+    Ok([first, second, third])
+}
+
+#[tactic(auto, unfolding(crate::specs::Reading::three_numbers))]
+fn three_numbers(a: &[u8], b: &[u8], c: &[u8], line: u32) -> Result<[u32; 3], CertFault>
+    ensures { Gives three_of result (three_numbers a.now b.now c.now line) }
+{
+    let first = number(a, line)?;
+    let second = number(b, line)?;
+    let third = number(c, line)?;
+    Ok([first, second, third])
+}
+
+/// The partition and the labels of a node's line.
+#[tactic(auto, unfolding(crate::specs::Reading::node_numbers))]
+fn node_numbers(words: &[&[u8]], line: u32) -> Result<(u32, [u32; 3]), CertFault>
+    requires { length words.now ≡ 9 }
+    ensures { Gives (λ x. (x.0, three_of x.1)) result (node_numbers (texts words.now) line) }
+{
+    let part = number(words[2], line)?;
+    let labels = three_numbers(words[6], words[7], words[8], line)?;
+    Ok((part, labels))
+}
+
+/// How many partitions there are.
+#[tactic(auto, unfolding(crate::specs::Reading::parts_line))]
+pub fn parts_line(alloc: Global, lines: &mut Lines<'_>) -> Result<u32, CertFault>
+    ensures { Gives (λ count. (count, lines.new)) result (parts_line lines.old) }
+{
+    let line = lines.number();
+    let text = lines.next()?;
+    read_parts(alloc, text, line)
+}
+
+/// The line of original node x, where there are so many partitions.
+#[tactic(auto, unfolding(crate::specs::Reading::read_node))]
+pub fn read_node(
+    alloc: Global,
+    n: &FlatNet,
+    h: &FlatNet,
+    x: NetId,
+    parts: u32,
+    text: &[u8],
+    line: u32,
+) -> Result<NodeLine, CertFault>
+    ensures node { Gives plain_line result (read_node n.now.net h.now.net x.0 parts text.now line) }
+    ensures range { IfOk result (λ l. AreNodes h.now.net (three_ids l.copies)) }
+{
+    let words = form_words(alloc, text, 9, b"node", line)?;
+    let (part, labels) = node_numbers(&words, line)?;
+    let named = known(alloc, n, words[1], line)?;
+    let copies = known_three(alloc, h, words[3], words[4], words[5], line)?;
+    if named.0 != x.0 {
+        return Err(CertFault::Order(line));
+    }
+    if part >= parts {
+        return Err(CertFault::Range(line));
+    }
+    Ok(NodeLine {
+        part,
+        copies,
+        labels,
+    })
+}
+
+/// The copy with this number.
+fn copy_named(word: &[u8]) -> Option<CopyNo>
+    ensures { result ≡ copy_named word.now }
+{
+    if word == b"0".as_slice() {
+        return Some(CopyNo::First);
+    }
+    if word == b"1".as_slice() {
+        return Some(CopyNo::Second);
+    }
+    if word == b"2".as_slice() {
+        return Some(CopyNo::Third);
+    }
+    None
+}
+
+/// The partition and the copy of a voter's line.
+#[tactic(auto, unfolding(crate::specs::Reading::voter_numbers))]
+fn voter_numbers(words: &[&[u8]], line: u32) -> Result<(u32, CopyNo), CertFault>
+    requires { length words.now ≡ 5 }
+    ensures { Gives (λ x. x) result (voter_numbers (texts words.now) line) }
+{
+    let part = number(words[3], line)?;
+    match copy_named(words[4]) {
+        Some(copy) => Ok((part, copy)),
+        None => Err(CertFault::Line(line)),
+    }
+}
+
+/// The line of the voter at hardened node g.
+#[tactic(auto, unfolding(crate::specs::Reading::read_voter))]
+pub fn read_voter(
+    alloc: Global,
+    n: &FlatNet,
+    h: &FlatNet,
+    g: NetId,
+    parts: u32,
+    text: &[u8],
+    line: u32,
+) -> Result<Role, CertFault>
+    ensures { Gives (λ role. role) result (read_voter n.now.net h.now.net g.0 parts text.now line) }
+{
+    let words = form_words(alloc, text, 5, b"voter", line)?;
+    let (part, copy) = voter_numbers(&words, line)?;
+    let named = known(alloc, h, words[1], line)?;
+    let node = known(alloc, n, words[2], line)?;
+    if named.0 != g.0 {
+        return Err(CertFault::Order(line));
+    }
+    if part >= parts {
+        return Err(CertFault::Range(line));
+    }
+    Ok(Role::Voter {
+        node,
+        part: PartId(part),
+        copy,
+    })
+}

@@ -1,0 +1,34 @@
+//! A certificate's text.
+ghost use Rattle.std.specs.Prelude.{◌≡◌, ◌≤◌, length, IfOk, Ok};
+ghost use Rattle.certificate.specs.Cert.{PlainCert, IsCert, Fits};
+ghost use Rattle.certificate.specs.Gives.{Gives};
+ghost use Rattle.certificate.specs.Reading.{cert_of_text};
+ghost use Rattle.certificate.specs.Text.{cert_text};
+
+use crate::reading::draft_of_text;
+use crate::{CertFault, Certificate};
+use flat_net::FlatNet;
+use std::alloc::Global;
+
+/// The certificate that a text gives for the original n and the hardened design h.
+pub fn read_cert(
+    alloc: Global,
+    bytes: &[u8],
+    n: &FlatNet,
+    h: &FlatNet,
+) -> Result<Certificate, CertFault>
+    requires size { length bytes.now ≤ 1073741824 }
+    // What is read fits the two designs.
+    ensures fits { IfOk result (λ k. Fits n.now.net h.now.net k) }
+    // What is read is written so, each byte of it.
+    ensures found { IfOk result (λ k. bytes.now ≡ cert_text n.now.net h.now.net k) }
+    // What is written is read again, unless memory runs out.
+    ensures only { (k : PlainCert) → IsCert k → Fits n.now.net h.now.net k → bytes.now ≡ cert_text n.now.net h.now.net k → Gives (λ k. k) result (Ok k) }
+    // The certificate, or the first fault.
+    ensures exact { Gives (λ k. k) result (cert_of_text n.now.net h.now.net bytes.now) }
+{
+    match draft_of_text(alloc, bytes, n, h) {
+        Ok(draft) => Ok(Certificate::make(draft)),
+        Err(fault) => Err(fault),
+    }
+}
