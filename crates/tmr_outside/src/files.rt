@@ -1,7 +1,7 @@
 //! Files by name, and the counts of their faults.
 ghost use Rattle.std.specs.Prelude.{◌≡◌, ◌≢◌, ◌≤◌, ◌⊎◌, List, ℕ, Option, Some, None, vec_len, IfOk, OnOk, IfSome, IsSome, IsSomeAnd, IsErrOf, option_map};
 ghost use Rattle.std.specs.FinMap.{get, insert};
-ghost use Rattle.tmr_outside.specs.Contents.{Contents, IsTooLong, SameElsewhere};
+ghost use Rattle.tmr_outside.specs.Contents.{Contents, bytes_of, IsTooLong, SameElsewhere};
 ghost use Rattle.tmr_outside.specs.Counts.{RoseOf, NoneFell, NoneRose, OthersStay};
 ghost use Rattle.tmr_outside.specs.Pieces.{Takes, TakesSome};
 
@@ -70,7 +70,7 @@ pub trait Files {
         ensures bytes { OnOk result (IfSome (contents self.old) (λ held. IsSomeAnd (get held name.now)
             (Takes (T.stands to.old) (T.stands to.new) (T.room to.old) (T.room to.new)))) }
         ensures taken { TakesSome (T.stands to.old) (T.stands to.new) (T.room to.old) (T.room to.new) limit
-            (contents self.old) name.now }
+            (bytes_of (contents self.old) name.now) }
         ensures stays { contents self.new ≡ contents self.old }
 
         ensures too_long { IsErrOf result LoadFault.TooLong

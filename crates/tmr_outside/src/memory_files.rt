@@ -1,7 +1,7 @@
 //! Files in memory.
 ghost use Rattle.std.specs.Prelude.{◌≡◌, ◌≢◌, ◌<◌, ◌≤◌, ◌⊎◌, List, ℕ, [], take, vec_len, IfOk, OnOk, OnErr, IsErrOf, IsSome, IfSome, IfNone, ◌∷◌, ◌++◌, length, Option, IsSomeAnd, Some, None, option_map};
 ghost use Rattle.std.specs.FinMap.{empty, get, insert};
-ghost use Rattle.tmr_outside.specs.Contents.{IsTooLong};
+ghost use Rattle.tmr_outside.specs.Contents.{bytes_of, IsTooLong};
 ghost use Rattle.tmr_outside.specs.Counts.{NoneFell, NoneRose, OthersStay};
 ghost use Rattle.tmr_outside.specs.FailedCalls.{loads_of, saves_of};
 ghost use Rattle.tmr_outside.specs.Pieces.{Takes, TakesSome};
@@ -245,7 +245,7 @@ impl Files for MemFiles {
         ensures bytes { OnOk result (IsSomeAnd (get self.old.held name.now)
             (Takes (T.stands to.old) (T.stands to.new) (T.room to.old) (T.room to.new))) }
         ensures taken { TakesSome (T.stands to.old) (T.stands to.new) (T.room to.old) (T.room to.new) limit
-            (Some self.old.held) name.now }
+            (bytes_of (Some self.old.held) name.now) }
         ensures stays { self.new.held ≡ self.old.held }
         ensures too_long { IsErrOf result LoadFault.TooLong → IsTooLong self.old.held name.now limit }
         ensures too_long_only { OnOk result (¬ (IsTooLong self.old.held name.now limit)) }

@@ -1,0 +1,61 @@
+//! The standard output.
+ghost use Rattle.std.specs.Prelude.{None};
+
+use crate::{PutFault, Sink};
+use std::io::ErrorKind;
+
+/// The standard output, as the runtime has it. It tells nothing of what went out, and is never steady.
+/// Each refusal raises its count.
+#[derive(Drop)]
+pub struct StdSink<'a, P: Print> {
+    to: &'a P,
+    faults: u64,
+}
+
+impl<'a, P: Print> StdSink<'a, P> {
+    /// The standard output of this runtime, without faults.
+    pub fn new(to: &'a P) -> Self {
+        StdSink { to, faults: 0 }
+    }
+}
+
+/// Writes all the bytes. A refusal for want of memory comes only where nothing went out.
+fn write_all(to: &impl Print, bytes: &[u8]) -> Result<(), PutFault> {
+    let count = match to.write_some(bytes) {
+        Ok(count) => count,
+        Err(e) => {
+            return match e.kind() {
+                ErrorKind::OutOfMemory => Err(PutFault::Memory),
+                ErrorKind::Interrupted => write_rest(to, bytes),
+                _ => Err(PutFault::Failed),
+            };
+        }
+    };
+    write_rest(to, &bytes[count..])
+}
+
+/// Writes the bytes that are left.
+fn write_rest(to: &impl Print, bytes: &[u8]) -> Result<(), PutFault> {
+    match to.write_all(bytes) {
+        Ok(()) => Ok(()),
+        Err(_) => Err(PutFault::Failed),
+    }
+}
+
+impl<P: Print> Sink for StdSink<'_, P> {
+    ghost use Rattle.std.specs.Prelude.{None};
+
+    ghost written = { λ sink. None };
+
+    ghost put_count = { λ sink. sink.faults };
+
+    ghost steady = { λ sink. ⊥ };
+
+    fn put(&mut self, bytes: &[u8]) -> Result<(), PutFault> {
+        let outcome = write_all(self.to, bytes);
+        if outcome.is_err() {
+            self.faults = self.faults.saturating_add(1);
+        }
+        outcome
+    }
+}
