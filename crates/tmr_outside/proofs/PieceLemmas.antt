@@ -1,9 +1,9 @@
 -- One piece after another.
-use Rattle.std.proofs.Common.{◌≡◌, ◌<◌, ◌≤◌, ◌+◌, ◌-◌, ◌++◌, ℕ, List, [], length, take, drop, Option, Some, None, IfSome, refl, subst, ap, sym, ◌∙◌, add-zero, append_assoc, append-nil, length-append, arith}
+use Rattle.std.proofs.Common.{◌≡◌, ◌<◌, ◌≤◌, ◌+◌, ◌-◌, ◌++◌, ℕ, List, [], length, take, drop, Option, Some, None, IfSome, refl, subst, ap, sym, ◌∙◌, add-zero, zero-le, append_assoc, append-nil, length-append, arith}
 use Rattle.std.specs.Io.KnownBytes.{Consumes, IsAtEnd}
 use Rattle.std.proofs.KnownBytes.{Consumes-nil, Consumes-trans, Consumes-whole}
 use Rattle.std.proofs.Math.Seq.{take-add, take-append_seam}
-use Rattle.tmr_outside.specs.Pieces.{Takes, TakesSome, ReadsUpTo, HandsOn}
+use Rattle.tmr_outside.specs.Pieces.{Takes, TakesFile, ReadsUpTo, HandsOn, HandsOnFirst}
 
 -- what was taken, and then a piece
 pub Takes-then : {stood between stands : List ℕ → Type 0} {room mid left : ℕ} (xs ys : List ℕ) → Takes stood between room mid xs → ((given : List ℕ) → between given → stands (given ++ ys)) → left + length ys ≡ mid → Takes stood stands room left (xs ++ ys)
@@ -11,6 +11,14 @@ Takes-then {stands = stands} xs ys so_far appended room_left = record {
   appended = λ given h. subst stands (append_assoc given xs ys) (appended (given ++ xs) (so_far.appended given h));
   room_left = omega (arith, length-append xs ys, so_far.room_left);
 }
+
+-- where nothing was taken
+Takes-none : {stands : List ℕ → Type 0} {room : ℕ} → Takes stands stands room room []
+Takes-none {stands} {room} = record { appended = λ given h. subst stands (sym (append-nil given)) h; room_left = add-zero room }
+
+-- where nothing was taken of a file that is not told
+pub TakesFile-none : {stands : List ℕ → Type 0} {room : ℕ} (limit : ℕ) (name : List ℕ) {ok : Type 0} → TakesFile stands stands room room limit None name ok
+TakesFile-none limit name = record { taken = []; takes = Takes-none; within = zero-le; first = tt; whole = λ ok. tt }
 
 -- two pieces that were handed on, one after the other
 pub HandsOn-then : {unread between rest : Option (List ℕ)} {stood stands_between stands : List ℕ → Type 0} {room mid left : ℕ} (m n : ℕ) → HandsOn unread between stood stands_between room mid m → HandsOn between rest stands_between stands mid left n → HandsOn unread rest stood stands room left (m + n)
@@ -27,7 +35,7 @@ HandsOn-none {unread} {stands} {room} = record {
   bytes = [];
   counted = refl;
   read = Consumes-nil unread;
-  takes = record { appended = λ given h. subst stands (sym (append-nil given)) h; room_left = add-zero room };
+  takes = Takes-none;
 }
 
 -- the bytes that were handed on are the first ones of the file
@@ -36,17 +44,14 @@ first_of None rest bytes read = tt
 first_of (Some all) None bytes read = absurd read
 first_of (Some all) (Some rest) bytes read = ap (take (length bytes)) read ∙ take-append_seam bytes rest
 
-pub TakesSome-from : {file rest : Option (List ℕ)} {stood stands : List ℕ → Type 0} {room left : ℕ} (limit count : ℕ) → HandsOn file rest stood stands room left count → count ≤ limit → TakesSome stood stands room left limit file
-TakesSome-from {file} {rest} limit count handed fits = record {
-  taken = handed.bytes;
+pub HandsOnFirst-from : {unread rest : Option (List ℕ)} {stood stands : List ℕ → Type 0} {room left : ℕ} (limit count : ℕ) {ok : Type 0} → HandsOn unread rest stood stands room left count → count ≤ limit → (ok → IsAtEnd rest) → HandsOnFirst unread stood stands room left limit ok
+HandsOnFirst-from {unread} {rest} limit count handed fits ended = record {
+  bytes = handed.bytes;
   takes = handed.takes;
   within = omega (arith, handed.counted);
-  first = first_of file rest handed.bytes handed.read;
+  first = first_of unread rest handed.bytes handed.read;
+  whole = λ ok. Consumes-whole unread rest handed.bytes (λ all. all ≡ handed.bytes) handed.read (ended ok) refl;
 }
-
--- where the reader is at its end, the whole file was handed on
-pub Takes-all : {file rest : Option (List ℕ)} {stood stands : List ℕ → Type 0} {room left : ℕ} (count : ℕ) → HandsOn file rest stood stands room left count → IsAtEnd rest → IfSome file (Takes stood stands room left)
-Takes-all {file} {rest} {stood} {stands} {room} {left} count handed ended = Consumes-whole file rest handed.bytes (Takes stood stands room left) handed.read ended handed.takes
 
 -- what is handed on in all is read, and then some more
 pub ReadsUpTo-after : {unread between rest : Option (List ℕ)} {stood stands : List ℕ → Type 0} {room left : ℕ} (count most limit : ℕ) → HandsOn unread between stood stands room left count → ReadsUpTo between rest most → count + most ≤ limit → ReadsUpTo unread rest limit

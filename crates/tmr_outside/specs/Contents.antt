@@ -1,5 +1,5 @@
 -- What files hold.
-use Rattle.std.specs.Prelude.{◌≡◌, ◌≢◌, ◌<◌, ℕ, List, [], map, option_map, unwrap_or, length, Option, Some, None, IsSomeAnd, String, Vec, string_bytes}
+use Rattle.std.specs.Prelude.{◌≡◌, ◌≢◌, ◌<◌, ℕ, List, map, length, Option, Some, None, IsSomeAnd, String, Vec, string_bytes}
 use Rattle.std.specs.Coded.{Coded, coded_ℕ, coded_list}
 use Rattle.std.specs.Ordering.{nat_cmp}
 use Rattle.std.specs.Cmp.Lexicographic.{slice_cmp}
@@ -13,10 +13,6 @@ Contents = FinMap (slice_cmp nat_cmp) (List ℕ)
 
 abbrev pub contents_code : Coded Contents
 contents_code = code (coded_list coded_ℕ) (coded_list coded_ℕ)
-
--- the bytes of a name, where contents are told; a name that is not there has none
-abbrev pub bytes_of : Option Contents → List ℕ → Option (List ℕ)
-bytes_of contents name = option_map (λ held. unwrap_or (get held name) []) contents
 
 -- the name has a file of more than `limit` bytes
 abbrev pub IsTooLong : Contents → List ℕ → ℕ → Type 0

@@ -1,6 +1,6 @@
 //! Real files.
-ghost use Rattle.std.specs.Prelude.{◌≤◌, None, IfOk, vec_len};
-ghost use Rattle.tmr_outside.specs.Pieces.{TakesSome};
+ghost use Rattle.std.specs.Prelude.{◌≤◌, None, IfOk, IsOk, vec_len};
+ghost use Rattle.tmr_outside.specs.Pieces.{TakesFile};
 
 use crate::gathered::Gathered;
 use crate::reading::{hand_out_within, load_fault};
@@ -25,9 +25,14 @@ impl<'a, R: rt::Files> DiskFiles<'a, R> {
 }
 
 /// Hands out a file in pieces, if it has at most `limit` bytes.
-fn read_file<R: rt::Files, T: Taker>(rt: &R, name: &str, limit: u64, to: &mut T) -> Result<(), LoadFault>
+fn read_file<R: rt::Files, T: Taker>(
+    rt: &R,
+    name: &str,
+    limit: u64,
+    to: &mut T,
+) -> Result<(), LoadFault>
     requires { limit ≤ T.room to.old }
-    ensures { TakesSome (T.stands to.old) (T.stands to.new) (T.room to.old) (T.room to.new) limit None }
+    ensures { TakesFile (T.stands to.old) (T.stands to.new) (T.room to.old) (T.room to.new) limit None name.now (IsOk result) }
 {
     match fs::open(rt, name) {
         Ok(mut file) => hand_out_within(&mut file, limit, to),
@@ -36,7 +41,12 @@ fn read_file<R: rt::Files, T: Taker>(rt: &R, name: &str, limit: u64, to: &mut T)
 }
 
 /// The bytes of a file, if there are at most `limit`.
-fn gather_file<R: rt::Files>(rt: &R, alloc: Global, name: &str, limit: u64) -> Result<Vec<u8>, LoadFault>
+fn gather_file<R: rt::Files>(
+    rt: &R,
+    alloc: Global,
+    name: &str,
+    limit: u64,
+) -> Result<Vec<u8>, LoadFault>
     ensures { IfOk result (λ bytes. vec_len bytes ≤ limit) }
 {
     let mut gathered = Gathered::new(alloc, limit);
@@ -108,5 +118,35 @@ impl<R: rt::Files> Files for DiskFiles<'_, R> {
             self.faults = self.faults.saturating_add(1);
         }
         outcome
+    }
+}
+
+#[cfg(test)]
+mod tests {
+    use super::*;
+    use std::test::Fail;
+    use std::{env, process};
+
+    #[test]
+    fn real_files_are_saved_and_loaded(rt: HostRuntime) -> Result<(), Fail> {
+        let alloc = rt.alloc();
+        let file = format!(in alloc; "tmr_outside-{}", process::id(rt.process()))?;
+        let path = env::temp_dir(&rt)?.join(alloc, file.as_str())?;
+        let long = vec![in alloc; 7u8; 140_000]?;
+        let mut files = DiskFiles::new(&rt);
+        files.save(path.as_str(), long.as_slice())?;
+        let bytes = files.load(alloc, path.as_str(), 140_000)?;
+        assert_eq!(rt; bytes.as_slice(), long.as_slice());
+        let short = files.load(alloc, path.as_str(), 139_999);
+        assert_eq!(rt; short.err(), Some(LoadFault::TooLong));
+        let mut gathered = Gathered::new(alloc, 140_000);
+        files.load_pieces(alloc, path.as_str(), 140_000, &mut gathered)?;
+        assert_eq!(rt; gathered.bytes.as_slice(), long.as_slice());
+        assert_eq!(rt; files.faults, 1);
+        fs::remove_file(&rt, path.as_str())?;
+        let missing = files.load(alloc, path.as_str(), 140_000);
+        assert_eq!(rt; missing.err(), Some(LoadFault::Failed));
+        assert_eq!(rt; files.faults, 2);
+        Ok(())
     }
 }

@@ -1,4 +1,10 @@
-//! What the program reads and writes: files by name, and a sink for the printed text.
+//! What lies outside the program: files by name, and a sink for the printed text.
+//!
+//! `Files` and `Sink` count their faults, and the counts never fall. The layer above may rely on what the
+//! files hold and what went out, wherever the object tells it, and on the cause of each refusal: `Failed`
+//! is answered only where a count rose. `MemFiles` and `MemSink` tell everything, and fail exactly at the
+//! calls that were named to them. `DiskFiles` and `StdSink` are the real ones. They tell nothing, so
+//! nothing is proved of what a real file holds.
 #![tactic(auto)]
 
 mod disk_files;

@@ -1,10 +1,10 @@
 //! Files in memory.
-ghost use Rattle.std.specs.Prelude.{◌≡◌, ◌≢◌, ◌<◌, ◌≤◌, ◌⊎◌, List, ℕ, [], take, vec_len, IfOk, OnOk, OnErr, IsErrOf, IsSome, IfSome, IfNone, ◌∷◌, ◌++◌, length, Option, IsSomeAnd, Some, None, option_map};
+ghost use Rattle.std.specs.Prelude.{◌≡◌, ◌≢◌, ◌<◌, ◌≤◌, ◌⊎◌, List, ℕ, [], take, vec_len, IfOk, OnOk, OnErr, IsOk, IsErrOf, IsSome, IfSome, IfNone, ◌∷◌, ◌++◌, length, Option, IsSomeAnd, Some, None, option_map};
 ghost use Rattle.std.specs.FinMap.{empty, get, insert};
-ghost use Rattle.tmr_outside.specs.Contents.{bytes_of, IsTooLong};
+ghost use Rattle.tmr_outside.specs.Contents.{IsTooLong};
 ghost use Rattle.tmr_outside.specs.Counts.{NoneFell, NoneRose, OthersStay};
 ghost use Rattle.tmr_outside.specs.FailedCalls.{loads_of, saves_of};
-ghost use Rattle.tmr_outside.specs.Pieces.{Takes, TakesSome};
+ghost use Rattle.tmr_outside.specs.Pieces.{Takes, TakesFile};
 ghost use Rattle.tmr_outside.specs.Plan.{prefix_left};
 ghost use Rattle.tmr_outside.specs.MemoryFiles.{failed_loads, failed_saves, called, noting, holding, failing_at};
 
@@ -242,10 +242,8 @@ impl Files for MemFiles {
         to: &mut T,
     ) -> Result<(), LoadFault>
         requires { limit ≤ T.room to.old }
-        ensures bytes { OnOk result (IsSomeAnd (get self.old.held name.now)
-            (Takes (T.stands to.old) (T.stands to.new) (T.room to.old) (T.room to.new))) }
-        ensures taken { TakesSome (T.stands to.old) (T.stands to.new) (T.room to.old) (T.room to.new) limit
-            (bytes_of (Some self.old.held) name.now) }
+        ensures taken { TakesFile (T.stands to.old) (T.stands to.new) (T.room to.old) (T.room to.new) limit
+            (Some self.old.held) name.now (IsOk result) }
         ensures stays { self.new.held ≡ self.old.held }
         ensures too_long { IsErrOf result LoadFault.TooLong → IsTooLong self.old.held name.now limit }
         ensures too_long_only { OnOk result (¬ (IsTooLong self.old.held name.now limit)) }
@@ -319,5 +317,47 @@ impl Files for MemFiles {
                 front(bytes, keep),
             )),
         }
+    }
+}
+
+#[cfg(test)]
+mod tests {
+    use super::*;
+    use std::test::Fail;
+
+    #[test]
+    fn files_are_held_saved_and_loaded(rt: HostRuntime) -> Result<(), Fail> {
+        let alloc = rt.alloc();
+        let mut files = MemFiles::new(alloc);
+        files.hold("a", b"one")?;
+        files.save("b", b"three")?;
+        assert_eq!(rt; files.held("a").ok_or("no a")?, b"one".as_slice());
+        assert_eq!(rt; files.held("b").ok_or("no b")?, b"three".as_slice());
+        assert!(rt; files.held("./a").is_none());
+        let bytes = files.load(alloc, "b", 5)?;
+        assert_eq!(rt; bytes.as_slice(), b"three".as_slice());
+        assert_eq!(rt; files.load(alloc, "b", 4).err(), Some(LoadFault::TooLong));
+        assert_eq!(rt; files.load(alloc, "c", 5).err(), Some(LoadFault::Failed));
+        Ok(())
+    }
+
+    #[test]
+    fn calls_fail_by_their_number(rt: HostRuntime) -> Result<(), Fail> {
+        let alloc = rt.alloc();
+        let mut files = MemFiles::new(alloc);
+        files.fail_at(1, 9)?;
+        files.fail_at(1, 5)?;
+        files.fail_at(2, 9)?;
+        files.fail_at(4, 9)?;
+        files.hold("h", b"old")?;
+        assert_eq!(rt; files.load(alloc, "h", 9)?.as_slice(), b"old".as_slice());
+        assert_eq!(rt; files.save("h", b".model and2"), Err(SaveFault::Failed));
+        assert_eq!(rt; files.held("h"), Some(b".mode".as_slice()));
+        assert_eq!(rt; files.save("h", b"new"), Err(SaveFault::Failed));
+        assert_eq!(rt; files.held("h"), Some(b"new".as_slice()));
+        files.save("h", b"newer")?;
+        assert_eq!(rt; files.load(alloc, "h", 9).err(), Some(LoadFault::Failed));
+        assert_eq!(rt; files.load(alloc, "h", 9)?.as_slice(), b"newer".as_slice());
+        Ok(())
     }
 }

@@ -116,3 +116,24 @@ impl Sink for MemSink {
         }
     }
 }
+
+#[cfg(test)]
+mod tests {
+    use super::*;
+    use std::test::Fail;
+
+    #[test]
+    fn puts_are_kept_and_fail_by_their_number(rt: HostRuntime) -> Result<(), Fail> {
+        let mut sink = MemSink::new(rt.alloc());
+        sink.fail_at(1, 9)?;
+        sink.fail_at(1, 3)?;
+        sink.fail_at(2, 9)?;
+        sink.put(b"one ")?;
+        assert_eq!(rt; sink.put(b"accepted"), Err(PutFault::Failed));
+        assert_eq!(rt; sink.written(), b"one acc".as_slice());
+        assert_eq!(rt; sink.put(b" two"), Err(PutFault::Failed));
+        sink.put(b" three")?;
+        assert_eq!(rt; sink.written(), b"one acc two three".as_slice());
+        Ok(())
+    }
+}

@@ -1,8 +1,8 @@
 //! Reading a file up to a limit.
-ghost use Rattle.std.specs.Prelude.{◌+◌, ◌≡◌, ◌≢◌, ◌<◌, ◌≤◌, length, take, vec_len, IfOk, OnOk, OnErr, IfSome, IsErrOf};
+ghost use Rattle.std.specs.Prelude.{◌+◌, ◌≡◌, ◌≢◌, ◌<◌, ◌≤◌, length, take, vec_len, IfOk, OnOk, OnErr, IsOk, IfSome, IsErrOf};
 ghost use Rattle.std.specs.Io.{ReadsAtMost};
 ghost use Rattle.std.specs.Io.KnownBytes.{Keeps, Consumes, IsAtEnd};
-ghost use Rattle.tmr_outside.specs.Pieces.{Takes, TakesSome, ReadsUpTo, HandsOn};
+ghost use Rattle.tmr_outside.specs.Pieces.{ReadsUpTo, HandsOn, HandsOnFirst};
 
 use crate::{LONGEST_PIECE, LoadFault, Taker};
 use std::io;
@@ -86,11 +86,14 @@ fn hand_out_next<F: Read, T: Taker>(
 }
 
 /// Hands out a file in pieces, if it has at most `limit` bytes. At most one byte more is read.
-pub fn hand_out_within<F: Read, T: Taker>(file: &mut F, limit: u64, to: &mut T) -> Result<(), LoadFault>
+pub fn hand_out_within<F: Read, T: Taker>(
+    file: &mut F,
+    limit: u64,
+    to: &mut T,
+) -> Result<(), LoadFault>
     requires { limit ≤ T.room to.old }
-    ensures taken { TakesSome (T.stands to.old) (T.stands to.new) (T.room to.old) (T.room to.new) limit (F.remaining file.old) }
-    ensures bytes { OnOk result (IfSome (F.remaining file.old)
-        (Takes (T.stands to.old) (T.stands to.new) (T.room to.old) (T.room to.new))) }
+    ensures handed { HandsOnFirst (F.remaining file.old) (T.stands to.old) (T.stands to.new) (T.room to.old) (T.room to.new)
+        limit (IsOk result) }
     ensures too_long { IsErrOf result LoadFault.TooLong → IfSome (F.remaining file.old) (λ all. limit < length all) }
     ensures read { ReadsUpTo (F.remaining file.old) (F.remaining file.new) (limit + 1) }
 {
@@ -104,4 +107,52 @@ pub fn hand_out_within<F: Read, T: Taker>(file: &mut F, limit: u64, to: &mut T) 
         }
     }
     Err(LoadFault::Failed)
+}
+
+#[cfg(test)]
+mod tests {
+    use super::*;
+    use crate::gathered::Gathered;
+    use std::test::Fail;
+
+    /// Gives four bytes at a time, is interrupted once, and breaks after `left` reads.
+    #[derive(Drop)]
+    struct Breaking {
+        left: u64,
+    }
+
+    impl Read for Breaking {
+        fn read(&mut self, buffer: &mut [u8]) -> io::Result<usize> {
+            if self.left == 0 {
+                return Err(io::Error::from(ErrorKind::Other));
+            }
+            self.left -= 1;
+            if self.left == 1 {
+                return Err(io::Error::from(ErrorKind::Interrupted));
+            }
+            Ok(buffer.len().min(4))
+        }
+    }
+
+    #[test]
+    fn a_file_may_break_off(rt: HostRuntime) -> Result<(), Fail> {
+        let alloc = rt.alloc();
+        for (reads, limit, fault, taken) in [
+            (4, 100, LoadFault::Failed, 12),
+            (4, 7, LoadFault::TooLong, 4),
+            (4, 11, LoadFault::TooLong, 8),
+            (0, 100, LoadFault::Failed, 0),
+        ] {
+            let mut file = Breaking { left: reads };
+            let mut gathered = Gathered::new(alloc, limit);
+            let outcome = hand_out_within(&mut file, limit, &mut gathered);
+            assert_eq!(rt; outcome, Err(fault), "after {reads} reads, limit {limit}");
+            assert_eq!(rt;
+                gathered.bytes.len(),
+                taken,
+                "after {reads} reads, limit {limit}"
+            );
+        }
+        Ok(())
+    }
 }

@@ -59,3 +59,52 @@ impl<P: Print> Sink for StdSink<'_, P> {
         outcome
     }
 }
+
+#[cfg(test)]
+mod tests {
+    use super::*;
+    use std::fmt::Display;
+    use std::io;
+    use std::test::Fail;
+
+    /// An output that takes three bytes and then no more, or none at all.
+    #[derive(Drop)]
+    struct Broken {
+        taken: Option<usize>,
+    }
+
+    impl Print for Broken {
+        fn print<D: Display + Drop>(&self, _value: D) -> io::Result<()> {
+            Err(io::Error::from(ErrorKind::Unsupported))
+        }
+
+        fn println<D: Display + Drop>(&self, _value: D) -> io::Result<()> {
+            Err(io::Error::from(ErrorKind::Unsupported))
+        }
+
+        fn write_all(&self, _bytes: &[u8]) -> io::Result<()> {
+            Err(io::Error::from(ErrorKind::OutOfMemory))
+        }
+
+        fn write_some(&self, bytes: &[u8]) -> io::Result<usize> {
+            match self.taken {
+                Some(count) => Ok(count.min(bytes.len())),
+                None => Err(io::Error::from(ErrorKind::OutOfMemory)),
+            }
+        }
+    }
+
+    #[test]
+    fn texts_go_out_or_are_refused(rt: HostRuntime) -> Result<(), Fail> {
+        StdSink::new(&rt).put(b"accepted\n")?;
+        let half = Broken { taken: Some(3) };
+        let mut sink = StdSink::new(&half);
+        assert_eq!(rt; sink.put(b"accepted"), Err(PutFault::Failed));
+        assert_eq!(rt; sink.faults, 1);
+        let none = Broken { taken: None };
+        let mut sink = StdSink::new(&none);
+        assert_eq!(rt; sink.put(b"accepted"), Err(PutFault::Memory));
+        assert_eq!(rt; sink.faults, 1);
+        Ok(())
+    }
+}

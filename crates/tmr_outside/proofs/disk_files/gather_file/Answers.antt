@@ -1,4 +1,4 @@
-use Rattle.std.proofs.Common.{◌≡◌, ◌≤◌, ◌++◌, [], length, true, ap, arith}
+use Rattle.std.proofs.Common.{◌≡◌, ◌++◌, [], length, ap, arith}
 use Rattle.tmr_outside.proofs.disk_files.gather_file.Goals as goal
 
 pub returns-then-gathered : goal.returns-then-gathered

@@ -1,4 +1,4 @@
-use Rattle.std.proofs.Common.{◌≡◌, ◌+◌, arith}
+use Rattle.std.proofs.Common.{◌+◌, arith}
 use Rattle.tmr_outside.proofs.PieceLemmas.{HandsOn-then, ReadsUpTo-after}
 use Rattle.tmr_outside.proofs.reading.hand_out_within.Goals as goal
 
