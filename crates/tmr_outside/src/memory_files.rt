@@ -1,5 +1,5 @@
 //! Files in memory.
-ghost use Rattle.std.specs.Prelude.{◌≡◌, ◌≢◌, ◌<◌, ◌≤◌, ◌⊎◌, List, ℕ, [], take, vec_len, IfOk, OnOk, OnErr, IsOk, IsErrOf, IsSome, IfSome, IfNone, ◌∷◌, ◌++◌, length, Option, IsSomeAnd, Some, None, option_map};
+ghost use Rattle.std.specs.Prelude.{◌≡◌, ◌≢◌, ◌<◌, ◌≤◌, ◌⊎◌, List, ℕ, [], take, vec_len, IfOk, OnOk, OnErr, IsOk, IsErrOf, IsSome, IfSome, IsOkUnless, ◌∷◌, ◌++◌, length, Option, IsSomeAnd, Some, None, option_map};
 ghost use Rattle.std.specs.FinMap.{empty, get, insert};
 ghost use Rattle.tmr_outside.specs.Contents.{IsTooLong};
 ghost use Rattle.tmr_outside.specs.Counts.{NoneFell, NoneRose, OthersStay};
@@ -81,48 +81,44 @@ impl MemFiles {
     }
 }
 
-/// The file of a load that is not to fail, if it is there.
-fn loadable<'a>(stored: &'a StoredFiles, name: &str, keep: Option<u64>) -> Option<&'a [u8]>
-    ensures file { IfSome result (λ bytes. get stored.now name.now ≡ Some bytes.now) }
-    ensures some { IsSome result → keep ≡ None }
-    ensures none { IfNone result (IsSome keep ⊎ (get stored.now name.now ≡ None)) }
+/// The file of a load, where the call is not to fail and the file is there and has at most `limit` bytes.
+fn loadable<'a>(
+    stored: &'a StoredFiles,
+    name: &str,
+    limit: u64,
+    keep: Option<u64>,
+) -> Result<&'a [u8], LoadFault>
+    ensures ok { IfOk result (λ bytes. get stored.now name.now ≡ Some bytes.now) }
+    ensures within { IfOk result (λ bytes. length bytes.now ≤ limit) }
+    ensures too_long { IsErrOf result LoadFault.TooLong → IsTooLong stored.now name.now limit }
+    ensures failed { IsErrOf result LoadFault.Failed → IsSome keep ⊎ (get stored.now name.now ≡ None) }
+    ensures failed_only { (result ≢ Err LoadFault.Failed) → (keep ≡ None) × IsSome (get stored.now name.now) }
+    ensures kinds { result ≢ Err LoadFault.Memory }
 {
-    match keep {
-        None => stored.get(name),
-        Some(_) => None,
+    if keep.is_some() {
+        return Err(LoadFault::Failed);
+    }
+    match stored.get(name) {
+        Some(bytes) => {
+            if bytes.len() as u64 > limit {
+                Err(LoadFault::TooLong)
+            } else {
+                Ok(bytes)
+            }
+        }
+        None => Err(LoadFault::Failed),
     }
 }
 
-/// A copy of the bytes, if there are at most `limit`.
-fn copy_within(alloc: Global, bytes: &[u8], limit: u64) -> Result<Vec<u8>, LoadFault>
-    ensures ok { IfOk result (λ copy. copy.items ≡ bytes.now) }
-    ensures within { OnOk result (length bytes.now ≤ limit) }
-    ensures too_long { IsErrOf result LoadFault.TooLong → limit < length bytes.now }
-    ensures kinds { result ≢ Err LoadFault.Failed }
+/// A copy of the bytes, if there is room.
+fn copy(alloc: Global, bytes: &[u8]) -> Result<Vec<u8>, LoadFault>
+    ensures ok { IfOk result (λ copied. copied.items ≡ bytes.now) }
+    ensures kinds { IsOkUnless result LoadFault.Memory }
 {
-    if bytes.len() as u64 > limit {
-        return Err(LoadFault::TooLong);
-    }
     match bytes.to_vec(alloc) {
-        Ok(copy) => Ok(copy),
+        Ok(copied) => Ok(copied),
         Err(_) => Err(LoadFault::Memory),
     }
-}
-
-/// Hands out the bytes in pieces, if there are at most `limit`.
-fn give<T: Taker>(bytes: &[u8], limit: u64, to: &mut T) -> Result<(), LoadFault>
-    requires { limit ≤ T.room to.old }
-    ensures ok { OnOk result (Takes (T.stands to.old) (T.stands to.new) (T.room to.old) (T.room to.new) bytes.now) }
-    ensures within { OnOk result (length bytes.now ≤ limit) }
-    ensures too_long { IsErrOf result LoadFault.TooLong → limit < length bytes.now }
-    ensures unchanged { OnErr result (to.new ≡ to.old) }
-    ensures kinds { (result ≢ Err LoadFault.Failed) × (result ≢ Err LoadFault.Memory) }
-{
-    if bytes.len() as u64 > limit {
-        return Err(LoadFault::TooLong);
-    }
-    hand_out(bytes, to);
-    Ok(())
 }
 
 /// Stores the bytes under the name, if there is room.
@@ -227,9 +223,10 @@ impl Files for MemFiles {
         ensures after { result ≢ Err LoadFault.Failed → self.new ≡ called self.old }
     {
         let keep = self.plan.begin();
-        match loadable(&self.stored, name, keep) {
-            Some(bytes) => copy_within(alloc, bytes, limit),
-            None => Err(fail_load(self.alloc, &mut self.failed, name)),
+        match loadable(&self.stored, name, limit, keep) {
+            Ok(bytes) => copy(alloc, bytes),
+            Err(LoadFault::Failed) => Err(fail_load(self.alloc, &mut self.failed, name)),
+            Err(fault) => Err(fault),
         }
     }
 
@@ -275,9 +272,13 @@ impl Files for MemFiles {
         ensures after { result ≢ Err LoadFault.Failed → self.new ≡ called self.old }
     {
         let keep = self.plan.begin();
-        match loadable(&self.stored, name, keep) {
-            Some(bytes) => give(bytes, limit, to),
-            None => Err(fail_load(self.alloc, &mut self.failed, name)),
+        match loadable(&self.stored, name, limit, keep) {
+            Ok(bytes) => {
+                hand_out(bytes, to);
+                Ok(())
+            }
+            Err(LoadFault::Failed) => Err(fail_load(self.alloc, &mut self.failed, name)),
+            Err(fault) => Err(fault),
         }
     }
 

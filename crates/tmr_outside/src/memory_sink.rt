@@ -6,6 +6,7 @@ ghost use Rattle.tmr_outside.specs.Written.{Grows};
 ghost use Rattle.tmr_outside.specs.Plan.{prefix_left};
 ghost use Rattle.tmr_outside.specs.MemorySink.{letting_out, counting_fault, failing_at};
 
+use crate::fault_count::FaultCount;
 use crate::pieces::front;
 use crate::plan::CallPlan;
 use crate::{PutFault, Sink};
@@ -17,7 +18,7 @@ use std::marker::Model;
 #[derive(Drop)]
 pub struct MemSink {
     bytes: Vec<u8>,
-    faults: u64,
+    faults: FaultCount,
     plan: CallPlan,
 }
 
@@ -41,7 +42,7 @@ impl MemSink {
     {
         MemSink {
             bytes: Vec::new(alloc),
-            faults: 0,
+            faults: FaultCount::new(),
             plan: CallPlan::new(alloc),
         }
     }
@@ -110,7 +111,7 @@ impl Sink for MemSink {
             None => append(&mut self.bytes, bytes),
             Some(keep) => {
                 append(&mut self.bytes, front(bytes, keep))?;
-                self.faults = self.faults.saturating_add(1);
+                self.faults.raise();
                 Err(PutFault::Failed)
             }
         }

