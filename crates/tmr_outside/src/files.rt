@@ -1,9 +1,9 @@
 //! Files by name, and the counts of their faults.
-ghost use Rattle.std.specs.Prelude.{◌≡◌, ◌≢◌, ◌≤◌, ◌⊎◌, List, ℕ, Option, Some, None, vec_len, IfOk, OnOk, IfSome, IsSome, IsSomeAnd, IsErrOf, option_map};
+ghost use Rattle.std.specs.Prelude.{◌≡◌, ◌≢◌, ◌≤◌, ◌⊎◌, List, ℕ, Option, Some, None, vec_len, IfOk, OnOk, IfSome, IsSome, IsOk, IsErrOf, option_map};
 ghost use Rattle.std.specs.FinMap.{get, insert};
 ghost use Rattle.tmr_outside.specs.Contents.{Contents, IsTooLong, SameElsewhere};
 ghost use Rattle.tmr_outside.specs.Counts.{RoseOf, NoneFell, NoneRose, OthersStay};
-ghost use Rattle.tmr_outside.specs.Pieces.{Takes, TakesSome};
+ghost use Rattle.tmr_outside.specs.Pieces.{TakesFile};
 
 use crate::{LoadFault, SaveFault, Taker};
 use std::alloc::Global;
@@ -67,10 +67,8 @@ pub trait Files {
         to: &mut T,
     ) -> Result<(), LoadFault>
         requires { limit ≤ T.room to.old }
-        ensures bytes { OnOk result (IfSome (contents self.old) (λ held. IsSomeAnd (get held name.now)
-            (Takes (T.stands to.old) (T.stands to.new) (T.room to.old) (T.room to.new)))) }
-        ensures taken { TakesSome (T.stands to.old) (T.stands to.new) (T.room to.old) (T.room to.new) limit
-            (contents self.old) name.now }
+        ensures taken { TakesFile (T.stands to.old) (T.stands to.new) (T.room to.old) (T.room to.new) limit
+            (contents self.old) name.now (IsOk result) }
         ensures stays { contents self.new ≡ contents self.old }
 
         ensures too_long { IsErrOf result LoadFault.TooLong
@@ -124,3 +122,6 @@ pub trait Files {
     /// A steady object tells what its files hold.
     ghost steady_tells: { (files : Self) → steady files → IsSome (contents files) };
 }
+
+#[cfg(test)]
+mod tests;

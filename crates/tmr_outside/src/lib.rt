@@ -1,20 +1,33 @@
-//! What the program reads and writes: files by name, and a sink for the printed text.
+//! What lies outside the program: files by name, and a sink for the printed text.
+//!
+//! `Files` and `Sink` count their faults, and the counts never fall. The layer above may rely on what the
+//! files hold and what went out, wherever the object tells it, and on the cause of each refusal: `Failed`
+//! is answered only where a count rose. `MemFiles` and `MemSink` tell everything, and fail exactly at the
+//! calls that were named to them. `DiskFiles` and `StdSink` are the real ones. They tell nothing, so
+//! nothing is proved of what a real file holds.
 #![tactic(auto)]
 
+mod disk_files;
 mod failed_calls;
+mod fault_count;
 mod faults;
 mod files;
+mod gathered;
 mod memory_files;
 mod memory_sink;
 mod pieces;
 mod plan;
+mod reading;
 mod sink;
+mod standard_sink;
 mod stored_files;
 mod taker;
 
+pub use disk_files::DiskFiles;
 pub use faults::{LoadFault, PutFault, SaveFault};
 pub use files::Files;
 pub use memory_files::MemFiles;
 pub use memory_sink::MemSink;
 pub use sink::Sink;
+pub use standard_sink::StdSink;
 pub use taker::{LONGEST_PIECE, Taker};

@@ -1,10 +1,10 @@
 //! Files in memory.
-ghost use Rattle.std.specs.Prelude.{◌≡◌, ◌≢◌, ◌<◌, ◌≤◌, ◌⊎◌, List, ℕ, [], take, vec_len, IfOk, OnOk, OnErr, IsErrOf, IsSome, IfSome, IfNone, ◌∷◌, ◌++◌, length, Option, IsSomeAnd, Some, None, option_map};
+ghost use Rattle.std.specs.Prelude.{◌≡◌, ◌≢◌, ◌<◌, ◌≤◌, ◌⊎◌, List, ℕ, [], take, vec_len, IfOk, OnOk, OnErr, IsOk, IsErrOf, IsSome, IfSome, IsOkUnless, ◌∷◌, ◌++◌, length, Option, IsSomeAnd, Some, None, option_map};
 ghost use Rattle.std.specs.FinMap.{empty, get, insert};
 ghost use Rattle.tmr_outside.specs.Contents.{IsTooLong};
 ghost use Rattle.tmr_outside.specs.Counts.{NoneFell, NoneRose, OthersStay};
 ghost use Rattle.tmr_outside.specs.FailedCalls.{loads_of, saves_of};
-ghost use Rattle.tmr_outside.specs.Pieces.{Takes, TakesSome};
+ghost use Rattle.tmr_outside.specs.Pieces.{Takes, TakesFile};
 ghost use Rattle.tmr_outside.specs.Plan.{prefix_left};
 ghost use Rattle.tmr_outside.specs.MemoryFiles.{failed_loads, failed_saves, called, noting, holding, failing_at};
 
@@ -81,48 +81,44 @@ impl MemFiles {
     }
 }
 
-/// The file of a load that is not to fail, if it is there.
-fn loadable<'a>(stored: &'a StoredFiles, name: &str, keep: Option<u64>) -> Option<&'a [u8]>
-    ensures file { IfSome result (λ bytes. get stored.now name.now ≡ Some bytes.now) }
-    ensures some { IsSome result → keep ≡ None }
-    ensures none { IfNone result (IsSome keep ⊎ (get stored.now name.now ≡ None)) }
+/// The file of a load, where the call is not to fail and the file is there and has at most `limit` bytes.
+fn loadable<'a>(
+    stored: &'a StoredFiles,
+    name: &str,
+    limit: u64,
+    keep: Option<u64>,
+) -> Result<&'a [u8], LoadFault>
+    ensures ok { IfOk result (λ bytes. get stored.now name.now ≡ Some bytes.now) }
+    ensures within { IfOk result (λ bytes. length bytes.now ≤ limit) }
+    ensures too_long { IsErrOf result LoadFault.TooLong → IsTooLong stored.now name.now limit }
+    ensures failed { IsErrOf result LoadFault.Failed → IsSome keep ⊎ (get stored.now name.now ≡ None) }
+    ensures failed_only { (result ≢ Err LoadFault.Failed) → (keep ≡ None) × IsSome (get stored.now name.now) }
+    ensures kinds { result ≢ Err LoadFault.Memory }
 {
-    match keep {
-        None => stored.get(name),
-        Some(_) => None,
+    if keep.is_some() {
+        return Err(LoadFault::Failed);
+    }
+    match stored.get(name) {
+        Some(bytes) => {
+            if bytes.len() as u64 > limit {
+                Err(LoadFault::TooLong)
+            } else {
+                Ok(bytes)
+            }
+        }
+        None => Err(LoadFault::Failed),
     }
 }
 
-/// A copy of the bytes, if there are at most `limit`.
-fn copy_within(alloc: Global, bytes: &[u8], limit: u64) -> Result<Vec<u8>, LoadFault>
-    ensures ok { IfOk result (λ copy. copy.items ≡ bytes.now) }
-    ensures within { OnOk result (length bytes.now ≤ limit) }
-    ensures too_long { IsErrOf result LoadFault.TooLong → limit < length bytes.now }
-    ensures kinds { result ≢ Err LoadFault.Failed }
+/// A copy of the bytes, if there is room.
+fn copy(alloc: Global, bytes: &[u8]) -> Result<Vec<u8>, LoadFault>
+    ensures ok { IfOk result (λ copied. copied.items ≡ bytes.now) }
+    ensures kinds { IsOkUnless result LoadFault.Memory }
 {
-    if bytes.len() as u64 > limit {
-        return Err(LoadFault::TooLong);
-    }
     match bytes.to_vec(alloc) {
-        Ok(copy) => Ok(copy),
+        Ok(copied) => Ok(copied),
         Err(_) => Err(LoadFault::Memory),
     }
-}
-
-/// Hands out the bytes in pieces, if there are at most `limit`.
-fn give<T: Taker>(bytes: &[u8], limit: u64, to: &mut T) -> Result<(), LoadFault>
-    requires { limit ≤ T.room to.old }
-    ensures ok { OnOk result (Takes (T.stands to.old) (T.stands to.new) (T.room to.old) (T.room to.new) bytes.now) }
-    ensures within { OnOk result (length bytes.now ≤ limit) }
-    ensures too_long { IsErrOf result LoadFault.TooLong → limit < length bytes.now }
-    ensures unchanged { OnErr result (to.new ≡ to.old) }
-    ensures kinds { (result ≢ Err LoadFault.Failed) × (result ≢ Err LoadFault.Memory) }
-{
-    if bytes.len() as u64 > limit {
-        return Err(LoadFault::TooLong);
-    }
-    hand_out(bytes, to);
-    Ok(())
 }
 
 /// Stores the bytes under the name, if there is room.
@@ -227,9 +223,10 @@ impl Files for MemFiles {
         ensures after { result ≢ Err LoadFault.Failed → self.new ≡ called self.old }
     {
         let keep = self.plan.begin();
-        match loadable(&self.stored, name, keep) {
-            Some(bytes) => copy_within(alloc, bytes, limit),
-            None => Err(fail_load(self.alloc, &mut self.failed, name)),
+        match loadable(&self.stored, name, limit, keep) {
+            Ok(bytes) => copy(alloc, bytes),
+            Err(LoadFault::Failed) => Err(fail_load(self.alloc, &mut self.failed, name)),
+            Err(fault) => Err(fault),
         }
     }
 
@@ -242,10 +239,8 @@ impl Files for MemFiles {
         to: &mut T,
     ) -> Result<(), LoadFault>
         requires { limit ≤ T.room to.old }
-        ensures bytes { OnOk result (IsSomeAnd (get self.old.held name.now)
-            (Takes (T.stands to.old) (T.stands to.new) (T.room to.old) (T.room to.new))) }
-        ensures taken { TakesSome (T.stands to.old) (T.stands to.new) (T.room to.old) (T.room to.new) limit
-            (Some self.old.held) name.now }
+        ensures taken { TakesFile (T.stands to.old) (T.stands to.new) (T.room to.old) (T.room to.new) limit
+            (Some self.old.held) name.now (IsOk result) }
         ensures stays { self.new.held ≡ self.old.held }
         ensures too_long { IsErrOf result LoadFault.TooLong → IsTooLong self.old.held name.now limit }
         ensures too_long_only { OnOk result (¬ (IsTooLong self.old.held name.now limit)) }
@@ -277,9 +272,13 @@ impl Files for MemFiles {
         ensures after { result ≢ Err LoadFault.Failed → self.new ≡ called self.old }
     {
         let keep = self.plan.begin();
-        match loadable(&self.stored, name, keep) {
-            Some(bytes) => give(bytes, limit, to),
-            None => Err(fail_load(self.alloc, &mut self.failed, name)),
+        match loadable(&self.stored, name, limit, keep) {
+            Ok(bytes) => {
+                hand_out(bytes, to);
+                Ok(())
+            }
+            Err(LoadFault::Failed) => Err(fail_load(self.alloc, &mut self.failed, name)),
+            Err(fault) => Err(fault),
         }
     }
 
@@ -319,5 +318,47 @@ impl Files for MemFiles {
                 front(bytes, keep),
             )),
         }
+    }
+}
+
+#[cfg(test)]
+mod tests {
+    use super::*;
+    use std::test::Fail;
+
+    #[test]
+    fn files_are_held_saved_and_loaded(rt: HostRuntime) -> Result<(), Fail> {
+        let alloc = rt.alloc();
+        let mut files = MemFiles::new(alloc);
+        files.hold("a", b"one")?;
+        files.save("b", b"three")?;
+        assert_eq!(rt; files.held("a").ok_or("no a")?, b"one".as_slice());
+        assert_eq!(rt; files.held("b").ok_or("no b")?, b"three".as_slice());
+        assert!(rt; files.held("./a").is_none());
+        let bytes = files.load(alloc, "b", 5)?;
+        assert_eq!(rt; bytes.as_slice(), b"three".as_slice());
+        assert_eq!(rt; files.load(alloc, "b", 4).err(), Some(LoadFault::TooLong));
+        assert_eq!(rt; files.load(alloc, "c", 5).err(), Some(LoadFault::Failed));
+        Ok(())
+    }
+
+    #[test]
+    fn calls_fail_by_their_number(rt: HostRuntime) -> Result<(), Fail> {
+        let alloc = rt.alloc();
+        let mut files = MemFiles::new(alloc);
+        files.fail_at(1, 9)?;
+        files.fail_at(1, 5)?;
+        files.fail_at(2, 9)?;
+        files.fail_at(4, 9)?;
+        files.hold("h", b"old")?;
+        assert_eq!(rt; files.load(alloc, "h", 9)?.as_slice(), b"old".as_slice());
+        assert_eq!(rt; files.save("h", b".model and2"), Err(SaveFault::Failed));
+        assert_eq!(rt; files.held("h"), Some(b".mode".as_slice()));
+        assert_eq!(rt; files.save("h", b"new"), Err(SaveFault::Failed));
+        assert_eq!(rt; files.held("h"), Some(b"new".as_slice()));
+        files.save("h", b"newer")?;
+        assert_eq!(rt; files.load(alloc, "h", 9).err(), Some(LoadFault::Failed));
+        assert_eq!(rt; files.load(alloc, "h", 9)?.as_slice(), b"newer".as_slice());
+        Ok(())
     }
 }

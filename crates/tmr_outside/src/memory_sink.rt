@@ -6,6 +6,7 @@ ghost use Rattle.tmr_outside.specs.Written.{Grows};
 ghost use Rattle.tmr_outside.specs.Plan.{prefix_left};
 ghost use Rattle.tmr_outside.specs.MemorySink.{letting_out, counting_fault, failing_at};
 
+use crate::fault_count::FaultCount;
 use crate::pieces::front;
 use crate::plan::CallPlan;
 use crate::{PutFault, Sink};
@@ -17,7 +18,7 @@ use std::marker::Model;
 #[derive(Drop)]
 pub struct MemSink {
     bytes: Vec<u8>,
-    faults: u64,
+    faults: FaultCount,
     plan: CallPlan,
 }
 
@@ -41,7 +42,7 @@ impl MemSink {
     {
         MemSink {
             bytes: Vec::new(alloc),
-            faults: 0,
+            faults: FaultCount::new(),
             plan: CallPlan::new(alloc),
         }
     }
@@ -110,9 +111,30 @@ impl Sink for MemSink {
             None => append(&mut self.bytes, bytes),
             Some(keep) => {
                 append(&mut self.bytes, front(bytes, keep))?;
-                self.faults = self.faults.saturating_add(1);
+                self.faults.raise();
                 Err(PutFault::Failed)
             }
         }
+    }
+}
+
+#[cfg(test)]
+mod tests {
+    use super::*;
+    use std::test::Fail;
+
+    #[test]
+    fn puts_are_kept_and_fail_by_their_number(rt: HostRuntime) -> Result<(), Fail> {
+        let mut sink = MemSink::new(rt.alloc());
+        sink.fail_at(1, 9)?;
+        sink.fail_at(1, 3)?;
+        sink.fail_at(2, 9)?;
+        sink.put(b"one ")?;
+        assert_eq!(rt; sink.put(b"accepted"), Err(PutFault::Failed));
+        assert_eq!(rt; sink.written(), b"one acc".as_slice());
+        assert_eq!(rt; sink.put(b" two"), Err(PutFault::Failed));
+        sink.put(b" three")?;
+        assert_eq!(rt; sink.written(), b"one acc two three".as_slice());
+        Ok(())
     }
 }

@@ -1,5 +1,4 @@
-use Rattle.std.proofs.Common.{◌≡◌, ◌≤◌, List, ℕ, subst, arith}
-use Rattle.tmr_outside.specs.Pieces.{Takes}
+use Rattle.std.proofs.Common.{◌≤◌, arith}
 use Rattle.tmr_outside.proofs.PieceLemmas.{Takes-then, take-part}
 use Rattle.tmr_outside.proofs.pieces.hand_out.Goals as goal
 

@@ -1,4 +1,4 @@
-use Rattle.std.proofs.Common.{◌≡◌, refl}
+use Rattle.std.proofs.Common.{refl}
 use Rattle.tmr_outside.proofs.PlanLemmas.{failing_of-insert}
 use Rattle.tmr_outside.proofs.plan.CallPlan.fail_at.Goals as goal
 

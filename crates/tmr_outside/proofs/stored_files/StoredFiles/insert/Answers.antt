@@ -1,4 +1,4 @@
-use Rattle.std.proofs.Common.{◌≡◌, arith}
+use Rattle.std.proofs.Common.{arith}
 use Rattle.std.proofs.lemmas.Grind.{common_steps}
 use Rattle.tmr_outside.proofs.ContentsLemmas.{contents_of-insert}
 use Rattle.tmr_outside.proofs.stored_files.StoredFiles.insert.Goals as goal

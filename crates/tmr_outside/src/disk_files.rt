@@ -1,0 +1,148 @@
+//! Real files.
+ghost use Rattle.std.specs.Prelude.{◌≤◌, None, IfOk, IsOk, vec_len};
+ghost use Rattle.tmr_outside.specs.Pieces.{TakesFile};
+
+use crate::fault_count::FaultCount;
+use crate::gathered::Gathered;
+use crate::reading::{hand_out_within, load_fault};
+use crate::{Files, LoadFault, SaveFault, Taker};
+use std::alloc::Global;
+use std::io::{ErrorKind, Write};
+use std::{fs, rt};
+
+/// Real files, as the runtime has them. They tell nothing of what they hold, and are never steady. One
+/// count serves the loads and the saves of all names, and each refusal raises it.
+#[derive(Drop)]
+pub struct DiskFiles<'a, R: rt::Files> {
+    rt: &'a R,
+    faults: FaultCount,
+}
+
+impl<'a, R: rt::Files> DiskFiles<'a, R> {
+    /// The files of this runtime, without faults.
+    pub fn new(rt: &'a R) -> Self {
+        DiskFiles {
+            rt,
+            faults: FaultCount::new(),
+        }
+    }
+}
+
+/// Hands out a file in pieces, if it has at most `limit` bytes.
+fn read_file<R: rt::Files, T: Taker>(
+    rt: &R,
+    name: &str,
+    limit: u64,
+    to: &mut T,
+) -> Result<(), LoadFault>
+    requires { limit ≤ T.room to.old }
+    ensures { TakesFile (T.stands to.old) (T.stands to.new) (T.room to.old) (T.room to.new) limit None name.now (IsOk result) }
+{
+    match fs::open(rt, name) {
+        Ok(mut file) => hand_out_within(&mut file, limit, to),
+        Err(e) => Err(load_fault(&e)),
+    }
+}
+
+/// The bytes of a file, if there are at most `limit`.
+fn gather_file<R: rt::Files>(
+    rt: &R,
+    alloc: Global,
+    name: &str,
+    limit: u64,
+) -> Result<Vec<u8>, LoadFault>
+    ensures { IfOk result (λ bytes. vec_len bytes ≤ limit) }
+{
+    let mut gathered = Gathered::new(alloc, limit);
+    read_file(rt, name, limit, &mut gathered)?;
+    if gathered.complete {
+        Ok(gathered.bytes)
+    } else {
+        Err(LoadFault::Memory)
+    }
+}
+
+/// Writes a file anew. A refusal for want of memory comes only where the file was not yet opened, so that
+/// it is as before.
+fn write_anew<R: rt::Files>(rt: &R, name: &str, bytes: &[u8]) -> Result<(), SaveFault> {
+    let mut file = match fs::create(rt, name) {
+        Ok(file) => file,
+        Err(e) => {
+            return Err(if e.kind() == ErrorKind::OutOfMemory {
+                SaveFault::Memory
+            } else {
+                SaveFault::Failed
+            });
+        }
+    };
+    match file.write_all(bytes) {
+        Ok(()) => Ok(()),
+        Err(_) => Err(SaveFault::Failed),
+    }
+}
+
+impl<R: rt::Files> Files for DiskFiles<'_, R> {
+    ghost use Rattle.std.specs.Prelude.{None};
+
+    ghost contents = { λ files. None };
+
+    ghost load_count = { λ files name. files.faults };
+
+    ghost save_count = { λ files name. files.faults };
+
+    ghost steady = { λ files. ⊥ };
+
+    ghost steady_tells = { λ files never. absurd never };
+
+    fn load(&mut self, alloc: Global, name: &str, limit: u64) -> Result<Vec<u8>, LoadFault> {
+        let outcome = gather_file(self.rt, alloc, name, limit);
+        self.faults.raise_if(outcome.is_err());
+        outcome
+    }
+
+    fn load_pieces<T: Taker>(
+        &mut self,
+        _alloc: Global,
+        name: &str,
+        limit: u64,
+        to: &mut T,
+    ) -> Result<(), LoadFault> {
+        let outcome = read_file(self.rt, name, limit, to);
+        self.faults.raise_if(outcome.is_err());
+        outcome
+    }
+
+    fn save(&mut self, name: &str, bytes: &[u8]) -> Result<(), SaveFault> {
+        let outcome = write_anew(self.rt, name, bytes);
+        self.faults.raise_if(outcome.is_err());
+        outcome
+    }
+}
+
+#[cfg(test)]
+mod tests {
+    use super::*;
+    use std::test::Fail;
+    use std::{env, process};
+
+    #[test]
+    fn real_files_are_saved_and_loaded(rt: HostRuntime) -> Result<(), Fail> {
+        let alloc = rt.alloc();
+        let file = format!(in alloc; "tmr_outside-{}", process::id(rt.process()))?;
+        let path = env::temp_dir(&rt)?.join(alloc, file.as_str())?;
+        let long = vec![in alloc; 7u8; 140_000]?;
+        let mut files = DiskFiles::new(&rt);
+        files.save(path.as_str(), long.as_slice())?;
+        let bytes = files.load(alloc, path.as_str(), 140_000)?;
+        assert_eq!(rt; bytes.as_slice(), long.as_slice());
+        let short = files.load(alloc, path.as_str(), 139_999);
+        assert_eq!(rt; short.err(), Some(LoadFault::TooLong));
+        let mut gathered = Gathered::new(alloc, 140_000);
+        files.load_pieces(alloc, path.as_str(), 140_000, &mut gathered)?;
+        assert_eq!(rt; gathered.bytes.as_slice(), long.as_slice());
+        fs::remove_file(&rt, path.as_str())?;
+        let missing = files.load(alloc, path.as_str(), 140_000);
+        assert_eq!(rt; missing.err(), Some(LoadFault::Failed));
+        Ok(())
+    }
+}

@@ -1,0 +1,110 @@
+//! The standard output.
+ghost use Rattle.std.specs.Prelude.{None};
+
+use crate::fault_count::FaultCount;
+use crate::{PutFault, Sink};
+use std::io::ErrorKind;
+
+/// The standard output, as the runtime has it. It tells nothing of what went out, and is never steady.
+/// Each refusal raises its count.
+#[derive(Drop)]
+pub struct StdSink<'a, P: Print> {
+    to: &'a P,
+    faults: FaultCount,
+}
+
+impl<'a, P: Print> StdSink<'a, P> {
+    /// The standard output of this runtime, without faults.
+    pub fn new(to: &'a P) -> Self {
+        StdSink {
+            to,
+            faults: FaultCount::new(),
+        }
+    }
+}
+
+/// Writes all the bytes. A refusal for want of memory comes only where nothing went out.
+fn write_all(to: &impl Print, bytes: &[u8]) -> Result<(), PutFault> {
+    let count = match to.write_some(bytes) {
+        Ok(count) => count,
+        Err(e) => {
+            return match e.kind() {
+                ErrorKind::OutOfMemory => Err(PutFault::Memory),
+                ErrorKind::Interrupted => write_rest(to, bytes),
+                _ => Err(PutFault::Failed),
+            };
+        }
+    };
+    write_rest(to, &bytes[count..])
+}
+
+/// Writes the bytes that are left.
+fn write_rest(to: &impl Print, bytes: &[u8]) -> Result<(), PutFault> {
+    match to.write_all(bytes) {
+        Ok(()) => Ok(()),
+        Err(_) => Err(PutFault::Failed),
+    }
+}
+
+impl<P: Print> Sink for StdSink<'_, P> {
+    ghost use Rattle.std.specs.Prelude.{None};
+
+    ghost written = { λ sink. None };
+
+    ghost put_count = { λ sink. sink.faults };
+
+    ghost steady = { λ sink. ⊥ };
+
+    fn put(&mut self, bytes: &[u8]) -> Result<(), PutFault> {
+        let outcome = write_all(self.to, bytes);
+        self.faults.raise_if(outcome.is_err());
+        outcome
+    }
+}
+
+#[cfg(test)]
+mod tests {
+    use super::*;
+    use std::fmt::Display;
+    use std::io;
+    use std::test::Fail;
+
+    /// An output that takes three bytes and then no more, or none at all.
+    #[derive(Drop)]
+    struct Broken {
+        taken: Option<usize>,
+    }
+
+    impl Print for Broken {
+        fn print<D: Display + Drop>(&self, _value: D) -> io::Result<()> {
+            Err(io::Error::from(ErrorKind::Unsupported))
+        }
+
+        fn println<D: Display + Drop>(&self, _value: D) -> io::Result<()> {
+            Err(io::Error::from(ErrorKind::Unsupported))
+        }
+
+        fn write_all(&self, _bytes: &[u8]) -> io::Result<()> {
+            Err(io::Error::from(ErrorKind::OutOfMemory))
+        }
+
+        fn write_some(&self, bytes: &[u8]) -> io::Result<usize> {
+            match self.taken {
+                Some(count) => Ok(count.min(bytes.len())),
+                None => Err(io::Error::from(ErrorKind::OutOfMemory)),
+            }
+        }
+    }
+
+    #[test]
+    fn texts_go_out_or_are_refused(rt: HostRuntime) -> Result<(), Fail> {
+        StdSink::new(&rt).put(b"accepted\n")?;
+        let half = Broken { taken: Some(3) };
+        let mut sink = StdSink::new(&half);
+        assert_eq!(rt; sink.put(b"accepted"), Err(PutFault::Failed));
+        let none = Broken { taken: None };
+        let mut sink = StdSink::new(&none);
+        assert_eq!(rt; sink.put(b"accepted"), Err(PutFault::Memory));
+        Ok(())
+    }
+}
