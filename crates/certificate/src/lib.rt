@@ -15,9 +15,10 @@ mod reading;
 mod role;
 mod text;
 mod triples;
+mod writing;
 
 pub use certificate::Certificate;
 pub use draft::CertDraft;
 pub use fault::CertFault;
 pub use role::Role;
-pub use text::read_cert;
+pub use text::{read_cert, write_cert};

@@ -2,13 +2,16 @@
 ghost use Rattle.std.specs.Prelude.{◌≡◌, ◌≤◌, length, IfOk, Ok};
 ghost use Rattle.certificate.specs.Cert.{PlainCert, IsCert, Fits};
 ghost use Rattle.certificate.specs.Gives.{Gives};
+ghost use Rattle.certificate.specs.Length.{cert_length};
 ghost use Rattle.certificate.specs.Reading.{cert_of_text};
 ghost use Rattle.certificate.specs.Text.{cert_text};
 
 use crate::reading::draft_of_text;
+use crate::writing::lines_of;
 use crate::{CertFault, Certificate};
 use flat_net::FlatNet;
 use std::alloc::Global;
+use tmr_base::OutOfMemory;
 
 /// The certificate that a text gives for the original n and the hardened design h.
 pub fn read_cert(
@@ -31,4 +34,23 @@ pub fn read_cert(
         Ok(draft) => Ok(Certificate::make(draft)),
         Err(fault) => Err(fault),
     }
+}
+
+/// The text of a certificate for the original n and the hardened design h, which it fits.
+pub fn write_cert(
+    alloc: Global,
+    n: &FlatNet,
+    h: &FlatNet,
+    c: &Certificate,
+) -> Result<Vec<u8>, OutOfMemory>
+    requires { Fits n.now.net h.now.net c.now }
+    ensures text { IfOk result (λ bytes. bytes.items ≡ cert_text n.now.net h.now.net c.now) }
+    // What is written is read again.
+    ensures read { IfOk result (λ bytes. cert_of_text n.now.net h.now.net bytes.items ≡ Ok c.now) }
+    ensures length { IfOk result (λ bytes. length bytes.items ≡ cert_length n.now.net h.now.net c.now) }
+{
+    n.input_count();
+    h.input_count();
+    let bytes = lines_of(alloc, n, h, c)?;
+    Ok(bytes)
 }
