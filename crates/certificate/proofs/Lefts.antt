@@ -1,5 +1,5 @@
 -- One line is put, and the others are left.
-use Rattle.std.proofs.Common.{◌≡◌, ℕ, ◌+◌, ◌-◌, ◌<◌, ◌≤◌, List, [], ◌∷◌, ◌++◌, length, drop, get_or, slice_get, Some, refl, sym, ap, subst, ◌∙◌, append_assoc, add-one, drop-cons, arith}
+use Rattle.std.proofs.Common.{◌≡◌, ℕ, ◌+◌, ◌-◌, ◌<◌, List, [], ◌∷◌, ◌++◌, length, drop, get_or, slice_get, Some, refl, sym, ap, subst, ◌∙◌, append_assoc, add-one, drop-cons, arith}
 use Rattle.std.specs.Prelude.{codes}
 use Rattle.std.specs.List.{flat_map}
 use Rattle.std.specs.Fmt.{decimal}
@@ -11,7 +11,6 @@ use Rattle.tmr_base.specs.Copies.{Three, of_copy}
 use Rattle.flat_net.specs.Net.{Net, slot}
 use Rattle.flat_net.proofs.Slots.{slot_at}
 use Rattle.certificate.specs.declared.role.Role.{Role}
-use Rattle.certificate.specs.declared.role.Role.TheVariants.{Copy}
 use Rattle.certificate.specs.Cert.{PlainCert, IsCert, part_of, copy_of, label_of, role_of, three_or_zero}
 use Rattle.certificate.specs.Text.{line_text, node_line, node_lines, voter_line, voter_lines, cert_text}
 use Rattle.certificate.specs.Left.{parts_left, nodes_left, voters_left}

@@ -1,5 +1,5 @@
 -- How long the lines are.
-use Rattle.std.proofs.Common.{◌≡◌, ℕ, zero, suc, ◌+◌, ◌<◌, ◌≤◌, List, [], ◌∷◌, ◌++◌, length, get_or, slice_get, Some, refl, sym, ap, subst, append_assoc, ◌∙◌, arith}
+use Rattle.std.proofs.Common.{◌≡◌, ℕ, suc, ◌+◌, ◌<◌, List, [], ◌∷◌, ◌++◌, length, get_or, slice_get, Some, refl, sym, ap, subst, append_assoc, ◌∙◌, arith}
 use Rattle.std.specs.Prelude.{codes}
 use Rattle.std.specs.List.{flat_map, sum_by, range_with_len, join_with_byte}
 use Rattle.std.specs.Fmt.{decimal}
@@ -9,11 +9,11 @@ use Rattle.std.proofs.lemmas.List.Sums.{sum_by-cons}
 use Rattle.std.proofs.lemmas.Fmt.{decimal_digit}
 use Rattle.tmr_base.specs.declared.copies.CopyNo.{CopyNo}
 use Rattle.tmr_base.specs.declared.copies.CopyNo.TheVariants.{First, Second, Third}
-use Rattle.tmr_base.specs.Copies.{Three, of_copy, copy_number}
+use Rattle.tmr_base.specs.Copies.{Three, copy_number}
 use Rattle.flat_net.specs.Net.{Net, name_of}
 use Rattle.certificate.specs.declared.role.Role.{Role}
 use Rattle.certificate.specs.declared.role.Role.TheVariants.{Copy, Voter}
-use Rattle.certificate.specs.Cert.{PlainCert, IsCert, copy_of, label_of, role_of}
+use Rattle.certificate.specs.Cert.{PlainCert, IsCert, role_of}
 use Rattle.certificate.specs.Text.{line_text, part_line, part_lines, node_line, node_lines, voter_line, voter_lines, cert_text}
 use Rattle.certificate.specs.Length.{digits, part_length, node_length, role_length, cert_length}
 use Rattle.certificate.proofs.Filling.{no_three}

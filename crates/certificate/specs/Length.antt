@@ -1,5 +1,5 @@
 -- How many bytes a certificate's text has.
-use Rattle.std.specs.Prelude.{ℕ, zero, suc, ◌+◌, length, Option, Some, None, slice_index}
+use Rattle.std.specs.Prelude.{ℕ, ◌+◌, length, Option, Some, None, slice_index}
 use Rattle.std.specs.List.{sum_by, range_with_len}
 use Rattle.std.specs.Fmt.{decimal}
 use Rattle.tmr_base.specs.declared.copies.CopyNo.TheVariants.{First, Second, Third}

@@ -3,6 +3,9 @@
 //! The layers above may rely on this: a `Certificate` is a record of lists that is consistent (each
 //! number in range, h is copy c of x exactly where h has that role). The definitions of reading, of the
 //! eight rules, and of allowed and quiet schedules stand here, in specs/.
+//!
+//! A certificate's text is read exactly (`read_cert`: the certificate, or the first line that is not the
+//! expected one, with its fault), and what is written (`write_cert`) is read again.
 #![tactic(auto)]
 
 mod certificate;

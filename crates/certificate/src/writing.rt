@@ -12,9 +12,9 @@ ghost use Rattle.std.specs.List.{flat_map};
 ghost use Rattle.certificate.specs.declared.role.Role.TheVariants.{Voter};
 
 use crate::{Certificate, Role};
-use tmr_base::{CopyNo, NetId, PartId};
 use flat_net::FlatNet;
 use std::alloc::{AllocError, Global};
+use tmr_base::{CopyNo, NetId, PartId};
 
 /// Puts a line: its words, with a blank between each two, and a line feed.
 fn put_line(out: &mut Vec<u8>, first: &[u8], rest: &[&[u8]]) -> Result<(), AllocError>

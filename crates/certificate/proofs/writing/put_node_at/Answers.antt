@@ -1,5 +1,4 @@
 use Rattle.std.proofs.Common.{◌≡◌, ◌+◌, ◌∷◌, [], ℕ, sym, ap, ◌∙◌}
-use Rattle.tmr_base.specs.declared.copies.CopyNo.{CopyNo}
 use Rattle.tmr_base.specs.Copies.{Three}
 use Rattle.certificate.specs.Threes.{three_of, three_ids}
 use Rattle.certificate.specs.Cert.{copy_of, label_of}
