@@ -10,3 +10,5 @@ pub mod Found
 pub mod Again
 pub mod RoundTrip
 pub mod Puts
+pub mod Lefts
+pub mod Lengths

@@ -295,7 +295,7 @@ roles_again n h k parts given tail (Voter x p c ∷ rs) s valid valid_h small ca
 
 -- ---- what a certificate of the two designs has
 
-copy_at : (k : PlainCert) (i : ℕ) (c : CopyNo) → i < length k.copies → copy_of k (k.original_inputs + i) c ≡ of_copy (get_or k.copies i no_three) c
+pub copy_at : (k : PlainCert) (i : ℕ) (c : CopyNo) → i < length k.copies → copy_of k (k.original_inputs + i) c ≡ of_copy (get_or k.copies i no_three) c
 copy_at k i c lt =
     let less : k.original_inputs + i - k.original_inputs ≡ i = omega arith in
     let s : slot k.original_inputs k.copies (k.original_inputs + i) ≡ Some (get_or k.copies i no_three) = slot_at k.original_inputs k.copies (k.original_inputs + i) (omega arith) ∙ (ap (slice_get k.copies) less ∙ slice_get-get_or k.copies i no_three lt) in
@@ -390,7 +390,8 @@ last_line_again : (r : Rest) → r.bytes ≡ flat_map line_text ((codes "end" �
 unfolding last_line
 last_line_again r e = rw (next_of r (codes "end") [] [] (coded (codes "end") refl, tt) e) refl
 
-text_is : (n h : Net) (k : PlainCert) → cert_text n h k ≡ line_text (codes "tmr-cert" ∷ codes "1" ∷ []) ++ (line_text (codes "parts" ∷ decimal (length k.depth) ∷ []) ++ (flat_map line_text (part_lines 0 k.depth) ++ (flat_map line_text (node_lines n h k.original_inputs k.part k.copies k.labels) ++ (flat_map line_text (voter_lines n h k.hardened_inputs k.roles) ++ flat_map line_text ((codes "end" ∷ []) ∷ [])))))
+-- the text, line by line
+pub text_is : (n h : Net) (k : PlainCert) → cert_text n h k ≡ line_text (codes "tmr-cert" ∷ codes "1" ∷ []) ++ (line_text (codes "parts" ∷ decimal (length k.depth) ∷ []) ++ (flat_map line_text (part_lines 0 k.depth) ++ (flat_map line_text (node_lines n h k.original_inputs k.part k.copies k.labels) ++ (flat_map line_text (voter_lines n h k.hardened_inputs k.roles) ++ flat_map line_text ((codes "end" ∷ []) ∷ [])))))
 unfolding cert_lines
 text_is n h k = ap (λ (b : List ℕ). line_text (codes "tmr-cert" ∷ codes "1" ∷ []) ++ (line_text (codes "parts" ∷ decimal (length k.depth) ∷ []) ++ b))
     (flat_map-append line_text (part_lines 0 k.depth) _ ∙ ap (λ (b : List ℕ). flat_map line_text (part_lines 0 k.depth) ++ b)

@@ -11,3 +11,5 @@ pub mod Text
 pub mod Reading
 pub mod Plain
 pub mod Tables
+pub mod Left
+pub mod Length

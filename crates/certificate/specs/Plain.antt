@@ -7,15 +7,19 @@ use Rattle.certificate.specs.declared.line_kinds.NodeLine as declared
 use Rattle.certificate.specs.Threes.{three_of, three_ids}
 use Rattle.certificate.specs.Reading.{NodeLine}
 
+-- the bytes of a word
 abbrev pub text : Bor (List ℕ) → List ℕ
 text w = w.now
 
+-- the bytes of each word
 abbrev pub texts : List (Bor (List ℕ)) → List (List ℕ)
 texts ws = map text ws
 
+-- a node's line, as numbers
 abbrev pub plain_line : declared.NodeLine → NodeLine
 plain_line l = record { part = l.part; copies = three_ids l.copies; labels = three_of l.labels }
 
+-- the number of a node, which no input has
 abbrev pub IsNode : Net → ℕ → Type 0
 IsNode n x = (length n.inputs ≤ x) × (x < net_count n)
 

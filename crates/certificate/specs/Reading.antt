@@ -1,4 +1,6 @@
--- Reading a certificate's text for two designs: what its lines say, or the first fault.
+-- Reading a certificate's text for two designs, line by line: what the lines say, or the first line that is not the
+-- expected one, with its fault. Within a line a wrong form comes first, then an unknown net, then the order, then the
+-- partition, then a doubled copy: the steps of each definition stand in this order.
 use Rattle.std.specs.Prelude.{ℕ, zero, suc, ◌+◌, ◌-◌, ◌==◌, nat_lt, List, [], ◌∷◌, ◌++◌, length, replicate, codes, Option, Some, None, is_none, Result, Ok, if◌then◌else◌, slice_index_or, set}
 use Rattle.std.specs.Str.{bytes_eq}
 use Rattle.tmr_base.specs.declared.copies.CopyNo.{CopyNo}
@@ -17,13 +19,14 @@ unfoldable pub repeat : {S : Type 0} → ℕ → (S → Result S CertFault) → 
 repeat zero step s = Ok s
 repeat (suc n) step s = step s >>= repeat n step
 
+-- `tmr-cert 1`
 unfoldable pub first_line : Rest → Result Rest CertFault
 first_line r = do
   line ← next_line r
   _ ← hold (bytes_eq line.0 (codes "tmr-cert 1")) (Line r.line)
   Ok line.1
 
--- nothing stands after the last line
+-- `end`, and nothing after it
 unfoldable pub last_line : Rest → Result Rest CertFault
 last_line r = do
   line ← next_line r
@@ -31,13 +34,13 @@ last_line r = do
   _ ← hold (length line.1.bytes == 0) (Line line.1.line)
   Ok line.1
 
--- how many partitions there are
+-- `parts K`: how many partitions there are
 unfoldable pub read_parts : List ℕ → ℕ → Result ℕ CertFault
 read_parts text line = do
   words ← form_words text 2 (codes "parts") line
   number_at (word words 1) line
 
--- the depth of partition p
+-- `part P depth D`: the depth of partition p
 unfoldable pub read_part : ℕ → List ℕ → ℕ → Result ℕ CertFault
 read_part p text line = do
   words ← form_words text 4 (codes "part") line
@@ -47,11 +50,12 @@ read_part p text line = do
   _ ← hold (q == p) (Line line)
   Ok depth
 
+-- an input is no node
 abbrev pub node_or_none : ℕ → Option ℕ → Option ℕ
 node_or_none inputs None = None
 node_or_none inputs (Some x) = if nat_lt x inputs then None else Some x
 
--- the number of the node with this name; an input is none
+-- the number of the node with this name
 unfoldable pub known : Net → List ℕ → ℕ → Result ℕ CertFault
 known n name line = want (node_or_none (length n.inputs) (net_named n name)) (UnknownNet line)
 
@@ -82,7 +86,7 @@ pub record NodeLine : Type 0 where
   pub copies : Three
   pub labels : Three
 
--- the line of original node x, where there are so many partitions
+-- `node X P H0 H1 H2 E0 E1 E2`, where original node x is due and there are so many partitions
 unfoldable pub read_node : Net → Net → ℕ → ℕ → List ℕ → ℕ → Result NodeLine CertFault
 read_node n h x parts text line = do
   words ← form_words text 9 (codes "node") line
@@ -93,12 +97,13 @@ read_node n h x parts text line = do
   _ ← hold (nat_lt numbers.0 parts) (Range line)
   Ok (record { part = numbers.0; copies = copies; labels = numbers.1 })
 
--- the role of a hardened node, if it has none yet
+-- hardened net g gets this role, if it has none yet
 unfoldable pub give : ℕ → ℕ → Role → ℕ → List (Option Role) → Result (List (Option Role)) CertFault
 give inputs g role line roles = do
   _ ← hold (is_none (slice_index_or roles (g - inputs) None)) (Doubled line)
   Ok (set roles (g - inputs) (Some role))
 
+-- the three copies of x get their roles
 unfoldable pub give_copies : ℕ → ℕ → Three → ℕ → List (Option Role) → Result (List (Option Role)) CertFault
 give_copies inputs x copies line roles = do
   one ← give inputs copies.first (Copy (record { 0 = x }) First) line roles
@@ -110,6 +115,7 @@ pub record Depths : Type 0 where
   pub depth : List ℕ
   pub rest : Rest
 
+-- one partition's line more
 unfoldable pub part_step : Depths → Result Depths CertFault
 part_step s = do
   line ← next_line s.rest
@@ -124,6 +130,7 @@ pub record Nodes : Type 0 where
   pub roles : List (Option Role)
   pub rest : Rest
 
+-- one original node's line more
 unfoldable pub node_step : Net → Net → ℕ → Nodes → Result Nodes CertFault
 node_step n h parts s = do
   line ← next_line s.rest
@@ -137,6 +144,7 @@ node_step n h parts s = do
     rest = line.1;
   })
 
+-- `0`, `1` or `2`
 abbrev pub copy_named : List ℕ → Option CopyNo
 copy_named w = if bytes_eq w (codes "0") then Some First else if bytes_eq w (codes "1") then Some Second else if bytes_eq w (codes "2") then Some Third else None
 
@@ -147,7 +155,7 @@ voter_numbers words line = do
   c ← want (copy_named (word words 4)) (Line line)
   Ok (p, c)
 
--- the line of the voter at hardened net g
+-- `voter H X P C`, where hardened net g is due
 unfoldable pub read_voter : Net → Net → ℕ → ℕ → List ℕ → ℕ → Result Role CertFault
 read_voter n h g parts text line = do
   words ← form_words text 5 (codes "voter") line
@@ -158,12 +166,12 @@ read_voter n h g parts text line = do
   _ ← hold (nat_lt numbers.0 parts) (Range line)
   Ok (Voter (record { 0 = x }) (record { 0 = numbers.0 }) numbers.1)
 
--- the roles of the first hardened nodes, and what is left
+-- the roles of the hardened nodes so far, and what is left
 pub record Roles : Type 0 where
   pub roles : List Role
   pub rest : Rest
 
--- a hardened node that is no copy has a voter's line
+-- a copy has its role from its node's line, and any other hardened node has a voter's line
 abbrev pub role_step : Net → Net → ℕ → Option Role → Roles → Result Roles CertFault
 role_step n h parts (Some role) s = Ok (record { roles = s.roles ++ role ∷ []; rest = s.rest })
 role_step n h parts None s = do
@@ -171,9 +179,11 @@ role_step n h parts None s = do
   role ← read_voter n h (length h.inputs + length s.roles) parts line.0 s.rest.line
   Ok (record { roles = s.roles ++ role ∷ []; rest = line.1 })
 
+-- one hardened node more
 unfoldable pub voter_step : Net → Net → ℕ → List (Option Role) → Roles → Result Roles CertFault
 voter_step n h parts given s = role_step n h parts (slice_index_or given (length s.roles) None) s
 
+-- the line that says how many partitions there are
 unfoldable pub parts_line : Rest → Result (ℕ × Rest) CertFault
 parts_line r = do
   line ← next_line r

@@ -3,6 +3,9 @@
 //! The layers above may rely on this: a `Certificate` is a record of lists that is consistent (each
 //! number in range, h is copy c of x exactly where h has that role). The definitions of reading, of the
 //! eight rules, and of allowed and quiet schedules stand here, in specs/.
+//!
+//! A certificate's text is read exactly (`read_cert`: the certificate, or the first line that is not the
+//! expected one, with its fault), and what is written (`write_cert`) is read again.
 #![tactic(auto)]
 
 mod certificate;
@@ -15,9 +18,10 @@ mod reading;
 mod role;
 mod text;
 mod triples;
+mod writing;
 
 pub use certificate::Certificate;
 pub use draft::CertDraft;
 pub use fault::CertFault;
 pub use role::Role;
-pub use text::read_cert;
+pub use text::{read_cert, write_cert};

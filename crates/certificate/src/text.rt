@@ -1,16 +1,26 @@
-//! A certificate's text.
+//! A certificate's text: `cert_text` says how it is spelled, `cert_of_text` how it is read.
 ghost use Rattle.std.specs.Prelude.{◌≡◌, ◌≤◌, length, IfOk, Ok};
 ghost use Rattle.certificate.specs.Cert.{PlainCert, IsCert, Fits};
 ghost use Rattle.certificate.specs.Gives.{Gives};
+ghost use Rattle.certificate.specs.Length.{cert_length};
 ghost use Rattle.certificate.specs.Reading.{cert_of_text};
 ghost use Rattle.certificate.specs.Text.{cert_text};
 
 use crate::reading::draft_of_text;
+use crate::writing::lines_of;
 use crate::{CertFault, Certificate};
 use flat_net::FlatNet;
 use std::alloc::Global;
+use tmr_base::OutOfMemory;
 
-/// The certificate that a text gives for the original n and the hardened design h.
+/// The certificate that a text gives for the original n and the hardened design h. It fits both.
+///
+/// Each fault has the number of the first line that is not the expected one; where the text ends too
+/// early, that is the number of its lines plus 1. Within a line they come in this order: `Line` for a
+/// wrong word, form or number, a missing line feed, or bytes after `end`; `UnknownNet` for a name that
+/// no node of its design has; `Order` for a node that is not the one that is due; `Range` for a
+/// partition that there is not; `Doubled` for a copy that has a role already. `Memory` comes where
+/// memory ran out. One pass, one look-up a name.
 pub fn read_cert(
     alloc: Global,
     bytes: &[u8],
@@ -20,9 +30,9 @@ pub fn read_cert(
     requires size { length bytes.now ≤ 1073741824 }
     // What is read fits the two designs.
     ensures fits { IfOk result (λ k. Fits n.now.net h.now.net k) }
-    // What is read is written so, each byte of it.
+    // What is read is spelled so, each byte of it.
     ensures found { IfOk result (λ k. bytes.now ≡ cert_text n.now.net h.now.net k) }
-    // What is written is read again, unless memory runs out.
+    // What is spelled so is read, unless memory runs out.
     ensures only { (k : PlainCert) → IsCert k → Fits n.now.net h.now.net k → bytes.now ≡ cert_text n.now.net h.now.net k → Gives (λ k. k) result (Ok k) }
     // The certificate, or the first fault.
     ensures exact { Gives (λ k. k) result (cert_of_text n.now.net h.now.net bytes.now) }
@@ -31,4 +41,25 @@ pub fn read_cert(
         Ok(draft) => Ok(Certificate::make(draft)),
         Err(fault) => Err(fault),
     }
+}
+
+/// The text of certificate c for the original n and the hardened design h, which it fits.
+pub fn write_cert(
+    alloc: Global,
+    n: &FlatNet,
+    h: &FlatNet,
+    c: &Certificate,
+) -> Result<Vec<u8>, OutOfMemory>
+    requires { Fits n.now.net h.now.net c.now }
+    ensures text { IfOk result (λ bytes. bytes.items ≡ cert_text n.now.net h.now.net c.now) }
+    // Reading it gives c.
+    ensures read { IfOk result (λ bytes. cert_of_text n.now.net h.now.net bytes.items ≡ Ok c.now) }
+    // Its length, line by line.
+    ensures length { IfOk result (λ bytes. length bytes.items ≡ cert_length n.now.net h.now.net c.now) }
+{
+    // Each says that its design is valid: its names can be read back.
+    n.input_count();
+    h.input_count();
+    let bytes = lines_of(alloc, n, h, c)?;
+    Ok(bytes)
 }

@@ -1,0 +1,237 @@
+//! Writing a certificate's text.
+ghost use Rattle.std.specs.Prelude.{◌≡◌, ◌<◌, ◌≤◌, ◌+◌, [], ◌∷◌, ◌++◌, length, codes, IfOk, OnOk};
+ghost use Rattle.std.specs.Fmt.{decimal};
+ghost use Rattle.flat_net.specs.Net.{net_count};
+ghost use Rattle.tmr_base.specs.Copies.{copy_number};
+ghost use Rattle.certificate.specs.Plain.{texts};
+ghost use Rattle.certificate.specs.Cert.{Fits, IsCert};
+ghost use Rattle.certificate.specs.Left.{parts_left, nodes_left, voters_left};
+ghost use Rattle.certificate.specs.Threes.{three_of, three_ids};
+ghost use Rattle.certificate.specs.Text.{line_text, part_line, node_line, voter_line, cert_text};
+ghost use Rattle.std.specs.List.{flat_map};
+ghost use Rattle.certificate.specs.declared.role.Role.TheVariants.{Voter};
+
+use crate::{Certificate, Role};
+use flat_net::FlatNet;
+use std::alloc::{AllocError, Global};
+use tmr_base::{CopyNo, NetId, PartId};
+
+/// Puts a line: its words, with a blank between each two, and a line feed.
+fn put_line(out: &mut Vec<u8>, first: &[u8], rest: &[&[u8]]) -> Result<(), AllocError>
+    ensures { OnOk result (out.new.items ≡ out.old.items ++ line_text (first.now ∷ texts rest.now)) }
+{
+    out.extend_from_slice(first)?;
+    for word in rest {
+        out.push(b' ')?;
+        out.extend_from_slice(word)?;
+    }
+    out.push(b'\n')?;
+    Ok(())
+}
+
+/// Puts the line of partition p.
+fn put_part(alloc: Global, out: &mut Vec<u8>, p: u32, depth: u32) -> Result<(), AllocError>
+    ensures { OnOk result (out.new.items ≡ out.old.items ++ line_text (part_line p depth)) }
+{
+    let number = p.to_string(alloc)?;
+    let depth = depth.to_string(alloc)?;
+    put_line(
+        out,
+        b"part",
+        &[number.as_bytes(), b"depth".as_slice(), depth.as_bytes()],
+    )
+}
+
+/// Puts the line of original node x.
+fn put_node(
+    alloc: Global,
+    out: &mut Vec<u8>,
+    n: &FlatNet,
+    h: &FlatNet,
+    x: NetId,
+    part: PartId,
+    copies: [NetId; 3],
+    labels: [u32; 3],
+) -> Result<(), AllocError>
+    requires node { x.0 < net_count n.now.net }
+    requires first { (three_ids copies).first < net_count h.now.net }
+    requires second { (three_ids copies).second < net_count h.now.net }
+    requires third { (three_ids copies).third < net_count h.now.net }
+    ensures { OnOk result (out.new.items ≡ out.old.items ++ line_text (node_line n.now.net h.now.net x.0 part.0 (three_ids copies) (three_of labels))) }
+{
+    let part = part.0.to_string(alloc)?;
+    let first = labels[0].to_string(alloc)?;
+    let second = labels[1].to_string(alloc)?;
+    let third = labels[2].to_string(alloc)?;
+    put_line(
+        out,
+        b"node",
+        &[
+            n.name(x).bytes(),
+            part.as_bytes(),
+            h.name(copies[0]).bytes(),
+            h.name(copies[1]).bytes(),
+            h.name(copies[2]).bytes(),
+            first.as_bytes(),
+            second.as_bytes(),
+            third.as_bytes(),
+        ],
+    )
+}
+
+/// Puts the line of the voter at hardened node g.
+fn put_voter(
+    alloc: Global,
+    out: &mut Vec<u8>,
+    n: &FlatNet,
+    h: &FlatNet,
+    g: NetId,
+    x: NetId,
+    part: PartId,
+    copy: CopyNo,
+) -> Result<(), AllocError>
+    requires voter { g.0 < net_count h.now.net }
+    requires node { x.0 < net_count n.now.net }
+    ensures { OnOk result (out.new.items ≡ out.old.items ++ flat_map line_text (voter_line n.now.net h.now.net g.0 (Voter x part copy))) }
+{
+    let part = part.0.to_string(alloc)?;
+    let copy = copy.number().to_string(alloc)?;
+    put_line(
+        out,
+        b"voter",
+        &[
+            h.name(g).bytes(),
+            n.name(x).bytes(),
+            part.as_bytes(),
+            copy.as_bytes(),
+        ],
+    )
+}
+
+/// Puts the lines of all partitions.
+fn put_parts(alloc: Global, out: &mut Vec<u8>, k: &Certificate) -> Result<(), AllocError>
+    ensures { OnOk result (out.new.items ≡ out.old.items ++ parts_left k.now 0) }
+{
+    for p in 0..k.parts() {
+        put_part(alloc, out, p, k.depth(PartId(p)))?;
+    }
+    Ok(())
+}
+
+/// Puts the line of original node i, counted from 0.
+fn put_node_at(
+    alloc: Global,
+    out: &mut Vec<u8>,
+    n: &FlatNet,
+    h: &FlatNet,
+    k: &Certificate,
+    i: u32,
+) -> Result<(), AllocError>
+    requires fits { Fits n.now.net h.now.net k.now }
+    requires cert { IsCert k.now }
+    requires place { i < length k.now.part }
+    ensures { OnOk result (out.new.items ++ nodes_left n.now.net h.now.net k.now (i + 1) ≡ out.old.items ++ nodes_left n.now.net h.now.net k.now i) }
+{
+    let x = NetId(n.input_count() + i);
+    let copies = [
+        k.copy(x, CopyNo::First),
+        k.copy(x, CopyNo::Second),
+        k.copy(x, CopyNo::Third),
+    ];
+    let labels = [
+        k.label(x, CopyNo::First),
+        k.label(x, CopyNo::Second),
+        k.label(x, CopyNo::Third),
+    ];
+    put_node(alloc, out, n, h, x, k.part(x), copies, labels)?;
+    Ok(())
+}
+
+/// Puts the lines of all original nodes.
+fn put_nodes(
+    alloc: Global,
+    out: &mut Vec<u8>,
+    n: &FlatNet,
+    h: &FlatNet,
+    k: &Certificate,
+) -> Result<(), AllocError>
+    requires fits { Fits n.now.net h.now.net k.now }
+    requires cert { IsCert k.now }
+    ensures { OnOk result (out.new.items ≡ out.old.items ++ nodes_left n.now.net h.now.net k.now 0) }
+{
+    for i in 0..n.node_count() {
+        put_node_at(alloc, out, n, h, k, i)?;
+    }
+    Ok(())
+}
+
+/// Puts the line of hardened node j, counted from 0, where it is a voter.
+fn put_role_at(
+    alloc: Global,
+    out: &mut Vec<u8>,
+    n: &FlatNet,
+    h: &FlatNet,
+    k: &Certificate,
+    j: u32,
+) -> Result<(), AllocError>
+    requires fits { Fits n.now.net h.now.net k.now }
+    requires place { j < length k.now.roles }
+    ensures { OnOk result (out.new.items ++ voters_left n.now.net h.now.net k.now (j + 1) ≡ out.old.items ++ voters_left n.now.net h.now.net k.now j) }
+{
+    let g = NetId(h.input_count() + j);
+    match k.role(g) {
+        Role::Copy { .. } => Ok(()),
+        Role::Voter { node, part, copy } => {
+            put_voter(alloc, out, n, h, g, node, part, copy)?;
+            Ok(())
+        }
+    }
+}
+
+/// Puts the lines of all voters.
+fn put_voters(
+    alloc: Global,
+    out: &mut Vec<u8>,
+    n: &FlatNet,
+    h: &FlatNet,
+    k: &Certificate,
+) -> Result<(), AllocError>
+    requires { Fits n.now.net h.now.net k.now }
+    ensures { OnOk result (out.new.items ≡ out.old.items ++ voters_left n.now.net h.now.net k.now 0) }
+{
+    for j in 0..h.node_count() {
+        put_role_at(alloc, out, n, h, k, j)?;
+    }
+    Ok(())
+}
+
+/// Puts the first two lines.
+fn put_head(alloc: Global, out: &mut Vec<u8>, parts: u32) -> Result<(), AllocError>
+    ensures { OnOk result (out.new.items ≡ (out.old.items ++ line_text (codes "tmr-cert" ∷ codes "1" ∷ [])) ++ line_text (codes "parts" ∷ decimal parts ∷ [])) }
+{
+    let parts = parts.to_string(alloc)?;
+    put_line(out, b"tmr-cert", &[b"1".as_slice()])?;
+    put_line(out, b"parts", &[parts.as_bytes()])?;
+    Ok(())
+}
+
+/// All lines, one after the other.
+pub fn lines_of(
+    alloc: Global,
+    n: &FlatNet,
+    h: &FlatNet,
+    k: &Certificate,
+) -> Result<Vec<u8>, AllocError>
+    requires { Fits n.now.net h.now.net k.now }
+    ensures text { IfOk result (λ bytes. bytes.items ≡ cert_text n.now.net h.now.net k.now) }
+    ensures cert { IsCert k.now }
+{
+    let parts = k.parts();
+    let mut out = Vec::new(alloc);
+    put_head(alloc, &mut out, parts)?;
+    put_parts(alloc, &mut out, k)?;
+    put_nodes(alloc, &mut out, n, h, k)?;
+    put_voters(alloc, &mut out, n, h, k)?;
+    put_line(&mut out, b"end", &[])?;
+    Ok(out)
+}
