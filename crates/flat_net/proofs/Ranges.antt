@@ -1,7 +1,7 @@
 -- Where nodes are.
-use Rattle.std.proofs.Common.{◌≡◌, ℕ, zero, suc, ◌-◌, ◌<◌, ◌≤◌, sym, [], ◌∷◌, length, refl, ap, ◌∙◌, Option, Some, None, subst, slice_index, slice_get, arith}
+use Rattle.std.proofs.Common.{◌≡◌, ℕ, zero, suc, ◌-◌, ◌<◌, ◌≤◌, sym, [], ◌∷◌, length, refl, ap, get_or, ◌∙◌, Option, Some, None, subst, slice_index, slice_get, arith}
 use Rattle.std.proofs.lemmas.Option.{slice_get_within, get_or_from_slice_get}
-use Rattle.flat_net.specs.Net.{Net, Node, Table, Register, node_of, net_count, pins_at, pins_of, pin_total, IsTable, IsRegister, IsValid, IsCoverOf}
+use Rattle.flat_net.specs.Net.{Net, Node, Table, Register, node_of, net_count, pins_at, pins_of, pin_total, IsTable, IsRegister, IsValid, IsCoverOf, Design, IsDesign}
 use Rattle.table_cover.specs.Cover.{PlainCover}
 use Rattle.flat_net.proofs.Slots.{slot_within, slot_at}
 use Rattle.std.proofs.lemmas.List.Sums.{get_or-le-sum_by}
@@ -60,3 +60,16 @@ pins_few n x node valid e =
     let le : length (pins_of node) ≤ pin_total n = subst (λ (m : Node). length (pins_of m) ≤ pin_total n) same most in
     let few = valid.few_pins in
     omega arith
+
+pub pins_at_few : (n : Net) (x : ℕ) → IsValid n → length (pins_at (node_of n x)) < 4294967295
+pins_at_few n x valid = go (node_of n x) refl
+  where
+    go : (o : Option Node) → node_of n x ≡ o → length (pins_at o) < 4294967295
+    go None e = omega arith
+    go (Some node) e = pins_few n x node valid e
+
+-- what stands in the order is a node
+pub ordered_in_range : (d : Design) (i x : ℕ) → IsDesign d → slice_get d.order i ≡ Some x → (length d.net.inputs ≤ x) × (x < net_count d.net)
+ordered_in_range d i x is e =
+    let at : get_or d.order i 0 ≡ x = get_or_from_slice_get d.order i x 0 e in
+    rw at at (is.order.nodes i (slice_get_within d.order i x e))

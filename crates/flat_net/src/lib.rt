@@ -6,6 +6,7 @@
 
 mod kind;
 mod net;
+mod wiring;
 
 pub use kind::Kind;
 pub use net::FlatNet;

@@ -1,0 +1,221 @@
+//! A design but for an order of its nodes, packed: the pins of all nodes stand in one list.
+ghost use Rattle.std.specs.Prelude.{◌≡◌, ◌+◌, ◌-◌, ◌<◌, ◌≤◌, List, ℕ, Bool, length, map, sum_by, count_by, IfSome, IsTrue, Some, None, slice_get, slice_index, slice_range};
+ghost use Rattle.std.specs.List.{flat_map};
+ghost use Rattle.std.specs.Option.{option_map};
+ghost use Rattle.flat_net.specs.Net.{slot, net_count, node_of, pins_at, pins_of, all_pins, pin_total, register_count, is_register, IsTable, IsRegister, IsCoverOf, IsInitOf, name_of, net_named, net_names};
+ghost use Rattle.flat_net.specs.Unordered.{IsUnordered};
+ghost use Rattle.flat_net.specs.Kinds.{kind_of};
+ghost use Rattle.flat_net.specs.Nodes.{number_of};
+ghost use Rattle.flat_net.specs.Packed.{AreEnds, start_of, nodes_from, IsBodyOf};
+
+use crate::Kind;
+use indexmap::IndexSet;
+use std::marker::Model;
+use table_cover::Cover;
+use tmr_base::{Edge, Name, NetId};
+
+/// What a node has beside its name and its pins.
+#[derive(Drop)]
+pub enum Body {
+    TableBody(Cover),
+    RegisterBody(bool),
+}
+
+/// A design but for an order. The names stand in the order of the nets' numbers. The pins of node i
+/// end at `ends[i]`, where those of the next one begin.
+#[derive(Drop)]
+pub struct Wiring {
+    model: Name,
+    names: IndexSet<Name>,
+    inputs: u32,
+    bodies: Vec<Body>,
+    ends: Vec<u32>,
+    pins: Vec<NetId>,
+    registers: u32,
+    outputs: Vec<NetId>,
+    clock: Option<(Edge, Name)>,
+}
+
+impl Model for Wiring {
+    ghost use Rattle.flat_net.specs.Net.{Net};
+
+    ghost Value = { Net };
+
+    ghost use Rattle.flat_net.specs.View.{net_of, IsWiring};
+
+    ghost view = { net_of };
+
+    ghost invariant = { IsWiring };
+}
+
+/// Element k, by its number.
+pub fn id_at(ids: &[NetId], k: usize) -> NetId
+    requires { k < length ids.now }
+    ensures { slice_get (map number_of ids.now) k ≡ Some result.0 }
+{
+    ids[k]
+}
+
+/// What node i has beside its name and its pins.
+fn body_at(bodies: &[Body], i: usize) -> &Body
+    requires { i < length bodies.now }
+    ensures { slice_get bodies.now i ≡ Some result.now }
+{
+    &bodies[i]
+}
+
+/// Where the pins of node i begin.
+fn start_at(ends: &[u32], i: usize) -> usize
+    requires { i < length ends.now }
+    ensures { result ≡ start_of 0 ends.now i }
+{
+    if i == 0 { 0 } else { ends[i - 1] as usize }
+}
+
+/// The pins of node i.
+fn part_at<'a>(ends: &[u32], pins: &'a [NetId], i: usize) -> &'a [NetId]
+    requires within { i < length ends.now }
+    requires order { start_of 0 ends.now i ≤ slice_index ends.now i }
+    requires end { slice_index ends.now i ≤ length pins.now }
+    ensures { map number_of result.now ≡ slice_range (map number_of pins.now) (start_of 0 ends.now i) (slice_index ends.now i) }
+{
+    &pins[start_at(ends, i)..ends[i] as usize]
+}
+
+impl Wiring {
+    /// How many inputs there are.
+    #[tactic(auto, using(crate::proofs::PackedLaws::kept))]
+    pub fn input_count(&self) -> u32
+        ensures count { result ≡ length self.now.inputs }
+        ensures net { IsUnordered self.now }
+    {
+        self.inputs
+    }
+
+    /// How many nodes there are.
+    #[tactic(auto, using(crate::proofs::PackedLaws::kept))]
+    pub fn node_count(&self) -> u32
+        ensures { result ≡ length self.now.nodes }
+    {
+        self.bodies.len() as u32
+    }
+
+    /// How many outputs there are.
+    pub fn output_count(&self) -> u32
+        ensures { result ≡ length self.now.outputs }
+    {
+        self.outputs.len() as u32
+    }
+
+    /// Output k.
+    #[tactic(auto, using(crate::proofs::Ranges::output_in_range))]
+    pub fn output(&self, k: u32) -> NetId
+        requires { k < length self.now.outputs }
+        ensures output { slice_get self.now.outputs k ≡ Some result.0 }
+        ensures range { result.0 < net_count self.now }
+    {
+        id_at(&self.outputs, k as usize)
+    }
+
+    /// What node x has beside its name and its pins.
+    fn body(&self, x: NetId) -> &Body
+        requires range { x.0 < net_count self.now }
+        requires node { length self.now.inputs ≤ x.0 }
+        ensures { IsBodyOf (node_of self.now x.0) result.now }
+    {
+        body_at(&self.bodies, (x.0 - self.inputs) as usize)
+    }
+
+    /// What net x is.
+    #[tactic(auto, using(crate::proofs::Bodies::kinds))]
+    pub fn kind(&self, x: NetId) -> Kind
+        requires { x.0 < net_count self.now }
+        ensures { result ≡ kind_of (node_of self.now x.0) }
+    {
+        if x.0 < self.input_count() {
+            return Kind::Input;
+        }
+        match self.body(x) {
+            Body::TableBody(_) => Kind::Table,
+            Body::RegisterBody(_) => Kind::Register,
+        }
+    }
+
+    /// The pins of node x.
+    pub fn pins_of(&self, x: NetId) -> &[NetId]
+        requires range { x.0 < net_count self.now }
+        requires node { length self.now.inputs ≤ x.0 }
+        ensures { map number_of result.now ≡ pins_at (node_of self.now x.0) }
+    {
+        part_at(&self.ends, &self.pins, (x.0 - self.inputs) as usize)
+    }
+
+    /// The cover of table x.
+    #[tactic(auto, using(crate::proofs::Bodies::covers))]
+    pub fn cover(&self, x: NetId) -> &Cover
+        requires range { x.0 < net_count self.now }
+        requires node { length self.now.inputs ≤ x.0 }
+        requires table { IsTable (node_of self.now x.0) }
+        ensures { IsCoverOf (node_of self.now x.0) result.now }
+    {
+        match self.body(x) {
+            Body::TableBody(cover) => cover,
+            Body::RegisterBody(_) => unreachable!(),
+        }
+    }
+
+    /// The initial value of register x.
+    #[tactic(auto, using(crate::proofs::Bodies::inits))]
+    pub fn init(&self, x: NetId) -> bool
+        requires range { x.0 < net_count self.now }
+        requires node { length self.now.inputs ≤ x.0 }
+        requires register { IsRegister (node_of self.now x.0) }
+        ensures { IsInitOf (node_of self.now x.0) result }
+    {
+        match self.body(x) {
+            Body::TableBody(_) => unreachable!(),
+            Body::RegisterBody(init) => *init,
+        }
+    }
+
+    /// The clock's edge and name, if there is a clock.
+    pub fn clock(&self) -> Option<(Edge, &Name)>
+        ensures { option_map (λ clock. (clock.0, clock.1.now)) result ≡ self.now.clock }
+    {
+        match &self.clock {
+            None => None,
+            Some((edge, name)) => Some((*edge, name)),
+        }
+    }
+
+    /// The model's name.
+    pub fn model(&self) -> &Name
+        ensures { result.now ≡ self.now.model }
+    {
+        &self.model
+    }
+
+    /// How many registers there are.
+    pub fn register_count(&self) -> u32
+        ensures { result ≡ register_count self.now }
+    {
+        self.registers
+    }
+
+    /// The pins of all nodes, node by node in order, each node's pins in order.
+    #[tactic(auto, using(crate::proofs::PackedLaws::kept))]
+    pub fn all_pins(&self) -> &[NetId]
+        ensures pins { map number_of result.now ≡ all_pins self.now }
+        ensures total { length result.now ≡ pin_total self.now }
+    {
+        &self.pins
+    }
+
+    /// The names of all nets, in the order of their numbers.
+    #[tactic(auto, using(crate::proofs::PackedLaws::kept))]
+    pub fn names(&self) -> &IndexSet<Name>
+        ensures { result.now.keys ≡ net_names self.now }
+    {
+        &self.names
+    }
+}
