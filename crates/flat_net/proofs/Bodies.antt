@@ -4,9 +4,10 @@ use Rattle.table_cover.specs.Cover.{PlainCover}
 use Rattle.flat_net.specs.declared.kind.Kind.TheVariants as kind
 use Rattle.flat_net.specs.declared.wiring.Body.TheVariants.{TableBody, RegisterBody}
 use Rattle.flat_net.specs.Kinds.{kind_of}
-use Rattle.flat_net.specs.Net.{Net, Node, Table, Register, node_of, IsTable, IsRegister, IsCoverOf, IsInitOf}
+use Rattle.flat_net.specs.Net.{Net, Node, Table, Register, node_of, IsTable, IsRegister, IsCoverOf, IsInitOf, table_pins, pins_at}
 use Rattle.flat_net.specs.Packed.{IsBodyOf}
 use Rattle.flat_net.proofs.Slots.{slot_below}
+use Rattle.flat_net.proofs.Ranges.{table_within}
 
 pub input_kind : (n : Net) (x : ℕ) → x < length n.inputs → kind.Input ≡ kind_of (node_of n x)
 input_kind n x h = rw (slot_below (length n.inputs) n.nodes x h) refl
@@ -40,6 +41,20 @@ pub no_register : (o : Option Node) (k : PlainCover) → IsBodyOf o (TableBody k
 no_register None k is t = is
 no_register (Some (Table name cover pins)) k is t = t
 no_register (Some (Register name init pin)) k is t = is
+
+pub is_table : (o : Option Node) (k : PlainCover) → IsBodyOf o (TableBody k) → IsTable o
+is_table None k is = is
+is_table (Some (Table name cover pins)) k is = tt
+is_table (Some (Register name init pin)) k is = is
+
+pub table_reads : (o : Option Node) → IsTable o → table_pins o ≡ pins_at o
+table_reads None t = absurd t
+table_reads (Some (Table name cover pins)) t = refl
+table_reads (Some (Register name init pin)) t = absurd t
+
+pub ruleset tables = (is_table, no_table)
+
+pub ruleset reads = (table_within, table_reads)
 
 pub ruleset kinds = (input_kind, table_kind, register_kind)
 

@@ -6,6 +6,7 @@
 
 mod kind;
 mod net;
+mod order;
 mod wiring;
 
 pub use kind::Kind;

@@ -1,8 +1,8 @@
 //! A design but for an order of its nodes, packed: the pins of all nodes stand in one list.
-ghost use Rattle.std.specs.Prelude.{◌≡◌, ◌+◌, ◌-◌, ◌<◌, ◌≤◌, List, ℕ, Bool, length, map, sum_by, count_by, IfSome, IsTrue, Some, None, slice_get, slice_index, slice_range};
+ghost use Rattle.std.specs.Prelude.{◌≡◌, ◌+◌, ◌-◌, ◌<◌, ◌≤◌, List, ℕ, Bool, length, map, sum_by, count_by, IfSome, IsTrue, ◌↔◌, Some, None, slice_get, slice_index, slice_range};
 ghost use Rattle.std.specs.List.{flat_map};
 ghost use Rattle.std.specs.Option.{option_map};
-ghost use Rattle.flat_net.specs.Net.{slot, net_count, node_of, pins_at, pins_of, all_pins, pin_total, register_count, is_register, IsTable, IsRegister, IsCoverOf, IsInitOf, name_of, net_named, net_names};
+ghost use Rattle.flat_net.specs.Net.{slot, net_count, node_of, pins_at, table_pins, pins_of, all_pins, pin_total, register_count, is_register, IsTable, IsRegister, IsCoverOf, IsInitOf, name_of, net_named, net_names};
 ghost use Rattle.flat_net.specs.Unordered.{IsUnordered};
 ghost use Rattle.flat_net.specs.Kinds.{kind_of};
 ghost use Rattle.flat_net.specs.Nodes.{number_of};
@@ -100,6 +100,15 @@ impl Wiring {
         self.bodies.len() as u32
     }
 
+    /// How many nets there are.
+    #[tactic(auto, using(crate::proofs::PackedLaws::kept))]
+    pub fn net_count(&self) -> u32
+        ensures count { result ≡ net_count self.now }
+        ensures net { IsUnordered self.now }
+    {
+        self.inputs + self.bodies.len() as u32
+    }
+
     /// How many outputs there are.
     pub fn output_count(&self) -> u32
         ensures { result ≡ length self.now.outputs }
@@ -148,6 +157,28 @@ impl Wiring {
         ensures { map number_of result.now ≡ pins_at (node_of self.now x.0) }
     {
         part_at(&self.ends, &self.pins, (x.0 - self.inputs) as usize)
+    }
+
+    /// Whether node x is a table.
+    #[tactic(auto, using(crate::proofs::Bodies::tables))]
+    pub fn is_table(&self, x: NetId) -> bool
+        requires range { x.0 < net_count self.now }
+        requires node { length self.now.inputs ≤ x.0 }
+        ensures { IsTrue result ↔ IsTable (node_of self.now x.0) }
+    {
+        match self.body(x) {
+            Body::TableBody(_) => true,
+            Body::RegisterBody(_) => false,
+        }
+    }
+
+    /// The pins of table x.
+    #[tactic(auto, using(crate::proofs::Bodies::reads))]
+    pub fn table_pins(&self, x: NetId) -> &[NetId]
+        requires { IsTable (node_of self.now x.0) }
+        ensures { map number_of result.now ≡ table_pins (node_of self.now x.0) }
+    {
+        self.pins_of(x)
     }
 
     /// The cover of table x.
