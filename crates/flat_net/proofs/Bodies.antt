@@ -2,7 +2,7 @@
 use Rattle.std.proofs.Common.{◌≡◌, ℕ, ◌<◌, Bool, Option, Some, None, refl, length}
 use Rattle.table_cover.specs.Cover.{PlainCover}
 use Rattle.flat_net.specs.declared.kind.Kind.TheVariants as kind
-use Rattle.flat_net.specs.declared.wiring.Body.TheVariants.{TableBody, RegisterBody}
+use Rattle.flat_net.specs.declared.nodes.Body.TheVariants.{TableBody, RegisterBody}
 use Rattle.flat_net.specs.Kinds.{kind_of}
 use Rattle.flat_net.specs.Net.{Net, Node, Table, Register, node_of, IsTable, IsRegister, IsCoverOf, IsInitOf, table_pins, pins_at}
 use Rattle.flat_net.specs.Packed.{IsBodyOf}

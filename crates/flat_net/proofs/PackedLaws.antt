@@ -8,8 +8,8 @@ use Rattle.flat_net.specs.declared.wiring.Wiring.TheInside.{Inside}
 use Rattle.flat_net.specs.View.{net_of, IsWiring}
 use Rattle.flat_net.specs.Nodes.{number_of}
 use Rattle.flat_net.proofs.Slots.{slot_at, slice_get_there}
-use Rattle.flat_net.specs.declared.wiring.Body.{Body}
-use Rattle.flat_net.specs.declared.wiring.Body.TheVariants.{TableBody, RegisterBody}
+use Rattle.flat_net.specs.declared.nodes.Body.{Body}
+use Rattle.flat_net.specs.declared.nodes.Body.TheVariants.{TableBody, RegisterBody}
 use Rattle.flat_net.specs.Net.{node_name, pins_of, net_names, node_of, all_pins, pin_total, pins_at}
 use Rattle.flat_net.specs.Packed.{node_from, nodes_from, start_of, HasPins, AreEnds, IsBodyOf}
 
@@ -108,56 +108,56 @@ total-nodes_from names bodies ends pins n a = sym (length-flat_map pins_of (node
 -- ---- the nodes of a design that is kept so
 
 module _ (w : Inside) (is : IsWiring w) where
-  rest_named : length (drop w.inputs w.names.keys) ≡ length w.bodies.items
+  rest_named : length (drop w.inputs w.names.keys) ≡ length w.nodes.bodies.items
   rest_named = omega (arith, length-drop w.inputs w.names.keys, is.named)
 
-  pub ends_fit : length w.ends.items ≡ length w.bodies.items
-  ends_fit = length-ends 0 w.bodies.items w.ends.items (length w.pins.items) is.cut
+  pub ends_fit : length w.nodes.ends.items ≡ length w.nodes.bodies.items
+  ends_fit = length-ends 0 w.nodes.bodies.items w.nodes.ends.items (length w.nodes.pins.items) is.cut
 
-  cut_pins : AreEnds 0 w.bodies.items w.ends.items (length (map number_of w.pins.items))
-  cut_pins = rw (length-map w.pins.items number_of) is.cut
+  cut_pins : AreEnds 0 w.nodes.bodies.items w.nodes.ends.items (length (map number_of w.nodes.pins.items))
+  cut_pins = rw (length-map w.nodes.pins.items number_of) is.cut
 
   pub length-inputs : length (net_of w).inputs ≡ w.inputs
   length-inputs = omega (arith, length-take w.inputs w.names.keys, is.named)
 
-  pub length-nodes : length (net_of w).nodes ≡ length w.bodies.items
-  length-nodes = length-nodes_from 0 (drop w.inputs w.names.keys) w.bodies.items w.ends.items (map number_of w.pins.items) rest_named ends_fit
+  pub length-nodes : length (net_of w).nodes ≡ length w.nodes.bodies.items
+  length-nodes = length-nodes_from 0 (drop w.inputs w.names.keys) w.nodes.bodies.items w.nodes.ends.items (map number_of w.nodes.pins.items) rest_named ends_fit
 
   pub names_kept : net_names (net_of w) ≡ w.names.keys
-  names_kept = ap (λ (xs : List (List ℕ)). take w.inputs w.names.keys ++ xs) (names-nodes_from 0 (drop w.inputs w.names.keys) w.bodies.items w.ends.items (map number_of w.pins.items) rest_named ends_fit) ∙ take-append-drop w.inputs w.names.keys
+  names_kept = ap (λ (xs : List (List ℕ)). take w.inputs w.names.keys ++ xs) (names-nodes_from 0 (drop w.inputs w.names.keys) w.nodes.bodies.items w.nodes.ends.items (map number_of w.nodes.pins.items) rest_named ends_fit) ∙ take-append-drop w.inputs w.names.keys
 
-  pub pins_kept : all_pins (net_of w) ≡ map number_of w.pins.items
-  pins_kept = pins-nodes_from 0 (drop w.inputs w.names.keys) w.bodies.items w.ends.items (map number_of w.pins.items) rest_named cut_pins
+  pub pins_kept : all_pins (net_of w) ≡ map number_of w.nodes.pins.items
+  pins_kept = pins-nodes_from 0 (drop w.inputs w.names.keys) w.nodes.bodies.items w.nodes.ends.items (map number_of w.nodes.pins.items) rest_named cut_pins
 
-  pub total_kept : pin_total (net_of w) ≡ length w.pins.items
-  total_kept = total-nodes_from (drop w.inputs w.names.keys) w.bodies.items w.ends.items (map number_of w.pins.items) rest_named cut_pins ∙ length-map w.pins.items number_of
+  pub total_kept : pin_total (net_of w) ≡ length w.nodes.pins.items
+  total_kept = total-nodes_from (drop w.inputs w.names.keys) w.nodes.bodies.items w.nodes.ends.items (map number_of w.nodes.pins.items) rest_named cut_pins ∙ length-map w.nodes.pins.items number_of
 
   -- the node with the number x
-  pub node_kept : (x : ℕ) (body : Body) → w.inputs ≤ x → slice_get w.bodies.items (x - w.inputs) ≡ Some body → node_of (net_of w) x ≡ Some (node_from (get_or (drop w.inputs w.names.keys) (x - w.inputs) []) body (slice_range (map number_of w.pins.items) (start_of 0 w.ends.items (x - w.inputs)) (get_or w.ends.items (x - w.inputs) 0)))
+  pub node_kept : (x : ℕ) (body : Body) → w.inputs ≤ x → slice_get w.nodes.bodies.items (x - w.inputs) ≡ Some body → node_of (net_of w) x ≡ Some (node_from (get_or (drop w.inputs w.names.keys) (x - w.inputs) []) body (slice_range (map number_of w.nodes.pins.items) (start_of 0 w.nodes.ends.items (x - w.inputs)) (get_or w.nodes.ends.items (x - w.inputs) 0)))
   node_kept x body low here =
       slot_at (length (net_of w).inputs) (net_of w).nodes x (omega (arith, length-inputs))
       ∙ (ap (λ k. slice_get (net_of w).nodes (x - k)) length-inputs
-      ∙ slice_get-nodes_from 0 (drop w.inputs w.names.keys) w.bodies.items w.ends.items (map number_of w.pins.items) (x - w.inputs) body rest_named ends_fit here)
+      ∙ slice_get-nodes_from 0 (drop w.inputs w.names.keys) w.nodes.bodies.items w.nodes.ends.items (map number_of w.nodes.pins.items) (x - w.inputs) body rest_named ends_fit here)
 
-  pub body_kept : (x : ℕ) (body : Body) → w.inputs ≤ x → slice_get w.bodies.items (x - w.inputs) ≡ Some body → IsBodyOf (node_of (net_of w) x) body
+  pub body_kept : (x : ℕ) (body : Body) → w.inputs ≤ x → slice_get w.nodes.bodies.items (x - w.inputs) ≡ Some body → IsBodyOf (node_of (net_of w) x) body
   body_kept x body low here = rw (node_kept x body low here) (go body)
     where
-      go : (body : Body) → IsBodyOf (Some (node_from (get_or (drop w.inputs w.names.keys) (x - w.inputs) []) body (slice_range (map number_of w.pins.items) (start_of 0 w.ends.items (x - w.inputs)) (get_or w.ends.items (x - w.inputs) 0)))) body
+      go : (body : Body) → IsBodyOf (Some (node_from (get_or (drop w.inputs w.names.keys) (x - w.inputs) []) body (slice_range (map number_of w.nodes.pins.items) (start_of 0 w.nodes.ends.items (x - w.inputs)) (get_or w.nodes.ends.items (x - w.inputs) 0)))) body
       go (TableBody cover) = refl
       go (RegisterBody init) = refl
 
   -- where the pins of the node with the number x stand
-  pub part_kept : (x : ℕ) → w.inputs ≤ x → x - w.inputs < length w.bodies.items → (start_of 0 w.ends.items (x - w.inputs) ≤ get_or w.ends.items (x - w.inputs) 0) × (get_or w.ends.items (x - w.inputs) 0 ≤ length w.pins.items)
-  part_kept x low high = part_within 0 w.bodies.items w.ends.items (length w.pins.items) (x - w.inputs) is.cut (rw ends_fit high)
+  pub part_kept : (x : ℕ) → w.inputs ≤ x → x - w.inputs < length w.nodes.bodies.items → (start_of 0 w.nodes.ends.items (x - w.inputs) ≤ get_or w.nodes.ends.items (x - w.inputs) 0) × (get_or w.nodes.ends.items (x - w.inputs) 0 ≤ length w.nodes.pins.items)
+  part_kept x low high = part_within 0 w.nodes.bodies.items w.nodes.ends.items (length w.nodes.pins.items) (x - w.inputs) is.cut (rw ends_fit high)
 
-  pub pins_at_kept : (x : ℕ) → w.inputs ≤ x → x - w.inputs < length w.bodies.items → pins_at (node_of (net_of w) x) ≡ slice_range (map number_of w.pins.items) (start_of 0 w.ends.items (x - w.inputs)) (get_or w.ends.items (x - w.inputs) 0)
-  pins_at_kept x low high = let (body, here) = slice_get_there w.bodies.items (x - w.inputs) high in go body here
+  pub pins_at_kept : (x : ℕ) → w.inputs ≤ x → x - w.inputs < length w.nodes.bodies.items → pins_at (node_of (net_of w) x) ≡ slice_range (map number_of w.nodes.pins.items) (start_of 0 w.nodes.ends.items (x - w.inputs)) (get_or w.nodes.ends.items (x - w.inputs) 0)
+  pins_at_kept x low high = let (body, here) = slice_get_there w.nodes.bodies.items (x - w.inputs) high in go body here
     where
-      go : (body : Body) → slice_get w.bodies.items (x - w.inputs) ≡ Some body → pins_at (node_of (net_of w) x) ≡ slice_range (map number_of w.pins.items) (start_of 0 w.ends.items (x - w.inputs)) (get_or w.ends.items (x - w.inputs) 0)
+      go : (body : Body) → slice_get w.nodes.bodies.items (x - w.inputs) ≡ Some body → pins_at (node_of (net_of w) x) ≡ slice_range (map number_of w.nodes.pins.items) (start_of 0 w.nodes.ends.items (x - w.inputs)) (get_or w.nodes.ends.items (x - w.inputs) 0)
       go (TableBody cover) here = rw (node_kept x (TableBody cover) low here) refl
       go (RegisterBody init) here =
           let part = part_kept x low high in
-          let one = part_of_register 0 w.bodies.items w.ends.items (length w.pins.items) (x - w.inputs) init is.cut here in
-          rw (node_kept x (RegisterBody init) low here) (one_long _ (length-part (start_of 0 w.ends.items (x - w.inputs)) (get_or w.ends.items (x - w.inputs) 0) (map number_of w.pins.items) part.0 (omega (arith, length-map w.pins.items number_of, part.1)) ∙ (omega arith)))
+          let one = part_of_register 0 w.nodes.bodies.items w.nodes.ends.items (length w.nodes.pins.items) (x - w.inputs) init is.cut here in
+          rw (node_kept x (RegisterBody init) low here) (one_long _ (length-part (start_of 0 w.nodes.ends.items (x - w.inputs)) (get_or w.nodes.ends.items (x - w.inputs) 0) (map number_of w.nodes.pins.items) part.0 (omega (arith, length-map w.nodes.pins.items number_of, part.1)) ∙ (omega arith)))
 
 pub ruleset kept = (length-inputs, length-nodes, names_kept, pins_kept, total_kept)

@@ -1,8 +1,8 @@
 -- Nodes kept as lists side by side: names, bodies, and all pins in one list that is cut at the places where a node's pins end.
 use Rattle.std.specs.Prelude.{◌≡◌, ℕ, zero, suc, ◌+◌, ◌≤◌, List, [], ◌∷◌, slice_index, slice_range, Option, Some, None}
 use Rattle.std.proofs.Math.ListN.{get_or}
-use Rattle.flat_net.specs.declared.wiring.Body.{Body}
-use Rattle.flat_net.specs.declared.wiring.Body.TheVariants.{TableBody, RegisterBody}
+use Rattle.flat_net.specs.declared.nodes.Body.{Body}
+use Rattle.flat_net.specs.declared.nodes.Body.TheVariants.{TableBody, RegisterBody}
 use Rattle.flat_net.specs.Net.{Node, Table, Register}
 
 -- a table's pins are all that stand in its part of the list, and a register's pin is the first of them

@@ -10,14 +10,14 @@ abbrev pub net_of : Inside → Net
 net_of w = record {
   model = w.model;
   inputs = take w.inputs w.names.keys;
-  nodes = nodes_from 0 (drop w.inputs w.names.keys) w.bodies.items w.ends.items (map number_of w.pins.items);
+  nodes = nodes_from 0 (drop w.inputs w.names.keys) w.nodes.bodies.items w.nodes.ends.items (map number_of w.nodes.pins.items);
   outputs = map number_of w.outputs.items;
   clock = w.clock;
 }
 
 -- what the fields keep: a name for each net, ends that cut the pins, the number of registers, and a design that is valid but for an order
 pub record IsWiring (w : Inside) : Type 0 where
-  pub named : length w.names.keys ≡ w.inputs + length w.bodies.items
-  pub cut : AreEnds 0 w.bodies.items w.ends.items (length w.pins.items)
-  pub registers : w.registers ≡ register_count (net_of w)
+  pub named : length w.names.keys ≡ w.inputs + length w.nodes.bodies.items
+  pub cut : AreEnds 0 w.nodes.bodies.items w.nodes.ends.items (length w.nodes.pins.items)
+  pub registers : w.nodes.registers ≡ register_count (net_of w)
   pub net : IsUnordered (net_of w)

@@ -6,6 +6,7 @@
 
 mod kind;
 mod net;
+mod nodes;
 mod order;
 mod wiring;
 

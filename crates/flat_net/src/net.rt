@@ -6,7 +6,8 @@ ghost use Rattle.flat_net.specs.Kinds.{kind_of};
 ghost use Rattle.flat_net.specs.Nodes.{number_of};
 
 use crate::Kind;
-use crate::wiring::{Wiring, id_at};
+use crate::nodes::id_at;
+use crate::wiring::Wiring;
 use indexmap::IndexSet;
 use std::marker::Model;
 use table_cover::Cover;

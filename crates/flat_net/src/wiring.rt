@@ -1,37 +1,27 @@
 //! A design but for an order of its nodes, packed: the pins of all nodes stand in one list.
-ghost use Rattle.std.specs.Prelude.{◌≡◌, ◌+◌, ◌-◌, ◌<◌, ◌≤◌, List, ℕ, Bool, length, map, sum_by, count_by, IfSome, IsTrue, ◌↔◌, Some, None, slice_get, slice_index, slice_range};
+ghost use Rattle.std.specs.Prelude.{◌≡◌, ◌+◌, ◌-◌, ◌<◌, ◌≤◌, List, ℕ, Bool, length, map, sum_by, count_by, IfSome, IsTrue, ◌↔◌, Some, None, slice_get, slice_index};
 ghost use Rattle.std.specs.List.{flat_map};
 ghost use Rattle.std.specs.Option.{option_map};
 ghost use Rattle.flat_net.specs.Net.{slot, net_count, node_of, pins_at, table_pins, pins_of, all_pins, pin_total, register_count, is_register, IsTable, IsRegister, IsCoverOf, IsInitOf, name_of, net_named, net_names};
 ghost use Rattle.flat_net.specs.Unordered.{IsUnordered};
 ghost use Rattle.flat_net.specs.Kinds.{kind_of};
 ghost use Rattle.flat_net.specs.Nodes.{number_of};
-ghost use Rattle.flat_net.specs.Packed.{AreEnds, start_of, nodes_from, IsBodyOf};
+ghost use Rattle.flat_net.specs.Packed.{IsBodyOf};
 
 use crate::Kind;
+use crate::nodes::{Body, PackedNodes, body_at, id_at, part_at};
 use indexmap::IndexSet;
 use std::marker::Model;
 use table_cover::Cover;
 use tmr_base::{Edge, Name, NetId};
 
-/// What a node has beside its name and its pins.
-#[derive(Drop)]
-pub enum Body {
-    TableBody(Cover),
-    RegisterBody(bool),
-}
-
-/// A design but for an order. The names stand in the order of the nets' numbers. The pins of node i
-/// end at `ends[i]`, where those of the next one begin.
+/// A design but for an order. The names stand in the order of the nets' numbers.
 #[derive(Drop)]
 pub struct Wiring {
     model: Name,
     names: IndexSet<Name>,
     inputs: u32,
-    bodies: Vec<Body>,
-    ends: Vec<u32>,
-    pins: Vec<NetId>,
-    registers: u32,
+    nodes: PackedNodes,
     outputs: Vec<NetId>,
     clock: Option<(Edge, Name)>,
 }
@@ -46,40 +36,6 @@ impl Model for Wiring {
     ghost view = { net_of };
 
     ghost invariant = { IsWiring };
-}
-
-/// Element k, by its number.
-pub fn id_at(ids: &[NetId], k: usize) -> NetId
-    requires { k < length ids.now }
-    ensures { slice_get (map number_of ids.now) k ≡ Some result.0 }
-{
-    ids[k]
-}
-
-/// What node i has beside its name and its pins.
-fn body_at(bodies: &[Body], i: usize) -> &Body
-    requires { i < length bodies.now }
-    ensures { slice_get bodies.now i ≡ Some result.now }
-{
-    &bodies[i]
-}
-
-/// Where the pins of node i begin.
-fn start_at(ends: &[u32], i: usize) -> usize
-    requires { i < length ends.now }
-    ensures { result ≡ start_of 0 ends.now i }
-{
-    if i == 0 { 0 } else { ends[i - 1] as usize }
-}
-
-/// The pins of node i.
-fn part_at<'a>(ends: &[u32], pins: &'a [NetId], i: usize) -> &'a [NetId]
-    requires within { i < length ends.now }
-    requires order { start_of 0 ends.now i ≤ slice_index ends.now i }
-    requires end { slice_index ends.now i ≤ length pins.now }
-    ensures { map number_of result.now ≡ slice_range (map number_of pins.now) (start_of 0 ends.now i) (slice_index ends.now i) }
-{
-    &pins[start_at(ends, i)..ends[i] as usize]
 }
 
 impl Wiring {
@@ -97,7 +53,7 @@ impl Wiring {
     pub fn node_count(&self) -> u32
         ensures { result ≡ length self.now.nodes }
     {
-        self.bodies.len() as u32
+        self.nodes.bodies.len() as u32
     }
 
     /// How many nets there are.
@@ -106,7 +62,7 @@ impl Wiring {
         ensures count { result ≡ net_count self.now }
         ensures net { IsUnordered self.now }
     {
-        self.inputs + self.bodies.len() as u32
+        self.inputs + self.nodes.bodies.len() as u32
     }
 
     /// How many outputs there are.
@@ -132,7 +88,7 @@ impl Wiring {
         requires node { length self.now.inputs ≤ x.0 }
         ensures { IsBodyOf (node_of self.now x.0) result.now }
     {
-        body_at(&self.bodies, (x.0 - self.inputs) as usize)
+        body_at(&self.nodes.bodies, (x.0 - self.inputs) as usize)
     }
 
     /// What net x is.
@@ -156,7 +112,7 @@ impl Wiring {
         requires node { length self.now.inputs ≤ x.0 }
         ensures { map number_of result.now ≡ pins_at (node_of self.now x.0) }
     {
-        part_at(&self.ends, &self.pins, (x.0 - self.inputs) as usize)
+        part_at(&self.nodes.ends, &self.nodes.pins, (x.0 - self.inputs) as usize)
     }
 
     /// Whether node x is a table.
@@ -230,7 +186,7 @@ impl Wiring {
     pub fn register_count(&self) -> u32
         ensures { result ≡ register_count self.now }
     {
-        self.registers
+        self.nodes.registers
     }
 
     /// The pins of all nodes, node by node in order, each node's pins in order.
@@ -239,7 +195,7 @@ impl Wiring {
         ensures pins { map number_of result.now ≡ all_pins self.now }
         ensures total { length result.now ≡ pin_total self.now }
     {
-        &self.pins
+        &self.nodes.pins
     }
 
     /// The names of all nets, in the order of their numbers.

@@ -7,7 +7,7 @@ use Rattle.flat_net.proofs.wiring.Wiring.body.Goals as goal
 pub body_at-requires : goal.body_at-requires
 body_at-requires c =
     let inputs : length c.args.self.now.inputs ≡ c.self.inside.inputs = subst (λ (n : Net). length n.inputs ≡ c.self.inside.inputs) c.self.view_is (length-inputs c.self.inside c.self.invariant) in
-    let nodes : length c.args.self.now.nodes ≡ length c.self.inside.bodies.items = subst (λ (n : Net). length n.nodes ≡ length c.self.inside.bodies.items) c.self.view_is (length-nodes c.self.inside c.self.invariant) in
+    let nodes : length c.args.self.now.nodes ≡ length c.self.inside.nodes.bodies.items = subst (λ (n : Net). length n.nodes ≡ length c.self.inside.nodes.bodies.items) c.self.view_is (length-nodes c.self.inside c.self.invariant) in
     rw c.deref.ensures.value (omega (arith, c.requires))
 
 pub returns : goal.returns

@@ -7,7 +7,7 @@ use Rattle.flat_net.proofs.wiring.Wiring.pins_of.Goals as goal
 pub part_at-requires : goal.part_at-requires
 part_at-requires c =
     let inputs : length c.args.self.now.inputs ≡ c.self.inside.inputs = subst (λ (n : Net). length n.inputs ≡ c.self.inside.inputs) c.self.view_is (length-inputs c.self.inside c.self.invariant) in
-    let nodes : length c.args.self.now.nodes ≡ length c.self.inside.bodies.items = subst (λ (n : Net). length n.nodes ≡ length c.self.inside.bodies.items) c.self.view_is (length-nodes c.self.inside c.self.invariant) in
+    let nodes : length c.args.self.now.nodes ≡ length c.self.inside.nodes.bodies.items = subst (λ (n : Net). length n.nodes ≡ length c.self.inside.nodes.bodies.items) c.self.view_is (length-nodes c.self.inside c.self.invariant) in
     let part = part_kept c.self.inside c.self.invariant c.args.x.0 (omega (arith, c.requires)) (omega (arith, c.requires)) in
     rw (c.deref.ensures.value, c.deref-2.ensures.value) (record {
       within = omega (arith, c.requires, ends_fit c.self.inside c.self.invariant);
@@ -18,6 +18,6 @@ part_at-requires c =
 pub returns : goal.returns
 returns c =
     let inputs : length c.args.self.now.inputs ≡ c.self.inside.inputs = subst (λ (n : Net). length n.inputs ≡ c.self.inside.inputs) c.self.view_is (length-inputs c.self.inside c.self.invariant) in
-    let nodes : length c.args.self.now.nodes ≡ length c.self.inside.bodies.items = subst (λ (n : Net). length n.nodes ≡ length c.self.inside.bodies.items) c.self.view_is (length-nodes c.self.inside c.self.invariant) in
+    let nodes : length c.args.self.now.nodes ≡ length c.self.inside.nodes.bodies.items = subst (λ (n : Net). length n.nodes ≡ length c.self.inside.nodes.bodies.items) c.self.view_is (length-nodes c.self.inside c.self.invariant) in
     let pins = pins_at_kept c.self.inside c.self.invariant c.args.x.0 (omega (arith, c.requires)) (omega (arith, c.requires)) in
     subst (λ (n : Net). map number_of c.part_at.result.now ≡ pins_at (node_of n c.args.x.0)) c.self.view_is (rw (c.deref.ensures.value, c.deref-2.ensures.value) at c.part_at.ensures ∙ sym pins)
