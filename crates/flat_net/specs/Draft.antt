@@ -1,5 +1,5 @@
 -- A draft: a model's ports and elements, by name.
-use Rattle.std.specs.Prelude.{◌≡◌, Bool, true, ℕ, List, [], ◌∷◌, length, Option, Some, None, All}
+use Rattle.std.specs.Prelude.{◌≡◌, ◌≢◌, ◌<◌, Bool, true, ℕ, List, [], ◌∷◌, length, slice_index_or, Option, Some, None, All}
 use Rattle.tmr_base.specs.Names.{is_name}
 use Rattle.tmr_base.specs.declared.ids.Edge.{Edge}
 use Rattle.table_cover.specs.Cover.{PlainCover, IsCover}
@@ -37,3 +37,7 @@ pub record IsDraft (d : PlainDraft) : Type 0 where
   pub model : is_name d.model ≡ true
   pub inputs : All (λ name. is_name name ≡ true) d.inputs
   pub elements : All IsElement d.elements
+
+-- no name stands twice
+abbrev pub AreDistinct : List (List ℕ) → Type 0
+AreDistinct names = (j k : ℕ) → j < k → k < length names → slice_index_or names j [] ≢ slice_index_or names k []

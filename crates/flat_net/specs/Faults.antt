@@ -81,14 +81,18 @@ same_control None (Some b) = false
 same_control (Some a) None = false
 same_control (Some a) (Some b) = same_edge a.0 b.0 && bytes_eq a.1 b.1
 
-abbrev pub differs_from : Option (Option (Edge × List ℕ)) → Option (Edge × List ℕ) → Bool
-differs_from None control = false
-differs_from (Some first) control = not (same_control first control)
+-- the element is a latch with another clocking than this
+abbrev pub is_unlike : Option (Edge × List ℕ) → Element → Bool
+is_unlike first (TableOf pins out cover) = false
+is_unlike first (LatchOf pin out control init) = not (same_control first control)
+
+abbrev pub is_unlike_any : Option (Option (Edge × List ℕ)) → Element → Bool
+is_unlike_any None element = false
+is_unlike_any (Some first) element = is_unlike first element
 
 -- the element is a latch whose clocking differs from that of the first latch
 abbrev pub is_mixed : List Element → Element → Bool
-is_mixed before (TableOf pins out cover) = false
-is_mixed before (LatchOf pin out control init) = differs_from (first_control before) control
+is_mixed before element = is_unlike_any (first_control before) element
 
 -- all pins, in the order of the elements
 abbrev pub draft_reads : PlainDraft → List (List ℕ)

@@ -1,4 +1,6 @@
 //! Why a draft is no design.
+ghost use Rattle.std.specs.Prelude.{◌≡◌};
+ghost use Rattle.flat_net.specs.declared.fault.NetFault.TheVariants.{Memory};
 
 use tmr_base::{Name, OutOfMemory};
 
@@ -20,6 +22,8 @@ pub enum NetFault {
 }
 
 impl From<OutOfMemory> for NetFault {
+    ghost from_gives = { λ _ fault. fault ≡ Memory };
+
     fn from(_error: OutOfMemory) -> NetFault {
         NetFault::Memory
     }

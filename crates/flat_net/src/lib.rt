@@ -4,7 +4,9 @@
 //! clock) that is valid, and beside it an order in which its nodes can be evaluated.
 #![tactic(auto)]
 
+mod clocking;
 mod draft;
+mod driving;
 mod fault;
 mod kind;
 mod net;
