@@ -1,7 +1,7 @@
 -- Where nodes are.
-use Rattle.std.proofs.Common.{◌≡◌, ℕ, zero, suc, ◌-◌, ◌<◌, ◌≤◌, sym, [], ◌∷◌, length, refl, ap, ◌∙◌, Option, Some, None, subst, slice_index, slice_get, arith}
+use Rattle.std.proofs.Common.{◌≡◌, ℕ, zero, suc, ◌-◌, ◌<◌, ◌≤◌, sym, [], ◌∷◌, length, refl, ap, get_or, ◌∙◌, Option, Some, None, subst, slice_index, slice_get, arith}
 use Rattle.std.proofs.lemmas.Option.{slice_get_within, get_or_from_slice_get}
-use Rattle.flat_net.specs.Net.{Net, Node, Table, Register, node_of, net_count, pins_at, pins_of, pin_total, IsTable, IsRegister, IsValid, IsCoverOf}
+use Rattle.flat_net.specs.Net.{Net, Node, Table, Register, node_of, net_count, pins_at, pins_of, pin_total, IsTable, IsRegister, IsValid, IsCoverOf, Design, IsDesign}
 use Rattle.table_cover.specs.Cover.{PlainCover}
 use Rattle.flat_net.proofs.Slots.{slot_within, slot_at}
 use Rattle.std.proofs.lemmas.List.Sums.{get_or-le-sum_by}
@@ -51,12 +51,24 @@ output_in_range n k x valid e =
     subst (λ (y : ℕ). y < net_count n) (get_or_from_slice_get n.outputs k x 0 e) (valid.outputs_in_range k 0 (slice_get_within n.outputs k x e))
 
 -- a node has no more pins than all nodes together
-pub pins_few : (n : Net) (x : ℕ) (node : Node) → IsValid n → node_of n x ≡ Some node → length (pins_of node) < 4294967295
-pins_few n x node valid e =
+pub pins_few : (n : Net) (x : ℕ) (node : Node) → pin_total n < 4294967295 → node_of n x ≡ Some node → length (pins_of node) < 4294967295
+pins_few n x node few e =
     let within = some_node_within n x node e in
     let here : slice_get n.nodes (x - length n.inputs) ≡ Some node = sym (slot_at (length n.inputs) n.nodes x within.0) ∙ e in
     let most = get_or-le-sum_by (λ m. length (pins_of m)) n.nodes (x - length n.inputs) node (omega (arith, within)) in
     let same = get_or_from_slice_get n.nodes (x - length n.inputs) node node here in
     let le : length (pins_of node) ≤ pin_total n = subst (λ (m : Node). length (pins_of m) ≤ pin_total n) same most in
-    let few = valid.few_pins in
     omega arith
+
+pub pins_at_few : (n : Net) (x : ℕ) → pin_total n < 4294967295 → length (pins_at (node_of n x)) < 4294967295
+pins_at_few n x few = go (node_of n x) refl
+  where
+    go : (o : Option Node) → node_of n x ≡ o → length (pins_at o) < 4294967295
+    go None e = omega arith
+    go (Some node) e = pins_few n x node few e
+
+-- what stands in the order is a node
+pub ordered_in_range : (d : Design) (i x : ℕ) → IsDesign d → slice_get d.order i ≡ Some x → (length d.net.inputs ≤ x) × (x < net_count d.net)
+ordered_in_range d i x is e =
+    let at : get_or d.order i 0 ≡ x = get_or_from_slice_get d.order i x 0 e in
+    rw at at (is.order.nodes i (slice_get_within d.order i x e))

@@ -1,5 +1,6 @@
 -- A flat synchronous design: inputs, then nodes, which are tables and registers.
 use Rattle.std.specs.Prelude.{◌≡◌, ◌≢◌, ℕ, ◌+◌, ◌-◌, ◌<◌, ◌≤◌, Bool, true, false, nat_lt, List, [], ◌∷◌, ◌++◌, map, length, Option, Some, None, slice_get, slice_index, slice_index_or, position, sum_by, count_by, codes, All, Contains, if◌then◌else◌}
+use Rattle.std.specs.List.{flat_map}
 use Rattle.std.specs.Str.{bytes_eq}
 use Rattle.tmr_base.specs.Names.{is_name}
 use Rattle.tmr_base.specs.declared.ids.Edge.{Edge}
@@ -54,6 +55,10 @@ pins_of (Register name init pin) = pin ∷ []
 abbrev pub pins_at : Option Node → List ℕ
 pins_at None = []
 pins_at (Some node) = pins_of node
+
+-- the pins of all nodes, node by node
+abbrev pub all_pins : Net → List ℕ
+all_pins n = flat_map pins_of n.nodes
 
 -- how many pins all nodes have together
 abbrev pub pin_total : Net → ℕ

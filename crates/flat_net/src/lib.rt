@@ -4,8 +4,17 @@
 //! clock) that is valid, and beside it an order in which its nodes can be evaluated.
 #![tactic(auto)]
 
+mod clocking;
+mod draft;
+mod driving;
+mod fault;
 mod kind;
 mod net;
+mod nodes;
+mod order;
+mod wiring;
 
+pub use draft::Draft;
+pub use fault::NetFault;
 pub use kind::Kind;
 pub use net::FlatNet;

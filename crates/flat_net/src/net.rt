@@ -1,74 +1,35 @@
 //! The design as it is kept.
 ghost use Rattle.std.specs.Prelude.{◌≡◌, ◌+◌, ◌-◌, ◌<◌, ◌≤◌, List, ℕ, Bool, length, map, sum_by, count_by, IfSome, IsTrue, Some, None, slice_get, slice_index};
 ghost use Rattle.std.specs.Option.{option_map};
-ghost use Rattle.flat_net.specs.Net.{Design, IsDesign, slot, net_count, node_of, pins_at, pins_of, pin_total, register_count, is_register, IsTable, IsRegister, IsCoverOf, IsInitOf, name_of, net_named};
+ghost use Rattle.flat_net.specs.Net.{Design, IsDesign, slot, net_count, node_of, pins_at, pins_of, all_pins, net_names, pin_total, register_count, is_register, IsTable, IsRegister, IsCoverOf, IsInitOf, name_of, net_named};
 ghost use Rattle.flat_net.specs.Kinds.{kind_of};
-ghost use Rattle.flat_net.specs.Nodes.{plain_node, number_of};
+ghost use Rattle.flat_net.specs.Nodes.{number_of};
 
 use crate::Kind;
+use crate::nodes::id_at;
+use crate::wiring::Wiring;
 use indexmap::IndexSet;
 use std::marker::Model;
 use table_cover::Cover;
 use tmr_base::{Edge, Name, NetId};
 
-/// A table or a register.
-#[derive(Drop)]
-enum FlatNode {
-    TableNode {
-        name: Name,
-        cover: Cover,
-        pins: Vec<NetId>,
-    },
-    RegisterNode {
-        name: Name,
-        init: bool,
-        pin: NetId,
-    },
-}
-
 /// A flat synchronous design. Nets are numbered: inputs first, then nodes in order.
 #[derive(Drop)]
 pub struct FlatNet {
-    model: Name,
-    names: IndexSet<Name>,
-    inputs: Vec<Name>,
-    nodes: Vec<FlatNode>,
-    outputs: Vec<NetId>,
-    clock: Option<(Edge, Name)>,
+    wiring: Wiring,
     order: Vec<NetId>,
-    registers: u32,
-    pins: u32,
 }
 
 impl Model for FlatNet {
-    ghost use Rattle.std.specs.Prelude.{◌≡◌};
-    ghost use Rattle.flat_net.specs.Net.{Design, IsDesign, net_names, register_count, pin_total};
+    ghost use Rattle.flat_net.specs.Net.{Design, IsDesign};
 
     ghost Value = { Design };
 
-    ghost use Rattle.flat_net.specs.View.{design_of};
+    ghost use Rattle.flat_net.specs.DesignView.{design_of};
 
     ghost view = { design_of };
 
-    ghost invariant = { λ n. IsDesign (design_of n) × (n.names.keys ≡ net_names (design_of n).net)
-        × (n.registers ≡ register_count (design_of n).net) × (n.pins ≡ pin_total (design_of n).net) };
-}
-
-/// The node with the number x, where the first has the number `start`.
-fn node_at(nodes: &[FlatNode], start: usize, x: NetId) -> &FlatNode
-    requires low { start ≤ x.0 }
-    requires high { x.0 < start + length nodes.now }
-    ensures { slot start (map plain_node nodes.now) x.0 ≡ Some (plain_node result.now) }
-{
-    &nodes[x.0 as usize - start]
-}
-
-/// Element k, by its number.
-fn id_at(ids: &[NetId], k: usize) -> NetId
-    requires { k < length ids.now }
-    ensures { slice_get (map number_of ids.now) k ≡ Some result.0 }
-{
-    ids[k]
+    ghost invariant = { λ n. IsDesign (design_of n) };
 }
 
 impl FlatNet {
@@ -77,21 +38,21 @@ impl FlatNet {
         ensures count { result ≡ length self.now.net.inputs }
         ensures design { IsDesign self.now }
     {
-        self.inputs.len() as u32
+        self.wiring.input_count()
     }
 
     /// How many nodes there are.
     pub fn node_count(&self) -> u32
         ensures { result ≡ length self.now.net.nodes }
     {
-        self.nodes.len() as u32
+        self.wiring.node_count()
     }
 
     /// How many outputs there are.
     pub fn output_count(&self) -> u32
         ensures { result ≡ length self.now.net.outputs }
     {
-        self.outputs.len() as u32
+        self.wiring.output_count()
     }
 
     /// Output k.
@@ -100,23 +61,15 @@ impl FlatNet {
         ensures output { slice_get self.now.net.outputs k ≡ Some result.0 }
         ensures range { result.0 < net_count self.now.net }
     {
-        id_at(&self.outputs, k as usize)
+        self.wiring.output(k)
     }
 
     /// What net x is.
-    #[tactic(auto, using(crate::proofs::Slots::slot_below))]
     pub fn kind(&self, x: NetId) -> Kind
         requires { x.0 < net_count self.now.net }
         ensures { result ≡ kind_of (node_of self.now.net x.0) }
     {
-        let inputs = self.inputs.len();
-        if (x.0 as usize) < inputs {
-            return Kind::Input;
-        }
-        match node_at(&self.nodes, inputs, x) {
-            FlatNode::TableNode { .. } => Kind::Table,
-            FlatNode::RegisterNode { .. } => Kind::Register,
-        }
+        self.wiring.kind(x)
     }
 
     /// How many pins node x has.
@@ -125,10 +78,7 @@ impl FlatNet {
         requires node { length self.now.net.inputs ≤ x.0 }
         ensures { result ≡ length (pins_at (node_of self.now.net x.0)) }
     {
-        match node_at(&self.nodes, self.inputs.len(), x) {
-            FlatNode::TableNode { pins, .. } => pins.len() as u32,
-            FlatNode::RegisterNode { .. } => 1,
-        }
+        self.wiring.pins_of(x).len() as u32
     }
 
     /// Pin j of node x.
@@ -139,10 +89,7 @@ impl FlatNet {
         ensures value { result.0 ≡ slice_index (pins_at (node_of self.now.net x.0)) j }
         ensures range { result.0 < net_count self.now.net }
     {
-        match node_at(&self.nodes, self.inputs.len(), x) {
-            FlatNode::TableNode { pins, .. } => pins[j as usize],
-            FlatNode::RegisterNode { pin, .. } => *pin,
-        }
+        self.wiring.pins_of(x)[j as usize]
     }
 
     /// The cover of table x.
@@ -153,10 +100,7 @@ impl FlatNet {
         ensures cover { IsCoverOf (node_of self.now.net x.0) result.now }
         ensures width { length (pins_at (node_of self.now.net x.0)) ≡ result.now.width }
     {
-        match node_at(&self.nodes, self.inputs.len(), x) {
-            FlatNode::TableNode { cover, .. } => cover,
-            FlatNode::RegisterNode { .. } => unreachable!(),
-        }
+        self.wiring.cover(x)
     }
 
     /// The initial value of register x.
@@ -166,41 +110,35 @@ impl FlatNet {
         requires register { IsRegister (node_of self.now.net x.0) }
         ensures { IsInitOf (node_of self.now.net x.0) result }
     {
-        match node_at(&self.nodes, self.inputs.len(), x) {
-            FlatNode::TableNode { .. } => unreachable!(),
-            FlatNode::RegisterNode { init, .. } => *init,
-        }
+        self.wiring.init(x)
     }
 
     /// The clock's edge and name, if there is a clock.
     pub fn clock(&self) -> Option<(Edge, &Name)>
         ensures { option_map (λ clock. (clock.0, clock.1.now)) result ≡ self.now.net.clock }
     {
-        match &self.clock {
-            None => None,
-            Some((edge, name)) => Some((*edge, name)),
-        }
+        self.wiring.clock()
     }
 
     /// The model's name.
     pub fn model(&self) -> &Name
         ensures { result.now ≡ self.now.net.model }
     {
-        &self.model
+        self.wiring.model()
     }
 
     /// How many registers there are.
     pub fn register_count(&self) -> u32
         ensures { result ≡ register_count self.now.net }
     {
-        self.registers
+        self.wiring.register_count()
     }
 
     /// How many pins all nodes have together.
     pub fn pin_total(&self) -> u32
         ensures { result ≡ pin_total self.now.net }
     {
-        self.pins
+        self.wiring.all_pins().len() as u32
     }
 
     /// Node i of an order in which each table stands behind each table that it reads.
@@ -218,7 +156,7 @@ impl FlatNet {
         requires { x.0 < net_count self.now.net }
         ensures { result.now ≡ name_of self.now.net x.0 }
     {
-        &self.names[x.0 as usize]
+        &self.wiring.names()[x.0 as usize]
     }
 
     /// The net with this name.
@@ -226,9 +164,24 @@ impl FlatNet {
         ensures exact { option_map number_of result ≡ net_named self.now.net name.now }
         ensures range { IfSome result (λ x. x.0 < net_count self.now.net) }
     {
-        match self.names.get_index_of(name) {
+        match self.wiring.names().get_index_of(name) {
             Some(x) => Some(NetId(x as u32)),
             None => None,
         }
+    }
+
+    /// The pins of all nodes, node by node in order, and each node's pins in order.
+    pub fn all_pins(&self) -> &[NetId]
+        ensures pins { map number_of result.now ≡ all_pins self.now.net }
+        ensures total { length result.now ≡ pin_total self.now.net }
+    {
+        self.wiring.all_pins()
+    }
+
+    /// The names of all nets, in the order of their numbers. The clock's name is none of them.
+    pub fn net_names(&self) -> &IndexSet<Name>
+        ensures { result.now.keys ≡ net_names self.now.net }
+    {
+        self.wiring.names()
     }
 }

@@ -1,9 +1,8 @@
-use Rattle.std.proofs.Common.{rules, subst}
-use Rattle.flat_net.specs.Net.{Design, IsDesign, node_of, IsCoverOf}
+use Rattle.std.proofs.Common.{◌≡◌, subst, length}
+use Rattle.flat_net.specs.Net.{Design, node_of, pins_at}
 use Rattle.flat_net.proofs.Ranges.{cover_width}
 use Rattle.flat_net.proofs.net.FlatNet.cover.Goals as goal
 
 pub returns-clause-width : goal.returns-clause-width
 returns-clause-width c =
-    let is : IsCoverOf (node_of c.args.self.now.net c.args.x.0) c.in-TableNode.cover = search rules in
-    cover_width c.args.self.now.net c.args.x.0 _ (subst (λ (d : Design). IsDesign d) c.self.view_is c.self.invariant.0).valid is
+    subst (λ (d : Design). length (pins_at (node_of d.net c.args.x.0)) ≡ c.cover.result.now.width) c.self.view_is (cover_width c.self.inside.wiring c.args.x.0 _ c.self.invariant.valid c.cover.ensures)

@@ -1,13 +1,11 @@
-use Rattle.std.proofs.Common.{◌≡◌, ◌<◌, Some, length, map, rules}
+use Rattle.std.proofs.Common.{◌≡◌, ap, length, arith}
 use Rattle.std.proofs.lemmas.List.{length-map}
-use Rattle.flat_net.specs.Net.{node_of, Table}
-use Rattle.flat_net.specs.Nodes.{number_of}
-use Rattle.flat_net.specs.View.{design_of}
-use Rattle.flat_net.proofs.Ranges.{pins_few}
+use Rattle.flat_net.specs.Net.{node_of, pins_at}
+use Rattle.flat_net.proofs.Ranges.{pins_at_few}
 use Rattle.flat_net.proofs.net.FlatNet.pin_count.Goals as goal
 
 pub overflow_cast-result : goal.overflow_cast-result
 overflow_cast-result c =
-    let e : node_of (design_of c.self.inside).net c.args.x.0 ≡ Some (Table c.in-TableNode.name c.in-TableNode.cover (map number_of c.in-TableNode.pins.items)) = search rules in
-    let few : length c.in-TableNode.pins.items < 4294967295 = simp length-map at (pins_few (design_of c.self.inside).net c.args.x.0 _ c.self.invariant.0.valid e) in
-    search rules
+    let few = pins_at_few c.self.inside.wiring c.args.x.0 c.self.invariant.valid.few_pins in
+    let same : length c.pins_of.result.now ≡ length (pins_at (node_of c.self.inside.wiring c.args.x.0)) = simp length-map at (ap length c.pins_of.ensures) in
+    omega arith

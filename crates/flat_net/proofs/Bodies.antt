@@ -1,0 +1,63 @@
+-- What the body of a node tells of it.
+use Rattle.std.proofs.Common.{◌≡◌, ℕ, ◌<◌, Bool, Option, Some, None, refl, length}
+use Rattle.table_cover.specs.Cover.{PlainCover}
+use Rattle.flat_net.specs.declared.kind.Kind.TheVariants as kind
+use Rattle.flat_net.specs.declared.nodes.Body.TheVariants.{TableBody, RegisterBody}
+use Rattle.flat_net.specs.Kinds.{kind_of}
+use Rattle.flat_net.specs.Net.{Net, Node, Table, Register, node_of, IsTable, IsRegister, IsCoverOf, IsInitOf, table_pins, pins_at}
+use Rattle.flat_net.specs.Packed.{IsBodyOf}
+use Rattle.flat_net.proofs.Slots.{slot_below}
+use Rattle.flat_net.proofs.Ranges.{table_within}
+
+pub input_kind : (n : Net) (x : ℕ) → x < length n.inputs → kind.Input ≡ kind_of (node_of n x)
+input_kind n x h = rw (slot_below (length n.inputs) n.nodes x h) refl
+
+pub table_kind : (o : Option Node) (k : PlainCover) → IsBodyOf o (TableBody k) → kind.Table ≡ kind_of o
+table_kind None k is = absurd is
+table_kind (Some (Table name cover pins)) k is = refl
+table_kind (Some (Register name init pin)) k is = absurd is
+
+pub register_kind : (o : Option Node) (b : Bool) → IsBodyOf o (RegisterBody b) → kind.Register ≡ kind_of o
+register_kind None b is = absurd is
+register_kind (Some (Table name cover pins)) b is = absurd is
+register_kind (Some (Register name init pin)) b is = refl
+
+pub cover_body : (o : Option Node) (k : PlainCover) → IsBodyOf o (TableBody k) → IsCoverOf o k
+cover_body None k is = absurd is
+cover_body (Some (Table name cover pins)) k is = is
+cover_body (Some (Register name init pin)) k is = absurd is
+
+pub init_body : (o : Option Node) (b : Bool) → IsBodyOf o (RegisterBody b) → IsInitOf o b
+init_body None b is = absurd is
+init_body (Some (Table name cover pins)) b is = absurd is
+init_body (Some (Register name init pin)) b is = is
+
+pub no_table : (o : Option Node) (b : Bool) → IsBodyOf o (RegisterBody b) → IsTable o → ⊥
+no_table None b is t = is
+no_table (Some (Table name cover pins)) b is t = is
+no_table (Some (Register name init pin)) b is t = t
+
+pub no_register : (o : Option Node) (k : PlainCover) → IsBodyOf o (TableBody k) → IsRegister o → ⊥
+no_register None k is t = is
+no_register (Some (Table name cover pins)) k is t = t
+no_register (Some (Register name init pin)) k is t = is
+
+pub is_table : (o : Option Node) (k : PlainCover) → IsBodyOf o (TableBody k) → IsTable o
+is_table None k is = is
+is_table (Some (Table name cover pins)) k is = tt
+is_table (Some (Register name init pin)) k is = is
+
+pub table_reads : (o : Option Node) → IsTable o → table_pins o ≡ pins_at o
+table_reads None t = absurd t
+table_reads (Some (Table name cover pins)) t = refl
+table_reads (Some (Register name init pin)) t = absurd t
+
+pub ruleset tables = (is_table, no_table)
+
+pub ruleset reads = (table_within, table_reads)
+
+pub ruleset kinds = (input_kind, table_kind, register_kind)
+
+pub ruleset covers = (cover_body, no_table)
+
+pub ruleset inits = (init_body, no_register)

@@ -1,0 +1,25 @@
+use Rattle.std.proofs.Common.{◌≡◌, ◌+◌, ◌++◌, [], ◌∷◌, map, take, drop, sym, refl, rules, ◌∙◌}
+use Rattle.std.proofs.lemmas.List.{append-nil}
+use Rattle.flat_net.specs.Draft.{out_of}
+use Rattle.flat_net.specs.DraftView.{plain_element}
+use Rattle.flat_net.specs.Faults.{is_driven_before, is_among}
+use Rattle.flat_net.proofs.Firsts.{none_nil}
+use Rattle.flat_net.proofs.Going.{one_more, split_here, pushed_names, pushed_once, doubled}
+use Rattle.flat_net.proofs.driving.push_outs.Goals as goal
+
+pub loop-element-init : goal.loop-element-init
+loop-element-init c = record { names = sym (append-nil c.args.names.now.keys); once = none_nil (is_driven_before c.args.names.now.keys) }
+
+pub loop-element-preserved : goal.loop-element-preserved
+loop-element-preserved c =
+    let next = one_more plain_element c.args.elements.now c.loop-element.element-index c.element-item.result c.loop-element-test.true c.element-item.is in
+    record {
+      names = pushed_names c.args.names.now.keys c.loop-element.names.keys _ (plain_element c.element-item.result) c.loop-element.invariant.names c.push_out.new.names.keys _ (rw c.out_name.ensures at c.in_default.ensures.ok) next;
+      once = pushed_once c.args.names.now.keys c.loop-element.names.keys _ (plain_element c.element-item.result) c.loop-element.invariant.names _ c.loop-element.invariant.once (rw c.out_name.ensures at c.in_default.ensures.new) next;
+    }
+
+pub returns-in-Err-clause-fault : goal.returns-in-Err-clause-fault
+returns-in-Err-clause-fault c = λ other.
+    let found = c.in-Err.ensures.fault other in
+    let all = split_here plain_element c.args.elements.now c.loop-element.element-index c.element-item.result c.loop-element-test.true c.element-item.is in
+    (plain_element c.element-item.result, doubled c.args.names.now.keys c.loop-element.names.keys _ (plain_element c.element-item.result) c.loop-element.invariant.names _ _ c.loop-element.invariant.once (rw c.out_name.ensures at found.1) all, rw c.out_name.ensures at found.0)

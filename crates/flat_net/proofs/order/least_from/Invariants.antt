@@ -1,0 +1,10 @@
+use Rattle.std.proofs.Common.{◌≡◌, ◌≢◌, ℕ, ◌<◌, ◌≤◌, length, map, get_or}
+use Rattle.flat_net.specs.Nodes.{number_of}
+use Rattle.flat_net.proofs.order.least_from.Given as goal
+
+abbrev pub invariant-loop-place : goal.invariant-loop-place
+invariant-loop-place l = record {
+  order : l.first ≤ l.least;
+  within : l.least < length l.path;
+  lowest : (k : ℕ) → l.first ≤ k → k < l.place → get_or (map number_of l.path) l.least 0 ≤ get_or (map number_of l.path) k 0;
+}

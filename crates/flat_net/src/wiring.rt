@@ -1,0 +1,208 @@
+//! A design but for an order of its nodes, packed: the pins of all nodes stand in one list.
+ghost use Rattle.std.specs.Prelude.{◌≡◌, ◌+◌, ◌-◌, ◌<◌, ◌≤◌, List, ℕ, Bool, length, map, sum_by, count_by, IfSome, IsTrue, ◌↔◌, Some, None, slice_get, slice_index};
+ghost use Rattle.std.specs.List.{flat_map};
+ghost use Rattle.std.specs.Option.{option_map};
+ghost use Rattle.flat_net.specs.Net.{slot, net_count, node_of, pins_at, table_pins, pins_of, all_pins, pin_total, register_count, is_register, IsTable, IsRegister, IsCoverOf, IsInitOf, name_of, net_named, net_names};
+ghost use Rattle.flat_net.specs.Unordered.{IsUnordered};
+ghost use Rattle.flat_net.specs.Kinds.{kind_of};
+ghost use Rattle.flat_net.specs.Nodes.{number_of};
+ghost use Rattle.flat_net.specs.Packed.{IsBodyOf};
+
+use crate::Kind;
+use crate::nodes::{Body, PackedNodes, body_at, id_at, part_at};
+use indexmap::IndexSet;
+use std::marker::Model;
+use table_cover::Cover;
+use tmr_base::{Edge, Name, NetId};
+
+/// A design but for an order. The names stand in the order of the nets' numbers.
+#[derive(Drop)]
+pub struct Wiring {
+    model: Name,
+    names: IndexSet<Name>,
+    inputs: u32,
+    nodes: PackedNodes,
+    outputs: Vec<NetId>,
+    clock: Option<(Edge, Name)>,
+}
+
+impl Model for Wiring {
+    ghost use Rattle.flat_net.specs.Net.{Net};
+
+    ghost Value = { Net };
+
+    ghost use Rattle.flat_net.specs.View.{net_of, IsWiring};
+
+    ghost view = { net_of };
+
+    ghost invariant = { IsWiring };
+}
+
+impl Wiring {
+    /// How many inputs there are.
+    #[tactic(auto, using(crate::proofs::PackedLaws::kept))]
+    pub fn input_count(&self) -> u32
+        ensures count { result ≡ length self.now.inputs }
+        ensures net { IsUnordered self.now }
+    {
+        self.inputs
+    }
+
+    /// How many nodes there are.
+    #[tactic(auto, using(crate::proofs::PackedLaws::kept))]
+    pub fn node_count(&self) -> u32
+        ensures { result ≡ length self.now.nodes }
+    {
+        self.nodes.bodies.len() as u32
+    }
+
+    /// How many nets there are.
+    #[tactic(auto, using(crate::proofs::PackedLaws::kept))]
+    pub fn net_count(&self) -> u32
+        ensures count { result ≡ net_count self.now }
+        ensures net { IsUnordered self.now }
+    {
+        self.inputs + self.nodes.bodies.len() as u32
+    }
+
+    /// How many outputs there are.
+    pub fn output_count(&self) -> u32
+        ensures { result ≡ length self.now.outputs }
+    {
+        self.outputs.len() as u32
+    }
+
+    /// Output k.
+    #[tactic(auto, using(crate::proofs::Ranges::output_in_range))]
+    pub fn output(&self, k: u32) -> NetId
+        requires { k < length self.now.outputs }
+        ensures output { slice_get self.now.outputs k ≡ Some result.0 }
+        ensures range { result.0 < net_count self.now }
+    {
+        id_at(&self.outputs, k as usize)
+    }
+
+    /// What node x has beside its name and its pins.
+    fn body(&self, x: NetId) -> &Body
+        requires range { x.0 < net_count self.now }
+        requires node { length self.now.inputs ≤ x.0 }
+        ensures { IsBodyOf (node_of self.now x.0) result.now }
+    {
+        body_at(&self.nodes.bodies, (x.0 - self.inputs) as usize)
+    }
+
+    /// What net x is.
+    #[tactic(auto, using(crate::proofs::Bodies::kinds))]
+    pub fn kind(&self, x: NetId) -> Kind
+        requires { x.0 < net_count self.now }
+        ensures { result ≡ kind_of (node_of self.now x.0) }
+    {
+        if x.0 < self.input_count() {
+            return Kind::Input;
+        }
+        match self.body(x) {
+            Body::TableBody(_) => Kind::Table,
+            Body::RegisterBody(_) => Kind::Register,
+        }
+    }
+
+    /// The pins of node x.
+    pub fn pins_of(&self, x: NetId) -> &[NetId]
+        requires range { x.0 < net_count self.now }
+        requires node { length self.now.inputs ≤ x.0 }
+        ensures { map number_of result.now ≡ pins_at (node_of self.now x.0) }
+    {
+        part_at(&self.nodes.ends, &self.nodes.pins, (x.0 - self.inputs) as usize)
+    }
+
+    /// Whether node x is a table.
+    #[tactic(auto, using(crate::proofs::Bodies::tables))]
+    pub fn is_table(&self, x: NetId) -> bool
+        requires range { x.0 < net_count self.now }
+        requires node { length self.now.inputs ≤ x.0 }
+        ensures { IsTrue result ↔ IsTable (node_of self.now x.0) }
+    {
+        match self.body(x) {
+            Body::TableBody(_) => true,
+            Body::RegisterBody(_) => false,
+        }
+    }
+
+    /// The pins of table x.
+    #[tactic(auto, using(crate::proofs::Bodies::reads))]
+    pub fn table_pins(&self, x: NetId) -> &[NetId]
+        requires { IsTable (node_of self.now x.0) }
+        ensures { map number_of result.now ≡ table_pins (node_of self.now x.0) }
+    {
+        self.pins_of(x)
+    }
+
+    /// The cover of table x.
+    #[tactic(auto, using(crate::proofs::Bodies::covers))]
+    pub fn cover(&self, x: NetId) -> &Cover
+        requires range { x.0 < net_count self.now }
+        requires node { length self.now.inputs ≤ x.0 }
+        requires table { IsTable (node_of self.now x.0) }
+        ensures { IsCoverOf (node_of self.now x.0) result.now }
+    {
+        match self.body(x) {
+            Body::TableBody(cover) => cover,
+            Body::RegisterBody(_) => unreachable!(),
+        }
+    }
+
+    /// The initial value of register x.
+    #[tactic(auto, using(crate::proofs::Bodies::inits))]
+    pub fn init(&self, x: NetId) -> bool
+        requires range { x.0 < net_count self.now }
+        requires node { length self.now.inputs ≤ x.0 }
+        requires register { IsRegister (node_of self.now x.0) }
+        ensures { IsInitOf (node_of self.now x.0) result }
+    {
+        match self.body(x) {
+            Body::TableBody(_) => unreachable!(),
+            Body::RegisterBody(init) => *init,
+        }
+    }
+
+    /// The clock's edge and name, if there is a clock.
+    pub fn clock(&self) -> Option<(Edge, &Name)>
+        ensures { option_map (λ clock. (clock.0, clock.1.now)) result ≡ self.now.clock }
+    {
+        match &self.clock {
+            None => None,
+            Some((edge, name)) => Some((*edge, name)),
+        }
+    }
+
+    /// The model's name.
+    pub fn model(&self) -> &Name
+        ensures { result.now ≡ self.now.model }
+    {
+        &self.model
+    }
+
+    /// How many registers there are.
+    pub fn register_count(&self) -> u32
+        ensures { result ≡ register_count self.now }
+    {
+        self.nodes.registers
+    }
+
+    /// The pins of all nodes, node by node in order, each node's pins in order.
+    #[tactic(auto, using(crate::proofs::PackedLaws::kept))]
+    pub fn all_pins(&self) -> &[NetId]
+        ensures pins { map number_of result.now ≡ all_pins self.now }
+        ensures total { length result.now ≡ pin_total self.now }
+    {
+        &self.nodes.pins
+    }
+
+    /// The names of all nets, in the order of their numbers.
+    #[tactic(auto, using(crate::proofs::PackedLaws::kept))]
+    pub fn names(&self) -> &IndexSet<Name>
+        ensures { result.now.keys ≡ net_names self.now }
+    {
+        &self.names
+    }
+}
