@@ -4,6 +4,7 @@ use Rattle.std.proofs.Math.ListN.{get_or}
 use Rattle.flat_net.specs.declared.nodes.Body.{Body}
 use Rattle.flat_net.specs.declared.nodes.Body.TheVariants.{TableBody, RegisterBody}
 use Rattle.flat_net.specs.Net.{Node, Table, Register}
+use Rattle.flat_net.specs.Draft.{Element, TableOf, LatchOf}
 
 -- a table's pins are all that stand in its part of the list, and a register's pin is the first of them
 abbrev pub node_from : List ℕ → Body → List ℕ → Node
@@ -41,3 +42,8 @@ IsBodyOf (Some (Table name cover pins)) (TableBody k) = cover ≡ k
 IsBodyOf (Some (Table name cover pins)) (RegisterBody b) = ⊥
 IsBodyOf (Some (Register name init pin)) (TableBody k) = ⊥
 IsBodyOf (Some (Register name init pin)) (RegisterBody b) = init ≡ b
+
+-- what an element's node has beside its name and its pins
+abbrev pub body_of : Element → Body
+body_of (TableOf pins out cover) = TableBody cover
+body_of (LatchOf pin out control init) = RegisterBody init

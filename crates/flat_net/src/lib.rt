@@ -12,6 +12,7 @@ mod kind;
 mod net;
 mod nodes;
 mod order;
+mod wires;
 mod wiring;
 
 pub use draft::Draft;
