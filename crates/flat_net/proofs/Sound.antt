@@ -233,3 +233,12 @@ unordered d is few few_reads distinct apart once clean driven = record {
     wired node of =
         let fits : IsElement of.element = subst IsElement (get_or_from_slice_get d.elements of.place of.element of.element of.at) (is.elements of.place of.element (slice_get_within d.elements of.place of.element of.at)) in
         rw of.is (wired_element d of.element fits (none_element (draft_names d) d.elements of.place of.element nets_in of.at))
+
+pub names_few : (d : PlainDraft) → length d.inputs + length d.elements < 4294967295 → length (draft_names d) < 4294967295
+names_few d few = omega (arith, length-append (net_inputs d) (map out_of d.elements), length-filter (λ name. not (is_clock (clock_of d) name)) d.inputs, count_by-le-length (λ name. not (is_clock (clock_of d) name)) d.inputs, length-map d.elements out_of)
+
+pub clock_is_input : (d : PlainDraft) (edge : Edge) (clock : List ℕ) → HasCleanClock d → clock_of d ≡ Some (edge, clock) → is_among d.inputs clock ≡ true
+clock_is_input d edge clock clean e =
+    let a = or_parts _ (is_among d.outputs clock) (clean edge clock e) in
+    let b = or_parts _ (is_among (draft_reads d) clock) a.0 in
+    not-false (is_among d.inputs clock) ((or_parts (bytes_eq clock (codes "NIL")) (not (is_among d.inputs clock)) b.0).1)

@@ -4,6 +4,7 @@
 //! clock) that is valid, and beside it an order in which its nodes can be evaluated.
 #![tactic(auto)]
 
+mod build;
 mod clocking;
 mod draft;
 mod driving;

@@ -1,7 +1,7 @@
 //! The design as it is kept.
 ghost use Rattle.std.specs.Prelude.{◌≡◌, ◌+◌, ◌-◌, ◌<◌, ◌≤◌, List, ℕ, Bool, length, map, sum_by, count_by, IfSome, IsTrue, Some, None, slice_get, slice_index};
 ghost use Rattle.std.specs.Option.{option_map};
-ghost use Rattle.flat_net.specs.Net.{Design, IsDesign, slot, net_count, node_of, pins_at, pins_of, all_pins, net_names, pin_total, register_count, is_register, IsTable, IsRegister, IsCoverOf, IsInitOf, name_of, net_named};
+ghost use Rattle.flat_net.specs.Net.{Design, IsDesign, IsOrder, slot, net_count, node_of, pins_at, pins_of, all_pins, net_names, pin_total, register_count, is_register, IsTable, IsRegister, IsCoverOf, IsInitOf, name_of, net_named};
 ghost use Rattle.flat_net.specs.Kinds.{kind_of};
 ghost use Rattle.flat_net.specs.Nodes.{number_of};
 
@@ -30,6 +30,17 @@ impl Model for FlatNet {
     ghost view = { design_of };
 
     ghost invariant = { λ n. IsDesign (design_of n) };
+}
+
+impl FlatNet {
+    /// A design with an order of its nodes.
+    pub(crate) fn new(wiring: Wiring, order: Vec<NetId>) -> FlatNet
+        requires { IsOrder wiring (map number_of order.items) }
+        ensures { result ≡ record { net = wiring; order = map number_of order.items } }
+    {
+        let _inputs = wiring.input_count();
+        FlatNet { wiring, order }
+    }
 }
 
 impl FlatNet {
@@ -156,7 +167,7 @@ impl FlatNet {
         requires { x.0 < net_count self.now.net }
         ensures { result.now ≡ name_of self.now.net x.0 }
     {
-        &self.wiring.names()[x.0 as usize]
+        self.wiring.name(x)
     }
 
     /// The net with this name.

@@ -39,6 +39,26 @@ impl Model for Wiring {
 }
 
 impl Wiring {
+    ghost use Rattle.std.specs.Prelude.{◌≡◌};
+    ghost use Rattle.flat_net.specs.View.{net_of, IsWiring};
+
+    /// A packed design.
+    pub fn new(model: Name, names: IndexSet<Name>, inputs: u32, nodes: PackedNodes, outputs: Vec<NetId>, clock: Option<(Edge, Name)>) -> Wiring
+        requires { IsWiring (record { model = model; names = names; inputs = inputs; nodes = nodes; outputs = outputs; clock = clock }) }
+        ensures { result ≡ net_of (record { model = model; names = names; inputs = inputs; nodes = nodes; outputs = outputs; clock = clock }) }
+    {
+        Wiring {
+            model,
+            names,
+            inputs,
+            nodes,
+            outputs,
+            clock,
+        }
+    }
+}
+
+impl Wiring {
     /// How many inputs there are.
     #[tactic(auto, using(crate::proofs::PackedLaws::kept))]
     pub fn input_count(&self) -> u32
@@ -196,6 +216,14 @@ impl Wiring {
         ensures total { length result.now ≡ pin_total self.now }
     {
         &self.nodes.pins
+    }
+
+    /// The name of net x.
+    pub fn name(&self, x: NetId) -> &Name
+        requires { x.0 < net_count self.now }
+        ensures { result.now ≡ name_of self.now x.0 }
+    {
+        &self.names()[x.0 as usize]
     }
 
     /// The names of all nets, in the order of their numbers.

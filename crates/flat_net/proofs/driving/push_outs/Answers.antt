@@ -8,12 +8,13 @@ use Rattle.flat_net.proofs.Going.{one_more, split_here, pushed_names, pushed_onc
 use Rattle.flat_net.proofs.driving.push_outs.Goals as goal
 
 pub loop-element-init : goal.loop-element-init
-loop-element-init c = record { names = sym (append-nil c.args.names.now.keys); once = none_nil (is_driven_before c.args.names.now.keys) }
+loop-element-init c = record { unique = c.requires; names = sym (append-nil c.args.names.now.keys); once = none_nil (is_driven_before c.args.names.now.keys) }
 
 pub loop-element-preserved : goal.loop-element-preserved
 loop-element-preserved c =
     let next = one_more plain_element c.args.elements.now c.loop-element.element-index c.element-item.result c.loop-element-test.true c.element-item.is in
     record {
+      unique = c.in_default.ensures.unique;
       names = pushed_names c.args.names.now.keys c.loop-element.names.keys _ (plain_element c.element-item.result) c.loop-element.invariant.names c.push_out.new.names.keys _ (rw c.out_name.ensures at c.in_default.ensures.ok) next;
       once = pushed_once c.args.names.now.keys c.loop-element.names.keys _ (plain_element c.element-item.result) c.loop-element.invariant.names _ c.loop-element.invariant.once (rw c.out_name.ensures at c.in_default.ensures.new) next;
     }
