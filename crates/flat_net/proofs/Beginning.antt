@@ -1,11 +1,11 @@
 -- Marks and registers before the first move.
-use Rattle.std.proofs.Common.{◌≡◌, ◌≢◌, ℕ, zero, suc, ◌+◌, ◌-◌, ◌<◌, ◌≤◌, ◌⊎◌, List, [], ◌∷◌, ◌++◌, length, map, get_or, set, take, drop, refl, sym, ap, ◌∙◌, inl, inr, arith, Option, Some, None}
+use Rattle.std.proofs.Common.{◌≡◌, ℕ, ◌+◌, ◌<◌, ◌≤◌, ◌⊎◌, List, [], ◌∷◌, ◌++◌, length, get_or, sym, ◌∙◌, inl, inr, arith}
 use Rattle.std.specs.Prelude.{replicate}
 use Rattle.std.proofs.lemmas.Bool.{cases_eq, cases_lt, cases_order}
-use Rattle.std.proofs.lemmas.List.{length-map, length-replicate, get_or-replicate, get_or_past, get_or_append_left, get_or_push, length_push, map_push}
+use Rattle.std.proofs.lemmas.List.{length-replicate, get_or-replicate, get_or_past, get_or_append_left, get_or_push, length_push}
 use Rattle.flat_net.specs.declared.order.Mark.{Mark}
-use Rattle.flat_net.specs.declared.order.Mark.TheVariants.{New, Open, Done}
-use Rattle.flat_net.specs.Net.{Net, Node, Table, Register, node_of, net_count, IsTable}
+use Rattle.flat_net.specs.declared.order.Mark.TheVariants.{New, Done}
+use Rattle.flat_net.specs.Net.{Net, node_of, net_count, IsTable}
 use Rattle.flat_net.proofs.Searching.{Stands, mark_at, push_cases, stands_push, stands_last}
 use Rattle.flat_net.proofs.Ranges.{table_within}
 
@@ -25,17 +25,17 @@ all_done k y = go (cases_lt y k)
 -- no input is a table
 pub first_none : (n : Net) → AreFirst n (length n.inputs) (replicate (length n.inputs) Done)
 first_none n = record {
-    count = length-replicate (length n.inputs) Done;
-    tables = λ y l t. absurd (omega (arith, (table_within n y t).0));
-    others = λ y _. all_done (length n.inputs) y;
-  }
+  count = length-replicate (length n.inputs) Done;
+  tables = λ y l t. absurd (omega (arith, (table_within n y t).0));
+  others = λ y _. all_done (length n.inputs) y;
+}
 
 pub first_more : (n : Net) (x : ℕ) (marks : List Mark) (m : Mark) → AreFirst n x marks → (IsTable (node_of n x) → m ≡ New) → (¬ IsTable (node_of n x) → m ≡ Done) → AreFirst n (x + 1) (marks ++ m ∷ [])
 first_more n x marks m f table other = record {
-    count = let c = f.count in omega (arith, length_push marks m);
-    tables = λ y l t. tables y l t (cases_eq y x);
-    others = λ y t. others y t (cases_order y x);
-  }
+  count = let c = f.count in omega (arith, length_push marks m);
+  tables = λ y l t. tables y l t (cases_eq y x);
+  others = λ y t. others y t (cases_order y x);
+}
   where
     inner : (y : ℕ) → y < x → mark_at (marks ++ m ∷ []) y ≡ mark_at marks y
     inner y l = get_or_append_left marks (m ∷ []) Done y (let c = f.count in omega arith)
@@ -65,19 +65,19 @@ pub record AreRegisters (n : Net) (x : ℕ) (order : List ℕ) : Type 0 where
 
 pub registers_none : (n : Net) → AreRegisters n (length n.inputs) []
 registers_none n = record {
-    nodes = λ k h. absurd (omega arith);
-    no_tables = λ k h. absurd (omega arith);
-    ascending = λ j k jk h. absurd (omega arith);
-    all = λ y low high _. absurd (omega arith);
-  }
+  nodes = λ k h. absurd (omega arith);
+  no_tables = λ k h. absurd (omega arith);
+  ascending = λ j k jk h. absurd (omega arith);
+  all = λ y low high _. absurd (omega arith);
+}
 
 pub registers_skip : (n : Net) (x : ℕ) (order : List ℕ) → AreRegisters n x order → IsTable (node_of n x) → AreRegisters n (x + 1) order
 registers_skip n x order r t = record {
-    nodes = λ k h. let (low, high) = r.nodes k h in (low, omega arith);
-    no_tables = r.no_tables;
-    ascending = r.ascending;
-    all = λ y low high not_table. go y low high not_table (cases_eq y x);
-  }
+  nodes = λ k h. let (low, high) = r.nodes k h in (low, omega arith);
+  no_tables = r.no_tables;
+  ascending = r.ascending;
+  all = λ y low high not_table. go y low high not_table (cases_eq y x);
+}
   where
     go : (y : ℕ) → length n.inputs ≤ y → y < x + 1 → ¬ IsTable (node_of n y) → (y ≡ x) ⊎ (y ≡ x → ⊥) → Stands order y
     go y low high not_table (inl e) = absurd (not_table (rw e t))
@@ -85,11 +85,11 @@ registers_skip n x order r t = record {
 
 pub registers_more : (n : Net) (x : ℕ) (order : List ℕ) → AreRegisters n x order → length n.inputs ≤ x → ¬ IsTable (node_of n x) → AreRegisters n (x + 1) (order ++ x ∷ [])
 registers_more n x order r low not_table = record {
-    nodes = λ k h. nodes k (push_cases order x k h);
-    no_tables = λ k h. no_tables k (push_cases order x k h);
-    ascending = λ j k jk h. ascending j k jk (push_cases order x k h);
-    all = λ y l h other. all y l h other (cases_eq y x);
-  }
+  nodes = λ k h. nodes k (push_cases order x k h);
+  no_tables = λ k h. no_tables k (push_cases order x k h);
+  ascending = λ j k jk h. ascending j k jk (push_cases order x k h);
+  all = λ y l h other. all y l h other (cases_eq y x);
+}
   where
     nodes : (k : ℕ) → ((k < length order) × (get_or (order ++ x ∷ []) k 0 ≡ get_or order k 0)) ⊎ ((k ≡ length order) × (get_or (order ++ x ∷ []) k 0 ≡ x)) → (length n.inputs ≤ get_or (order ++ x ∷ []) k 0) × (get_or (order ++ x ∷ []) k 0 < x + 1)
     nodes k (inl e) = let (a, b) = r.nodes k e.0 in (omega arith, omega arith)

@@ -1,13 +1,16 @@
 -- From what a step answers to the fault of the draft.
-use Rattle.std.proofs.Common.{◌≡◌, ◌≢◌, ℕ, Bool, not, List, ◌++◌, refl, ap, subst}
-use Rattle.std.specs.Prelude.{Some}
+use Rattle.std.proofs.Common.{◌≡◌, ◌≢◌, ℕ, suc, ◌-◌, ◌<◌, ◌⊎◌, inl, inr, not, List, ◌++◌, length, get_or, Option, Some, None, subst, arith}
+use Rattle.std.specs.Prelude.{Contains}
 use Rattle.flat_net.specs.declared.fault.NetFault.{NetFault}
 use Rattle.flat_net.specs.declared.fault.NetFault.TheVariants.{DoubleDriven, MixedClock, ClockUse, Undriven, CombLoop, Memory}
 use Rattle.flat_net.specs.Draft.{PlainDraft}
 use Rattle.flat_net.specs.First.{HasNone, IsFirst}
 use Rattle.flat_net.specs.Faults.{is_among, is_no_net, draft_names, draft_reads, IsDrivenOnce, HasOneClock, HasCleanClock, IsDriven, IsFaultOf, IsLoopFault, net_of_draft}
-use Rattle.flat_net.specs.Net.{Net}
-use Rattle.flat_net.proofs.Firsts.{first_after, first_more}
+use Rattle.flat_net.specs.Net.{Net, Node, Table, Register, node_of, net_count, table_pins, IsTable}
+use Rattle.flat_net.specs.Loop.{IsLoop}
+use Rattle.flat_net.proofs.Ranges.{table_within}
+use Rattle.std.proofs.lemmas.Bool.{cases_eq}
+use Rattle.flat_net.proofs.Firsts.{first_after}
 
 pub undriven_fault : (d : PlainDraft) (fault : NetFault) → IsDrivenOnce d → HasOneClock d → HasCleanClock d → (fault ≢ Memory → (name : List ℕ) × IsFirst (is_no_net (draft_names d)) (draft_reads d ++ d.outputs) name × (fault ≡ Undriven name)) → IsFaultOf d fault
 undriven_fault d (DoubleDriven n) once one clean found = let (name, first, is) = found (λ e. (cc)) in absurd (cc)
@@ -33,3 +36,19 @@ loop_fault d n (ClockUse name) same once one clean driven l = absurd l
 loop_fault d n (Undriven name) same once one clean driven l = absurd l
 loop_fault d n (CombLoop names) same once one clean driven l = (once, one, clean, driven, rw same at l)
 loop_fault d n Memory same once one clean driven l = tt
+
+reads_some : (o : Option Node) (y : ℕ) → Contains (table_pins o) y → IsTable o
+reads_some None y (at, below, is) = omega arith
+reads_some (Some (Table name cover pins)) y there = tt
+reads_some (Some (Register name init pin)) y (at, below, is) = omega arith
+
+-- the tables of a loop are tables
+pub loop_table : (n : Net) (tables : List ℕ) → IsLoop n tables → (k : ℕ) → k < length tables → IsTable (node_of n (get_or tables k 0))
+loop_table n tables loop k h = go (cases_eq (suc k) (length tables))
+  where
+    go : (suc k ≡ length tables) ⊎ (suc k ≡ length tables → ⊥) → IsTable (node_of n (get_or tables k 0))
+    go (inl e) = let last : k ≡ length tables - 1 = omega arith in rw last (reads_some _ _ loop.closed)
+    go (inr ne) = reads_some _ _ (loop.next k (omega arith))
+
+pub loop_within : (n : Net) (tables : List ℕ) → IsLoop n tables → (k : ℕ) → k < length tables → get_or tables k 0 < net_count n
+loop_within n tables loop k h = (table_within n (get_or tables k 0) (loop_table n tables loop k h)).1

@@ -1,13 +1,12 @@
 -- The first latch of a list of elements, and clocking that differs from it.
-use Rattle.std.proofs.Common.{◌≡◌, ℕ, ◌<◌, Bool, true, false, not, ◌||◌, List, [], ◌∷◌, ◌++◌, length, map, Option, Some, None, refl, sym, ap, ◌∙◌, take, drop, get_or}
+use Rattle.std.proofs.Common.{◌≡◌, ℕ, Bool, true, false, ◌||◌, List, [], ◌∷◌, ◌++◌, map, Option, Some, None, refl, sym, ap, ◌∙◌}
 use Rattle.std.specs.List.{flat_map, list_any}
 use Rattle.std.proofs.lemmas.List.Folds.{list_any-append}
 use Rattle.tmr_base.specs.declared.ids.Edge.{Edge}
 use Rattle.tmr_base.specs.declared.ids.Edge.TheVariants.{Rising, Falling}
 use Rattle.flat_net.specs.Draft.{Element, TableOf, LatchOf, reads_of}
-use Rattle.flat_net.specs.First.{HasNone, IsFirst}
-use Rattle.flat_net.specs.Faults.{first_control, same_edge, same_control, is_unlike, is_unlike_any, is_mixed}
-use Rattle.flat_net.proofs.Firsts.{none_push, first_here}
+use Rattle.flat_net.specs.First.{HasNone}
+use Rattle.flat_net.specs.Faults.{first_control, same_edge, same_control, is_unlike, is_mixed}
 use Rattle.flat_net.proofs.Names.{eq_true}
 
 same_edge_self : (e : Edge) → same_edge e e ≡ true

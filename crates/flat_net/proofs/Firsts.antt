@@ -1,6 +1,6 @@
 -- First entries, and lists without one, as a loop over the list meets them.
-use Rattle.std.proofs.Common.{◌≡◌, ℕ, zero, suc, ◌<◌, Bool, true, false, ◌⊎◌, inl, inr, List, [], ◌∷◌, ◌++◌, length, refl, sym, ap, ◌∙◌, subst, All, arith, get_or}
-use Rattle.std.proofs.lemmas.List.{append_assoc, append-nil, same_from_push, get_or_at, length-append}
+use Rattle.std.proofs.Common.{◌≡◌, ℕ, zero, suc, ◌<◌, Bool, true, false, ◌⊎◌, inl, inr, List, [], ◌∷◌, ◌++◌, length, refl, sym, ap, ◌∙◌, arith, get_or}
+use Rattle.std.proofs.lemmas.List.{append_assoc, same_from_push}
 use Rattle.flat_net.specs.First.{HasNone, IsFirst}
 
 abbrev pub End : {A : Type 0} → List A → Type 0

@@ -1,5 +1,5 @@
 -- A loop over elements: those that it has gone over, the next one, and those behind it.
-use Rattle.std.proofs.Common.{◌≡◌, ℕ, ◌+◌, ◌<◌, Bool, true, false, List, [], ◌∷◌, ◌++◌, length, map, get_or, take, drop, refl, sym, ap, subst, ◌∙◌, suc, add-one, arith}
+use Rattle.std.proofs.Common.{◌≡◌, ℕ, ◌+◌, ◌<◌, true, false, List, [], ◌∷◌, ◌++◌, length, map, get_or, take, drop, sym, ap, subst, ◌∙◌}
 use Rattle.std.proofs.lemmas.List.{map_more, append_assoc, map-append, take-append-drop, drop_more, take_more}
 use Rattle.std.proofs.lemmas.Bool.{not_from_true, not_from_false}
 use Rattle.flat_net.specs.First.{HasNone, IsFirst}

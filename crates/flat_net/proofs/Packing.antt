@@ -1,22 +1,22 @@
 -- The design of a draft, packed.
-use Rattle.std.proofs.Common.{◌≡◌, ◌≢◌, ℕ, zero, suc, ◌+◌, ◌-◌, ◌<◌, Bool, true, false, not, cond, List, [], ◌∷◌, ◌++◌, length, map, filter, take, drop, get_or, Option, Some, None, refl, sym, ap, ◌∙◌, subst, arith}
-use Rattle.std.specs.Prelude.{count_by, MatchOption}
+use Rattle.std.proofs.Common.{◌≡◌, ◌≢◌, ℕ, suc, ◌+◌, ◌<◌, Bool, true, false, not, List, [], ◌∷◌, ◌++◌, length, map, filter, take, drop, get_or, Option, Some, None, refl, sym, ap, ◌∙◌, subst, arith}
+use Rattle.std.specs.Prelude.{MatchOption}
 use Rattle.std.specs.List.{list_any}
 use Rattle.std.specs.Str.{bytes_eq}
 use Rattle.std.proofs.lemmas.List.{length-map, length-append, take_at, drop_at}
-use Rattle.std.proofs.lemmas.Bool.{cases_Bool, cond-true, cond-false, false≢true}
+use Rattle.std.proofs.lemmas.Bool.{false≢true}
 use Rattle.indexmap.specs.IndexSet.{remove_key}
 use Rattle.tmr_base.specs.declared.ids.Edge.{Edge}
 use Rattle.flat_net.specs.Nodes.{number_of}
-use Rattle.flat_net.specs.Net.{Net, Node, is_register, register_count}
+use Rattle.flat_net.specs.Net.{Net, Node, register_count}
 use Rattle.flat_net.specs.Unordered.{IsUnordered}
 use Rattle.flat_net.specs.declared.wiring.Wiring.TheInside.{Inside}
 use Rattle.flat_net.specs.View.{net_of, IsWiring}
 use Rattle.flat_net.specs.Draft.{PlainDraft, Element, out_of, AreDistinct}
-use Rattle.flat_net.specs.Faults.{is_among, number_in, node_of_element, net_inputs, draft_names, clock_of, is_clock, is_misused, net_of_draft, HasCleanClock}
-use Rattle.flat_net.specs.Packed.{nodes_from, AreEnds, body_of}
+use Rattle.flat_net.specs.Faults.{is_among, number_in, node_of_element, net_inputs, draft_names, clock_of, net_of_draft, HasCleanClock}
+use Rattle.flat_net.specs.Packed.{nodes_from, body_of}
 use Rattle.flat_net.specs.Wired.{AreWires}
-use Rattle.flat_net.proofs.Names.{eq_true, eq_from, eq_false}
+use Rattle.flat_net.proofs.Names.{eq_from, eq_false}
 use Rattle.flat_net.proofs.Sound.{clock_is_input}
 
 -- ---- the names without the clock's
@@ -76,11 +76,11 @@ net_packed d w p = same_net w.model d.model (take w.inputs w.names.keys) (net_in
 
 pub wiring_packed : (d : PlainDraft) (w : Inside) → IsPackedFrom d w → IsUnordered (net_of_draft d) → IsWiring w
 wiring_packed d w p valid = record {
-    named = rw (p.names, p.inputs, p.bodies) (length-append (net_inputs d) (map out_of d.elements) ∙ ap (λ k. length (net_inputs d) + k) (length-map d.elements out_of ∙ sym (length-map d.elements body_of)));
-    cut = rw (p.bodies, ← length-map w.nodes.pins.items number_of) p.wires.cut;
-    registers = p.wires.latches ∙ ap register_count (sym (net_packed d w p));
-    net = subst (λ (n : Net). IsUnordered n) (sym (net_packed d w p)) valid;
-  }
+  named = rw (p.names, p.inputs, p.bodies) (length-append (net_inputs d) (map out_of d.elements) ∙ ap (λ k. length (net_inputs d) + k) (length-map d.elements out_of ∙ sym (length-map d.elements body_of)));
+  cut = rw (p.bodies, ← length-map w.nodes.pins.items number_of) p.wires.cut;
+  registers = p.wires.latches ∙ ap register_count (sym (net_packed d w p));
+  net = subst (λ (n : Net). IsUnordered n) (sym (net_packed d w p)) valid;
+}
 
 pub names_of_nets : (d : PlainDraft) (o : Option (Edge × List ℕ)) (all keys : List (List ℕ)) → o ≡ clock_of d → MatchOption o (keys ≡ all) (λ c. keys ≡ remove_key (bytes_eq c.1) all) → all ≡ d.inputs ++ map out_of d.elements → AreDistinct d.inputs → HasCleanClock d → keys ≡ draft_names d
 names_of_nets d None all keys e k are distinct clean = names_with_all d keys (sym e) (k ∙ are)

@@ -1,28 +1,28 @@
 -- The design of a draft without faults is valid but for an order.
-use Rattle.std.proofs.Common.{◌≡◌, ◌≢◌, ℕ, zero, suc, ◌+◌, ◌-◌, ◌<◌, ◌≤◌, ◌⊎◌, inl, inr, Bool, true, false, not, ◌||◌, List, [], ◌∷◌, ◌++◌, length, map, filter, take, drop, get_or, All, Option, Some, None, slice_get, refl, sym, ap, ◌∙◌, subst, arith, eqb, ltb, Any, if◌then◌else◌}
-use Rattle.std.specs.Prelude.{Contains, position, count_by, codes, sum_by}
+use Rattle.std.proofs.Common.{◌≡◌, ◌≢◌, ℕ, zero, suc, ◌+◌, ◌-◌, ◌<◌, ◌≤◌, ◌⊎◌, inl, inr, Bool, true, false, not, ◌||◌, List, [], ◌∷◌, ◌++◌, length, map, take, drop, get_or, All, Option, Some, None, slice_get, refl, sym, ap, ◌∙◌, subst, arith, eqb, ltb, Any, if◌then◌else◌}
+use Rattle.std.specs.Prelude.{Contains, position, count_by, codes}
 use Rattle.std.specs.List.{flat_map, list_any, IsDistinct, position_or_len}
 use Rattle.std.specs.Option.{unwrap_or, option_map}
 use Rattle.std.specs.Str.{bytes_eq}
-use Rattle.std.proofs.lemmas.List.{length-map, length-append, map-append, get_or_default, get_or-map, get_or_append_left, get_or-append_right, append_assoc}
+use Rattle.std.proofs.lemmas.List.{length-map, length-append, get_or_default, get_or-map, append_assoc}
 use Rattle.std.proofs.lemmas.List.Quantifiers.{position-Some}
-use Rattle.std.proofs.lemmas.List.Folds.{list_any-append, list_any-from_Any, Any-from_list_any, list_any_none}
+use Rattle.std.proofs.lemmas.List.Folds.{list_any-append, Any-from_list_any, list_any_none}
 use Rattle.std.proofs.lemmas.List.Sums.{fails_before_first, sum_by-cons, length-filter, count_by-le-length}
-use Rattle.std.proofs.lemmas.List.Elements.{filter_passes, All-map, All-filter, All-append, All-nil, All-cons, All-head, All-tail, All-contains, All-weaker, Contains-append_cases}
-use Rattle.std.proofs.lemmas.List.Concat.{length-flat_map, flat_map-append}
+use Rattle.std.proofs.lemmas.List.Elements.{filter_passes, All-map, All-filter, All-append, All-head, All-tail, All-contains, All-weaker, Contains-append_cases}
+use Rattle.std.proofs.lemmas.List.Concat.{length-flat_map}
 use Rattle.std.proofs.lemmas.Map.Keys.{apart_from_distinct, IsDistinct-from_apart}
 use Rattle.std.proofs.lemmas.Map.Steps.{length-le_from_distinct_below}
-use Rattle.std.proofs.lemmas.Bool.{cases_lt, cases_order, cases_eq, ne_eqb, eqb-true, or_parts, false≢true, not-false, cond-true, lt-ltb}
-use Rattle.std.proofs.lemmas.Option.{slice_get_within, slice_get-get_or, get_or_from_slice_get, slice_get-map}
+use Rattle.std.proofs.lemmas.Bool.{cases_lt, cases_order, ne_eqb, eqb-true, or_parts, false≢true, not-false, cond-true, lt-ltb}
+use Rattle.std.proofs.lemmas.Option.{slice_get_within, get_or_from_slice_get, slice_get-map}
 use Rattle.tmr_base.specs.Names.{is_name}
 use Rattle.tmr_base.specs.declared.ids.Edge.{Edge}
-use Rattle.flat_net.specs.Net.{Net, Node, Table, Register, node_of, node_name, net_names, name_of, net_count, pins_of, pin_total, is_register, IsWired, IsClockOf, register_count}
+use Rattle.flat_net.specs.Net.{Node, node_of, node_name, net_names, net_count, pins_of, pin_total, is_register, IsWired, IsClockOf}
 use Rattle.flat_net.specs.Unordered.{IsUnordered}
-use Rattle.flat_net.specs.Draft.{PlainDraft, Element, TableOf, LatchOf, out_of, reads_of, IsDraft, IsElement, IsControl, AreDistinct}
-use Rattle.flat_net.specs.First.{HasNone, IsFirst}
-use Rattle.flat_net.specs.Faults.{is_among, is_no_net, number_in, node_of_element, net_inputs, draft_names, draft_reads, clock_of, clock_from, first_control, is_clock, is_misused, net_of_draft, is_driven_before, IsDrivenOnce, HasCleanClock, IsDriven}
-use Rattle.flat_net.proofs.Firsts.{none_at, none_append}
-use Rattle.flat_net.proofs.Names.{eq_true, eq_from, eq_false}
+use Rattle.flat_net.specs.Draft.{PlainDraft, Element, TableOf, LatchOf, out_of, reads_of, IsDraft, IsElement, AreDistinct}
+use Rattle.flat_net.specs.First.{HasNone}
+use Rattle.flat_net.specs.Faults.{is_among, is_no_net, number_in, node_of_element, net_inputs, draft_names, draft_reads, clock_of, clock_from, first_control, is_clock, net_of_draft, IsDrivenOnce, HasCleanClock, IsDriven}
+use Rattle.flat_net.proofs.Firsts.{none_at}
+use Rattle.flat_net.proofs.Names.{eq_true, eq_from}
 use Rattle.flat_net.proofs.Slots.{slot_at, slot_within, slice_get_there}
 use Rattle.flat_net.proofs.Going.{taken_split}
 
@@ -101,9 +101,10 @@ element_of d x node e = go (slice_get d.elements (x - length (net_inputs d))) re
 
 pub wired_element : (d : PlainDraft) (e : Element) → IsElement e → HasNone (is_no_net (draft_names d)) (reads_of e) → IsWired (net_count (net_of_draft d)) (node_of_element (draft_names d) e)
 wired_element d (TableOf pins out cover) is nets = (
-    All-map (λ x. x < net_count (net_of_draft d)) (number_in (draft_names d)) pins (λ k b h. rw (count_of_draft d) ((among_number (draft_names d) (get_or pins k b) (is_net_at (draft_names d) pins k b nets h)).0)),
-    length-map pins (number_in (draft_names d)) ∙ is.1,
-    is.2)
+  All-map (λ x. x < net_count (net_of_draft d)) (number_in (draft_names d)) pins (λ k b h. rw (count_of_draft d) ((among_number (draft_names d) (get_or pins k b) (is_net_at (draft_names d) pins k b nets h)).0)),
+  length-map pins (number_in (draft_names d)) ∙ is.1,
+  is.2,
+)
 wired_element d (LatchOf pin out control init) is nets = rw (count_of_draft d) ((among_number (draft_names d) pin (is_net_at (draft_names d) (pin ∷ []) 0 [] nets (omega arith))).0)
 
 -- ---- the outputs
@@ -115,8 +116,8 @@ outputs_apart : (d : PlainDraft) → AreDistinct d.outputs → HasNone (is_no_ne
 outputs_apart d distinct nets j k jk h e =
     let high : k < length d.outputs = omega (arith, length-map d.outputs (number_in (draft_names d))) in
     distinct j k jk high (number_apart (draft_names d) (get_or d.outputs j []) (get_or d.outputs k [])
-      (is_net_at (draft_names d) d.outputs j [] nets (omega arith)) (is_net_at (draft_names d) d.outputs k [] nets high)
-      (sym (get_or-map (number_in (draft_names d)) d.outputs j [] 0 (omega arith)) ∙ (e ∙ get_or-map (number_in (draft_names d)) d.outputs k [] 0 high)))
+    (is_net_at (draft_names d) d.outputs j [] nets (omega arith)) (is_net_at (draft_names d) d.outputs k [] nets high)
+    (sym (get_or-map (number_in (draft_names d)) d.outputs j [] 0 (omega arith)) ∙ (e ∙ get_or-map (number_in (draft_names d)) d.outputs k [] 0 high)))
 
 -- so many numbers below n, no two equal, are at most n
 few_apart : (xs : List ℕ) (n : ℕ) → ((j k : ℕ) → j < k → k < length xs → get_or xs j 0 ≢ get_or xs k 0) → All (λ x. x < n) xs → length xs ≤ n
@@ -170,10 +171,11 @@ clock_is d is once clean = go (clock_of d) refl
     go : (o : Option (Edge × List ℕ)) → clock_of d ≡ o → IsClockOf (net_of_draft d) o
     go None e = tt
     go (Some (edge, clock)) e = (
-        control_is_name d.elements edge clock is.elements e,
-        (λ nil. false≢true (sym uses.0 ∙ eq_true clock (codes "NIL") nil)),
-        (λ there. parts (Contains-append_cases (net_inputs d) (map out_of d.elements) clock (rw (names_of_draft d) at there))),
-        some_register (draft_names d) d.elements (Some (edge, clock)) (has_latch d.elements (edge, clock) e))
+      control_is_name d.elements edge clock is.elements e,
+      (λ nil. false≢true (sym uses.0 ∙ eq_true clock (codes "NIL") nil)),
+      (λ there. parts (Contains-append_cases (net_inputs d) (map out_of d.elements) clock (rw (names_of_draft d) at there))),
+      some_register (draft_names d) d.elements (Some (edge, clock)) (has_latch d.elements (edge, clock) e),
+    )
       where
         uses : (bytes_eq clock (codes "NIL") ≡ false) × (not (is_among d.inputs clock) ≡ false)
         uses =
@@ -198,17 +200,17 @@ names_all d is = All-append (λ name. is_name name ≡ true) (net_inputs d) (map
 
 pub unordered : (d : PlainDraft) → IsDraft d → length d.inputs + length d.elements < 4294967295 → length (draft_reads d) < 4294967295 → AreDistinct d.outputs → IsDistinct bytes_eq (draft_names d) → IsDrivenOnce d → HasCleanClock d → IsDriven d → IsUnordered (net_of_draft d)
 unordered d is few few_reads distinct apart once clean driven = record {
-    model_is_name = is.model;
-    few = few_nets;
-    few_pins = rw (total_of_draft d) few_reads;
-    few_outputs = few_outputs;
-    names_are_names = λ x h. rw (names_of_draft d) (names_all d is x [] (rw (count_of_draft d) at h));
-    names_differ = λ x y hx hy e. same x y (rw (count_of_draft d) at hx) (rw (count_of_draft d) at hy) (rw (names_of_draft d) at e) (cases_order x y);
-    wired = λ x node e. wired node (element_of d x node e);
-    outputs_in_range = outputs_below d nets_out;
-    outputs_differ = outputs_apart d distinct nets_out;
-    clock = clock_is d is once clean;
-  }
+  model_is_name = is.model;
+  few = few_nets;
+  few_pins = rw (total_of_draft d) few_reads;
+  few_outputs = few_outputs;
+  names_are_names = λ x h. rw (names_of_draft d) (names_all d is x [] (rw (count_of_draft d) at h));
+  names_differ = λ x y hx hy e. same x y (rw (count_of_draft d) at hx) (rw (count_of_draft d) at hy) (rw (names_of_draft d) at e) (cases_order x y);
+  wired = λ x node e. wired node (element_of d x node e);
+  outputs_in_range = outputs_below d nets_out;
+  outputs_differ = outputs_apart d distinct nets_out;
+  clock = clock_is d is once clean;
+}
   where
     nets_in : HasNone (is_no_net (draft_names d)) (draft_reads d)
     nets_in = none_left (is_no_net (draft_names d)) (draft_reads d) d.outputs driven

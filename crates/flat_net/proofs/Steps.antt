@@ -1,7 +1,7 @@
 -- What each move of the search over tables leaves, in the words of the moves' contracts.
-use Rattle.std.proofs.Common.{◌≡◌, ◌≢◌, ℕ, zero, suc, ◌+◌, ◌-◌, ◌*◌, ◌^◌, ◌<◌, ◌≤◌, ◌⊎◌, List, [], ◌∷◌, ◌++◌, length, map, get_or, set, take, replicate, refl, sym, ap, ◌∙◌, subst, inl, inr, arith, Option, Some, None}
+use Rattle.std.proofs.Common.{◌≡◌, ◌≢◌, ℕ, suc, ◌+◌, ◌-◌, ◌<◌, ◌≤◌, ◌⊎◌, List, [], ◌∷◌, ◌++◌, length, get_or, set, replicate, refl, sym, ap, ◌∙◌, inl, inr, arith, Option, Some, None}
 use Rattle.std.specs.Prelude.{Contains}
-use Rattle.std.proofs.lemmas.List.{get_or-replicate, length-replicate, get_or_past, length_push, get_or_push, get_or-set_same}
+use Rattle.std.proofs.lemmas.List.{get_or-replicate, length-replicate, get_or_past, get_or-set_same}
 use Rattle.std.proofs.lemmas.Bool.{cases_eq, cases_lt}
 use Rattle.flat_net.specs.declared.order.Mark.{Mark}
 use Rattle.flat_net.specs.declared.order.Mark.TheVariants.{New, Open, Done}
@@ -9,9 +9,9 @@ use Rattle.flat_net.specs.Net.{Net, Node, Table, Register, node_of, net_count, t
 use Rattle.flat_net.specs.Unordered.{IsUnordered}
 use Rattle.flat_net.specs.Loop.{IsLoop}
 use Rattle.flat_net.specs.Turned.{IsLast, IsTurned}
-use Rattle.flat_net.proofs.Searching.{Stands, IsOnce, IsSearch, mark_at, mark_within}
+use Rattle.flat_net.proofs.Searching.{Stands, mark_at, mark_within}
 use Rattle.flat_net.proofs.Turning.{contains_stands, is_loop}
-use Rattle.flat_net.proofs.Tables.{IsSearching, work, last_of, opened_on, passed_on, finished_on, opened_less, passed_less, finished_less, ordered}
+use Rattle.flat_net.proofs.Tables.{IsSearching, work, opened_on, passed_on, finished_on, opened_less, passed_less, finished_less, ordered}
 
 -- one net more is begun
 pub later : (n : Net) (at : ℕ) (marks : List Mark) (passed path order : List ℕ) → IsSearching n at marks passed path order → mark_at marks at ≢ New → IsSearching n (at + 1) marks passed path order
@@ -86,27 +86,27 @@ pub begins : (n : Net) (marks : List Mark) (passed path order : List ℕ) →
     ((x : ℕ) → length n.inputs ≤ x → x < net_count n → ¬ IsTable (node_of n x) → Contains order x) →
     IsSearching n (length n.inputs) marks passed path order
 begins n marks passed path order fit tables others unpassed empty nodes no_tables ascending all = rw empty (record {
-    search = record {
-      lengths = rw unpassed (length-replicate (net_count n) 0 ∙ sym fit);
-      new_sought = λ x e. sought x e (is_table x);
-      new_fresh = λ x _. fresh x;
-      open_on_path = λ x e. absurd (never x e (is_table x));
-      path_open = λ k h. absurd (omega arith);
-      path_sought = λ k h. absurd (omega arith);
-      path_once = record { apart = λ j k _ h. absurd (omega arith) };
-      chain = λ k h. absurd (omega arith);
-      passed_within = λ x e. absurd (never x e (is_table x));
-      passed_done = λ x i e _. absurd (never x e (is_table x));
-      order_done = λ k h. others (get_or order k 0) (no_tables k h);
-      order_once = record { apart = λ j k jk h e. let l = ascending j k jk h in omega arith };
-      in_order = λ x t e. absurd (let new = tables x t in (cc));
-      after = λ k i h l t. absurd (none k h i l);
-    };
-    fit = fit;
-    others = λ x low high. other x low high (is_table x);
-    nodes = nodes;
-    begun = λ x low high. absurd (omega arith);
-  })
+  search = record {
+    lengths = rw unpassed (length-replicate (net_count n) 0 ∙ sym fit);
+    new_sought = λ x e. sought x e (is_table x);
+    new_fresh = λ x _. fresh x;
+    open_on_path = λ x e. absurd (never x e (is_table x));
+    path_open = λ k h. absurd (omega arith);
+    path_sought = λ k h. absurd (omega arith);
+    path_once = record { apart = λ j k _ h. absurd (omega arith) };
+    chain = λ k h. absurd (omega arith);
+    passed_within = λ x e. absurd (never x e (is_table x));
+    passed_done = λ x i e _. absurd (never x e (is_table x));
+    order_done = λ k h. others (get_or order k 0) (no_tables k h);
+    order_once = record { apart = λ j k jk h e. let l = ascending j k jk h in omega arith };
+    in_order = λ x t e. absurd (let new = tables x t in (cc));
+    after = λ k i h l t. absurd (none k h i l);
+  };
+  fit = fit;
+  others = λ x low high. other x low high (is_table x);
+  nodes = nodes;
+  begun = λ x low high. absurd (omega arith);
+})
   where
     is_table : (x : ℕ) → IsTable (node_of n x) ⊎ ¬ IsTable (node_of n x)
     is_table x = go (node_of n x)

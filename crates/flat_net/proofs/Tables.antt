@@ -1,13 +1,13 @@
 -- The search over the tables of a net.
-use Rattle.std.proofs.Common.{◌≡◌, ◌≢◌, ℕ, zero, suc, ◌+◌, ◌-◌, ◌*◌, ◌^◌, ◌<◌, ◌≤◌, ◌⊎◌, List, [], ◌∷◌, ◌++◌, length, map, get_or, set, take, refl, sym, ap, ◌∙◌, subst, inl, inr, arith, Option, Some, None}
+use Rattle.std.proofs.Common.{◌≡◌, ◌≢◌, ℕ, suc, ◌+◌, ◌-◌, ◌*◌, ◌^◌, ◌<◌, ◌≤◌, ◌⊎◌, List, [], ◌∷◌, ◌++◌, length, get_or, set, refl, sym, ap, ◌∙◌, inl, inr, arith, Option, Some, None}
 use Rattle.std.specs.List.{sum_by}
-use Rattle.std.proofs.lemmas.List.{map_push, length-map, length-set, get_or-map, length_push, get_or_push, get_or-set_same}
+use Rattle.std.proofs.lemmas.List.{length-set, length_push, get_or_push, get_or-set_same}
 use Rattle.std.proofs.lemmas.List.Sums.{sum_by-set}
 use Rattle.flat_net.specs.declared.order.Mark.{Mark}
 use Rattle.flat_net.specs.declared.order.Mark.TheVariants.{New, Open, Done}
-use Rattle.flat_net.specs.Net.{Net, Node, Table, Register, node_of, net_count, table_pins, IsTable, IsRegister, IsOrder}
+use Rattle.flat_net.specs.Net.{Net, Node, Table, Register, node_of, net_count, table_pins, IsTable, IsOrder}
 use Rattle.flat_net.specs.Unordered.{IsUnordered}
-use Rattle.flat_net.proofs.Searching.{Stands, IsOnce, IsSearch, mark_at, push_cases, stands_push, set_marks, mark_within}
+use Rattle.flat_net.proofs.Searching.{Stands, IsSearch, mark_at, push_cases, stands_push, set_marks, mark_within}
 use Rattle.flat_net.proofs.Moves.{opened, passed_by, finished}
 use Rattle.flat_net.proofs.Ranges.{table_within, pins_few}
 
@@ -50,30 +50,30 @@ stands_cases A order x y (inr s) = inr (stands_push order x y s)
 
 pub opened_on : (n : Net) (at : ℕ) (marks : List Mark) (passed path order : List ℕ) (x : ℕ) → IsSearching n at marks passed path order → mark_at marks x ≡ New → ((k : ℕ) → suc k ≡ length path → Stands (table_pins (node_of n (get_or path k 0))) x) → IsSearching n at (set marks x Open) passed (path ++ x ∷ []) order
 opened_on n at marks passed path order x s new read = record {
-    search = opened (λ x. IsTable (node_of n x)) (λ x. table_pins (node_of n x)) marks passed path order x s.search new read;
-    fit = length-set marks x Open ∙ s.fit;
-    others = s.others;
-    nodes = s.nodes;
-    begun = begun_set n at marks x Open (mark_within marks x (λ e. (cc))) (λ e. (cc)) s.begun;
-  }
+  search = opened (λ x. IsTable (node_of n x)) (λ x. table_pins (node_of n x)) marks passed path order x s.search new read;
+  fit = length-set marks x Open ∙ s.fit;
+  others = s.others;
+  nodes = s.nodes;
+  begun = begun_set n at marks x Open (mark_within marks x (λ e. (cc))) (λ e. (cc)) s.begun;
+}
 
 pub passed_on : (n : Net) (at : ℕ) (marks : List Mark) (passed path order : List ℕ) (x i : ℕ) → IsSearching n at marks passed path order → mark_at marks x ≡ Open → get_or passed x 0 ≡ i → i < length (table_pins (node_of n x)) → mark_at marks (get_or (table_pins (node_of n x)) i 0) ≡ Done → IsSearching n at marks (set passed x (i + 1)) path order
 passed_on n at marks passed path order x i s is_open is below done = record {
-    search = passed_by (λ x. IsTable (node_of n x)) (λ x. table_pins (node_of n x)) marks passed path order x i s.search is_open is below done;
-    fit = s.fit;
-    others = s.others;
-    nodes = s.nodes;
-    begun = s.begun;
-  }
+  search = passed_by (λ x. IsTable (node_of n x)) (λ x. table_pins (node_of n x)) marks passed path order x i s.search is_open is below done;
+  fit = s.fit;
+  others = s.others;
+  nodes = s.nodes;
+  begun = s.begun;
+}
 
 pub finished_on : (n : Net) (at : ℕ) (marks : List Mark) (passed path order : List ℕ) (x : ℕ) → IsSearching n at marks passed (path ++ x ∷ []) order → length (table_pins (node_of n x)) ≤ get_or passed x 0 → IsSearching n at (set marks x Done) passed path (order ++ x ∷ [])
 finished_on n at marks passed path order x s all = record {
-    search = finished (λ x. IsTable (node_of n x)) (λ x. table_pins (node_of n x)) marks passed path order x s.search all;
-    fit = length-set marks x Done ∙ s.fit;
-    others = λ y low high. stands_cases _ order y x (s.others y low high);
-    nodes = λ k h. nodes k (push_cases order x k h);
-    begun = begun_set n at marks x Done (mark_within marks x (λ e. (cc is_open))) (λ e. (cc)) s.begun;
-  }
+  search = finished (λ x. IsTable (node_of n x)) (λ x. table_pins (node_of n x)) marks passed path order x s.search all;
+  fit = length-set marks x Done ∙ s.fit;
+  others = λ y low high. stands_cases _ order y x (s.others y low high);
+  nodes = λ k h. nodes k (push_cases order x k h);
+  begun = begun_set n at marks x Done (mark_within marks x (λ e. (cc is_open))) (λ e. (cc)) s.begun;
+}
   where
     top : get_or (path ++ x ∷ []) (length path) 0 ≡ x
     top = get_or_push path x 0 (length path) refl
@@ -91,11 +91,11 @@ finished_on n at marks passed path order x s all = record {
 -- nothing is on the path, and each net is begun: the order is whole
 pub ordered : (n : Net) (marks : List Mark) (passed order : List ℕ) → IsSearching n (net_count n) marks passed [] order → IsOrder n order
 ordered n marks passed order s = record {
-    nodes = s.nodes;
-    complete = λ x low high. complete x low high (s.others x low high);
-    once = s.search.order_once.apart;
-    after = s.search.after;
-  }
+  nodes = s.nodes;
+  complete = λ x low high. complete x low high (s.others x low high);
+  once = s.search.order_once.apart;
+  after = s.search.after;
+}
   where
     is_done : (x : ℕ) → mark_at marks x ≢ New → (m : Mark) → mark_at marks x ≡ m → mark_at marks x ≡ Done
     is_done x begun New e = absurd (begun e)

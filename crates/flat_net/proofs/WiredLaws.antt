@@ -1,14 +1,13 @@
 -- One element more whose pins are net numbers.
-use Rattle.std.proofs.Common.{◌≡◌, ℕ, zero, suc, ◌+◌, ◌-◌, ◌<◌, ◌≤◌, Bool, true, false, not, cond, if◌then◌else◌, List, [], ◌∷◌, ◌++◌, length, map, take, drop, get_or, refl, sym, ap, ◌∙◌, subst, zero-add, arith}
+use Rattle.std.proofs.Common.{◌≡◌, ℕ, ◌+◌, ◌-◌, ◌≤◌, not, if◌then◌else◌, List, [], ◌∷◌, ◌++◌, length, map, drop, refl, sym, ap, ◌∙◌, subst, zero-add, arith}
 use Rattle.std.specs.Prelude.{slice_range, count_by}
-use Rattle.std.specs.List.{flat_map, sum_by}
-use Rattle.std.proofs.lemmas.List.{length-map, length-append, map-append, append_assoc, append-nil, take-append-le, drop-append-le, length-drop, length-take}
+use Rattle.std.specs.List.{flat_map}
+use Rattle.std.proofs.lemmas.List.{length-map, length-append, map-append, append-nil, take-append-le, drop-append-le, length-drop}
 use Rattle.std.proofs.lemmas.List.Sums.{sum_by-append, count_by-le-length}
 use Rattle.std.proofs.lemmas.List.Concat.{flat_map-append}
 use Rattle.std.proofs.Math.Seq.{drop-append_seam, take-length}
 use Rattle.flat_net.specs.declared.nodes.Body.{Body}
-use Rattle.flat_net.specs.declared.nodes.Body.TheVariants.{TableBody, RegisterBody}
-use Rattle.flat_net.specs.Net.{Node, Table, Register, is_register}
+use Rattle.flat_net.specs.Net.{Node, is_register}
 use Rattle.flat_net.specs.Draft.{Element, TableOf, LatchOf, out_of, reads_of}
 use Rattle.flat_net.specs.First.{HasNone, IsFirst}
 use Rattle.flat_net.specs.Faults.{is_among, is_no_net, number_in, node_of_element}
@@ -61,15 +60,15 @@ wires_none keys = record { total = refl; cut = refl; nodes = refl; latches = ref
 pub wires_more : (keys : List (List ℕ)) (done : List Element) (e : Element) (pins ends : List ℕ) (registers : ℕ) → AreWires keys done pins ends registers → HasNone (is_no_net keys) (reads_of e) →
     AreWires keys (done ++ e ∷ []) (pins ++ map (number_in keys) (reads_of e)) (ends ++ length (pins ++ map (number_in keys) (reads_of e)) ∷ []) (registers + (if is_register (node_of_element [] e) then 1 else 0))
 wires_more keys done e pins ends registers w nets = record {
-    total = length-append pins (map (number_in keys) (reads_of e)) ∙ (omega (arith, w.total, row, reads_length));
-    cut = rw (more, map-append body_of done (e ∷ [])) (AreEnds-push 0 (map body_of done) (body_of e) ends (length pins) (length (reads_of e)) w.cut (has_pins e (length pins)));
-    nodes = rw (more', map-append body_of done (e ∷ []), map-append out_of done (e ∷ []), map-append (node_of_element keys) done (e ∷ [])) (nodes_from-push 0 (map out_of done) (out_of e) (map body_of done) (body_of e) ends pins (map (number_in keys) (reads_of e)) (length-map done out_of ∙ sym (length-map done body_of)) w.cut ∙ same);
-    latches = rw (map-append (node_of_element keys) done (e ∷ [])) (
-        ap (λ k. k + (if is_register (node_of_element [] e) then 1 else 0)) w.latches
-        ∙ (ap (λ b. count_by is_register (map (node_of_element keys) done) + (if b then 1 else 0)) (sym (register_is keys e))
-        ∙ sym (count_push (map (node_of_element keys) done) (node_of_element keys e))));
-    nets = rw (flat_map-append reads_of done (e ∷ [])) (none_append (λ name. not (is_among keys name)) (flat_map reads_of done) (reads_of e ++ []) w.nets (rw (append-nil (reads_of e)) nets));
-  }
+  total = length-append pins (map (number_in keys) (reads_of e)) ∙ (omega (arith, w.total, row, reads_length));
+  cut = rw (more, map-append body_of done (e ∷ [])) (AreEnds-push 0 (map body_of done) (body_of e) ends (length pins) (length (reads_of e)) w.cut (has_pins e (length pins)));
+  nodes = rw (more', map-append body_of done (e ∷ []), map-append out_of done (e ∷ []), map-append (node_of_element keys) done (e ∷ [])) (nodes_from-push 0 (map out_of done) (out_of e) (map body_of done) (body_of e) ends pins (map (number_in keys) (reads_of e)) (length-map done out_of ∙ sym (length-map done body_of)) w.cut ∙ same);
+  latches = rw (map-append (node_of_element keys) done (e ∷ [])) (
+      ap (λ k. k + (if is_register (node_of_element [] e) then 1 else 0)) w.latches
+      ∙ (ap (λ b. count_by is_register (map (node_of_element keys) done) + (if b then 1 else 0)) (sym (register_is keys e))
+      ∙ sym (count_push (map (node_of_element keys) done) (node_of_element keys e))));
+  nets = rw (flat_map-append reads_of done (e ∷ [])) (none_append (λ name. not (is_among keys name)) (flat_map reads_of done) (reads_of e ++ []) w.nets (rw (append-nil (reads_of e)) nets));
+}
   where
     row : length (map (number_in keys) (reads_of e)) ≡ length (reads_of e)
     row = length-map (reads_of e) (number_in keys)
@@ -90,10 +89,10 @@ wires_more keys done e pins ends registers w nets = record {
 pub room : (done rest all : List Element) (e : Element) → all ≡ done ++ e ∷ rest → length (flat_map reads_of done) + length (reads_of e) ≤ length (flat_map reads_of all)
 room done rest all e split =
     let whole : length (flat_map reads_of all) ≡ length (flat_map reads_of done) + (length (reads_of e) + length (flat_map reads_of rest)) =
-        ap (λ (es : List Element). length (flat_map reads_of es)) split
-        ∙ (ap length (flat_map-append reads_of done (e ∷ rest))
-        ∙ (length-append (flat_map reads_of done) (reads_of e ++ flat_map reads_of rest)
-        ∙ ap (λ k. length (flat_map reads_of done) + k) (length-append (reads_of e) (flat_map reads_of rest)))) in
+    ap (λ (es : List Element). length (flat_map reads_of es)) split
+    ∙ (ap length (flat_map-append reads_of done (e ∷ rest))
+    ∙ (length-append (flat_map reads_of done) (reads_of e ++ flat_map reads_of rest)
+    ∙ ap (λ k. length (flat_map reads_of done) + k) (length-append (reads_of e) (flat_map reads_of rest)))) in
     omega arith
 
 -- there are no more registers than elements

@@ -1,5 +1,5 @@
 -- Loops of tables.
-use Rattle.std.specs.Prelude.{◌≡◌, ◌≢◌, ℕ, suc, ◌-◌, ◌<◌, ◌≤◌, List, length, slice_index, Contains}
+use Rattle.std.specs.Prelude.{◌≢◌, ℕ, suc, ◌-◌, ◌<◌, ◌≤◌, List, length, slice_index, Contains}
 use Rattle.flat_net.specs.Net.{Net, node_of, table_pins}
 
 -- x is a table, and y is a pin of it

@@ -94,19 +94,31 @@ impl Draft {
     }
 
     /// Adds a table behind the other elements. After want of memory the draft is unchanged.
-    pub fn push_table(&mut self, pins: Vec<Name>, out: Name, cover: Cover) -> Result<(), OutOfMemory>
+    pub fn push_table(
+        &mut self,
+        pins: Vec<Name>,
+        out: Name,
+        cover: Cover,
+    ) -> Result<(), OutOfMemory>
         requires { length pins.items ≡ cover.width }
         ensures ok { OnOk result (self.new ≡ record self.old { elements = self.old.elements ++ TableOf pins.items out cover ∷ [] }) }
         ensures err { OnErr result (self.new ≡ self.old) }
     {
         let _out = out.bytes();
         let _width = cover.width();
-        self.elements.push(DraftElement::TableElement { pins, out, cover })?;
+        self.elements
+            .push(DraftElement::TableElement { pins, out, cover })?;
         Ok(())
     }
 
     /// Adds a latch behind the other elements. After want of memory the draft is unchanged.
-    pub fn push_latch(&mut self, pin: Name, out: Name, control: Option<(Edge, Name)>, init: bool) -> Result<(), OutOfMemory>
+    pub fn push_latch(
+        &mut self,
+        pin: Name,
+        out: Name,
+        control: Option<(Edge, Name)>,
+        init: bool,
+    ) -> Result<(), OutOfMemory>
         ensures ok { OnOk result (self.new ≡ record self.old { elements = self.old.elements ++ LatchOf pin out control init ∷ [] }) }
         ensures err { OnErr result (self.new ≡ self.old) }
     {

@@ -1,7 +1,5 @@
 //! The names of a draft's nets, each driven once.
 ghost use Rattle.std.specs.Prelude.{◌≡◌, ◌≢◌, ◌++◌, [], ◌∷◌, true, false, map, OnOk, IfOk, IfErr};
-ghost use Rattle.std.specs.Str.{bytes_eq};
-ghost use Rattle.indexmap.specs.IndexSet.{IsUnique};
 ghost use Rattle.flat_net.specs.Draft.{AreDistinct, Element, out_of};
 ghost use Rattle.flat_net.specs.DraftView.{plain_element};
 ghost use Rattle.flat_net.specs.First.{HasNone, IsFirst};
@@ -26,8 +24,7 @@ pub fn out_name(element: &DraftElement) -> &Name
 /// The names of the inputs.
 fn input_names(alloc: Global, inputs: &[Name]) -> Result<IndexSet<Name>, OutOfMemory>
     requires { AreDistinct inputs.now }
-    ensures names { IfOk result (λ names. names.keys ≡ inputs.now) }
-    ensures unique { IfOk result (λ names. IsUnique bytes_eq names) }
+    ensures { IfOk result (λ names. names.keys ≡ inputs.now) }
 {
     let mut names = IndexSet::new(alloc);
     for input in inputs {
@@ -40,7 +37,6 @@ fn input_names(alloc: Global, inputs: &[Name]) -> Result<IndexSet<Name>, OutOfMe
 fn push_out(alloc: Global, names: &mut IndexSet<Name>, out: &Name) -> Result<(), NetFault>
     ensures ok { OnOk result (names.new.keys ≡ names.old.keys ++ out.now ∷ []) }
     ensures new { OnOk result (is_among names.old.keys out.now ≡ false) }
-    ensures unique { OnOk result (IsUnique bytes_eq names.new) }
     ensures fault { IfErr result (λ fault. fault ≢ NetFault.Memory → (fault ≡ NetFault.DoubleDriven out.now) × (is_among names.old.keys out.now ≡ true)) }
 {
     match names.insert(out.copy(alloc)?) {
@@ -51,9 +47,11 @@ fn push_out(alloc: Global, names: &mut IndexSet<Name>, out: &Name) -> Result<(),
 }
 
 /// Adds the outputs of all elements.
-fn push_outs(alloc: Global, names: &mut IndexSet<Name>, elements: &[DraftElement]) -> Result<(), NetFault>
-    requires { IsUnique bytes_eq names.old }
-    ensures unique { OnOk result (IsUnique bytes_eq names.new) }
+fn push_outs(
+    alloc: Global,
+    names: &mut IndexSet<Name>,
+    elements: &[DraftElement],
+) -> Result<(), NetFault>
     ensures names { OnOk result (names.new.keys ≡ names.old.keys ++ map out_of (map plain_element elements.now)) }
     ensures once { OnOk result (HasNone (is_driven_before names.old.keys) (map plain_element elements.now)) }
     ensures fault { IfErr result (λ fault. fault ≢ NetFault.Memory → (element : Element) × IsFirst (is_driven_before names.old.keys) (map plain_element elements.now) element × (fault ≡ NetFault.DoubleDriven (out_of element))) }
@@ -71,7 +69,6 @@ fn push_outs(alloc: Global, names: &mut IndexSet<Name>, elements: &[DraftElement
 pub fn driven_names(alloc: Global, draft: &Draft) -> Result<IndexSet<Name>, NetFault>
     requires { AreDistinct draft.now.inputs }
     ensures names { IfOk result (λ names. names.keys ≡ draft.now.inputs ++ map out_of draft.now.elements) }
-    ensures unique { IfOk result (λ names. IsUnique bytes_eq names) }
     ensures once { OnOk result (IsDrivenOnce draft.now) }
     ensures fault { IfErr result (λ fault. IsFaultOf draft.now fault) }
 {

@@ -1,10 +1,11 @@
 //! Flat designs: inputs, tables and registers by number, with their names.
 //!
 //! The layers above may rely on this: a `FlatNet` is a record of lists (model, inputs, nodes, outputs,
-//! clock) that is valid, and beside it an order in which its nodes can be evaluated.
+//! clock) that is valid, and beside it an order in which its nodes can be evaluated. It is built from a
+//! `Draft`, which has the same by name; where the draft is no design, its first fault is named.
 #![tactic(auto)]
 
-mod build;
+mod building;
 mod clocking;
 mod draft;
 mod driving;
@@ -16,6 +17,7 @@ mod order;
 mod wires;
 mod wiring;
 
+pub use building::build;
 pub use draft::Draft;
 pub use fault::NetFault;
 pub use kind::Kind;

@@ -7,8 +7,8 @@ ghost use Rattle.flat_net.specs.Found.{IsFound};
 ghost use Rattle.flat_net.specs.Turned.{IsTurned, IsLast};
 
 use crate::wiring::Wiring;
-use tmr_base::NetId;
 use std::alloc::{AllocError, Global};
+use tmr_base::NetId;
 
 /// What the search knows of a net.
 #[derive(Clone, Copy, Debug, PartialEq, Eq, Drop)]
@@ -103,7 +103,11 @@ fn next_read(wiring: &Wiring, passed: &[u32], top: NetId) -> Option<NetId>
 {
     let pins = wiring.table_pins(top);
     let next = passed[top.0 as usize] as usize;
-    if next < pins.len() { Some(pins[next]) } else { None }
+    if next < pins.len() {
+        Some(pins[next])
+    } else {
+        None
+    }
 }
 
 /// The first place of y.
@@ -161,7 +165,11 @@ fn first_mark(wiring: &Wiring, x: NetId) -> Mark
     ensures tables { IsTable (node_of wiring.now x.0) → result ≡ Mark.New }
     ensures others { ¬ IsTable (node_of wiring.now x.0) → result ≡ Mark.Done }
 {
-    if wiring.is_table(x) { Mark::New } else { Mark::Done }
+    if wiring.is_table(x) {
+        Mark::New
+    } else {
+        Mark::Done
+    }
 }
 
 /// A mark for each net: each table is new, and what is no table is done.

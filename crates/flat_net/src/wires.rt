@@ -26,7 +26,12 @@ pub struct Wires {
 }
 
 /// Adds the number of the net with this name.
-fn push_pin(alloc: Global, names: &IndexSet<Name>, pin: &Name, pins: &mut Vec<NetId>) -> Result<(), NetFault>
+fn push_pin(
+    alloc: Global,
+    names: &IndexSet<Name>,
+    pin: &Name,
+    pins: &mut Vec<NetId>,
+) -> Result<(), NetFault>
     requires { length names.now.keys < 4294967295 }
     ensures ok { OnOk result (map number_of pins.new.items ≡ map number_of pins.old.items ++ number_in names.now.keys pin.now ∷ []) }
     ensures net { OnOk result (is_among names.now.keys pin.now ≡ true) }
@@ -42,7 +47,12 @@ fn push_pin(alloc: Global, names: &IndexSet<Name>, pin: &Name, pins: &mut Vec<Ne
 }
 
 /// Adds the numbers of the nets with these names. `Undriven` names the first that is no net.
-pub fn push_pins(alloc: Global, names: &IndexSet<Name>, reads: &[Name], pins: &mut Vec<NetId>) -> Result<(), NetFault>
+pub fn push_pins(
+    alloc: Global,
+    names: &IndexSet<Name>,
+    reads: &[Name],
+    pins: &mut Vec<NetId>,
+) -> Result<(), NetFault>
     requires { length names.now.keys < 4294967295 }
     ensures ok { OnOk result (map number_of pins.new.items ≡ map number_of pins.old.items ++ map (number_in names.now.keys) reads.now) }
     ensures nets { OnOk result (HasNone (is_no_net names.now.keys) reads.now) }
@@ -57,7 +67,12 @@ pub fn push_pins(alloc: Global, names: &IndexSet<Name>, reads: &[Name], pins: &m
 }
 
 /// Adds the pins of an element.
-fn push_reads(alloc: Global, names: &IndexSet<Name>, element: &DraftElement, pins: &mut Vec<NetId>) -> Result<(), NetFault>
+fn push_reads(
+    alloc: Global,
+    names: &IndexSet<Name>,
+    element: &DraftElement,
+    pins: &mut Vec<NetId>,
+) -> Result<(), NetFault>
     requires { length names.now.keys < 4294967295 }
     ensures ok { OnOk result (map number_of pins.new.items ≡ map number_of pins.old.items ++ map (number_in names.now.keys) (reads_of (plain_element element.now))) }
     ensures nets { OnOk result (HasNone (is_no_net names.now.keys) (reads_of (plain_element element.now))) }
@@ -83,7 +98,12 @@ fn latches_in(element: &DraftElement) -> u32
 }
 
 /// Adds the pins of an element, and where they end.
-fn push_element(alloc: Global, names: &IndexSet<Name>, element: &DraftElement, wires: &mut Wires) -> Result<(), NetFault>
+fn push_element(
+    alloc: Global,
+    names: &IndexSet<Name>,
+    element: &DraftElement,
+    wires: &mut Wires,
+) -> Result<(), NetFault>
     requires names { length names.now.keys < 4294967295 }
     requires pins { length wires.old.pins.items + length (reads_of (plain_element element.now)) < 4294967295 }
     requires registers { wires.old.registers < 4294967295 }
@@ -117,11 +137,18 @@ fn body_from(element: DraftElement) -> Body
 pub fn bodies_from(alloc: Global, elements: Vec<DraftElement>) -> Result<Vec<Body>, AllocError>
     ensures { IfOk result (λ bodies. bodies.items ≡ map (λ element. body_of (plain_element element)) elements.items) }
 {
-    elements.into_iter().map(|element| body_from(element)).collect(alloc)
+    elements
+        .into_iter()
+        .map(|element| body_from(element))
+        .collect(alloc)
 }
 
 /// The pins of all elements by number. `Undriven` names the first that is no net.
-pub fn wire(alloc: Global, names: &IndexSet<Name>, elements: &[DraftElement]) -> Result<Wires, NetFault>
+pub fn wire(
+    alloc: Global,
+    names: &IndexSet<Name>,
+    elements: &[DraftElement],
+) -> Result<Wires, NetFault>
     requires names { length names.now.keys < 4294967295 }
     requires pins { length (flat_map reads_of (map plain_element elements.now)) < 4294967295 }
     requires registers { length elements.now < 4294967295 }

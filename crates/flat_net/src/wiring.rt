@@ -43,7 +43,14 @@ impl Wiring {
     ghost use Rattle.flat_net.specs.View.{net_of, IsWiring};
 
     /// A packed design.
-    pub fn new(model: Name, names: IndexSet<Name>, inputs: u32, nodes: PackedNodes, outputs: Vec<NetId>, clock: Option<(Edge, Name)>) -> Wiring
+    pub fn new(
+        model: Name,
+        names: IndexSet<Name>,
+        inputs: u32,
+        nodes: PackedNodes,
+        outputs: Vec<NetId>,
+        clock: Option<(Edge, Name)>,
+    ) -> Wiring
         requires { IsWiring (record { model = model; names = names; inputs = inputs; nodes = nodes; outputs = outputs; clock = clock }) }
         ensures { result ≡ net_of (record { model = model; names = names; inputs = inputs; nodes = nodes; outputs = outputs; clock = clock }) }
     {
@@ -132,7 +139,11 @@ impl Wiring {
         requires node { length self.now.inputs ≤ x.0 }
         ensures { map number_of result.now ≡ pins_at (node_of self.now x.0) }
     {
-        part_at(&self.nodes.ends, &self.nodes.pins, (x.0 - self.inputs) as usize)
+        part_at(
+            &self.nodes.ends,
+            &self.nodes.pins,
+            (x.0 - self.inputs) as usize,
+        )
     }
 
     /// Whether node x is a table.

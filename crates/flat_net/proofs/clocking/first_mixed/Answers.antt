@@ -1,4 +1,4 @@
-use Rattle.std.proofs.Common.{◌≡◌, ◌+◌, ◌∷◌, [], ap, sym, ◌∙◌, map, take, drop}
+use Rattle.std.proofs.Common.{◌+◌, ap, sym, ◌∙◌, map, take, drop}
 use Rattle.flat_net.specs.DraftView.{plain_element}
 use Rattle.flat_net.specs.Faults.{first_control, is_mixed}
 use Rattle.flat_net.proofs.Firsts.{none_nil, none_push, first_here}

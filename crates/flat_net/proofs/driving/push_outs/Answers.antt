@@ -1,20 +1,18 @@
-use Rattle.std.proofs.Common.{◌≡◌, ◌+◌, ◌++◌, [], ◌∷◌, map, take, drop, sym, refl, rules, ◌∙◌}
+use Rattle.std.proofs.Common.{sym}
 use Rattle.std.proofs.lemmas.List.{append-nil}
-use Rattle.flat_net.specs.Draft.{out_of}
 use Rattle.flat_net.specs.DraftView.{plain_element}
-use Rattle.flat_net.specs.Faults.{is_driven_before, is_among}
+use Rattle.flat_net.specs.Faults.{is_driven_before}
 use Rattle.flat_net.proofs.Firsts.{none_nil}
 use Rattle.flat_net.proofs.Going.{one_more, split_here, pushed_names, pushed_once, doubled}
 use Rattle.flat_net.proofs.driving.push_outs.Goals as goal
 
 pub loop-element-init : goal.loop-element-init
-loop-element-init c = record { unique = c.requires; names = sym (append-nil c.args.names.now.keys); once = none_nil (is_driven_before c.args.names.now.keys) }
+loop-element-init c = record { names = sym (append-nil c.args.names.now.keys); once = none_nil (is_driven_before c.args.names.now.keys) }
 
 pub loop-element-preserved : goal.loop-element-preserved
 loop-element-preserved c =
     let next = one_more plain_element c.args.elements.now c.loop-element.element-index c.element-item.result c.loop-element-test.true c.element-item.is in
     record {
-      unique = c.in_default.ensures.unique;
       names = pushed_names c.args.names.now.keys c.loop-element.names.keys _ (plain_element c.element-item.result) c.loop-element.invariant.names c.push_out.new.names.keys _ (rw c.out_name.ensures at c.in_default.ensures.ok) next;
       once = pushed_once c.args.names.now.keys c.loop-element.names.keys _ (plain_element c.element-item.result) c.loop-element.invariant.names _ c.loop-element.invariant.once (rw c.out_name.ensures at c.in_default.ensures.new) next;
     }

@@ -3,13 +3,10 @@ use Rattle.flat_net.specs.Draft.{out_of}
 use Rattle.flat_net.specs.DraftView.{plain_element}
 use Rattle.flat_net.specs.First.{HasNone}
 use Rattle.flat_net.specs.Faults.{is_driven_before}
-use Rattle.std.specs.Str.{bytes_eq}
-use Rattle.indexmap.specs.IndexSet.{IsUnique}
 use Rattle.flat_net.proofs.driving.push_outs.Given as goal
 
 abbrev pub invariant-loop-element : goal.invariant-loop-element
 invariant-loop-element l = record {
-  unique : IsUnique bytes_eq l.names;
   names : l.names.keys ≡ l.initial.names.keys ++ map out_of (map plain_element (take l.element-index l.elements));
   once : HasNone (is_driven_before l.initial.names.keys) (map plain_element (take l.element-index l.elements));
 }

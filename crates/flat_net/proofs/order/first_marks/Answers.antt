@@ -2,7 +2,7 @@ use Rattle.std.proofs.Common.{◌≡◌, length, rules, arith}
 use Rattle.std.specs.Prelude.{replicate}
 use Rattle.flat_net.specs.declared.order.Mark.TheVariants.{Done}
 use Rattle.flat_net.specs.Net.{net_count}
-use Rattle.flat_net.proofs.Beginning.{AreFirst, first_none, first_all}
+use Rattle.flat_net.proofs.Beginning.{first_none, first_all}
 use Rattle.flat_net.proofs.order.first_marks.Goals as goal
 
 pub loop-x-init : goal.loop-x-init
@@ -12,6 +12,6 @@ loop-x-init c =
     rw (count, marks) (first_none c.args.wiring.now)
 
 pub returns-clause-tables : goal.returns-clause-tables
-returns-clause-tables c = 
+returns-clause-tables c =
     let all : c.loop-x.x ≡ net_count c.args.wiring.now = omega arith in
     first_all c.args.wiring.now _ (rw all at c.loop-x.invariant)

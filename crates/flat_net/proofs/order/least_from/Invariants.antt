@@ -1,4 +1,4 @@
-use Rattle.std.proofs.Common.{◌≡◌, ◌≢◌, ℕ, ◌<◌, ◌≤◌, length, map, get_or}
+use Rattle.std.proofs.Common.{ℕ, ◌<◌, ◌≤◌, length, map, get_or}
 use Rattle.flat_net.specs.Nodes.{number_of}
 use Rattle.flat_net.proofs.order.least_from.Given as goal
 

@@ -1,21 +1,21 @@
-use Rattle.std.proofs.Common.{◌≡◌, ◌≢◌, ◌<◌, ◌+◌, [], map, length, get_or, rules, arith, ◌∙◌, ap, sym, refl}
+use Rattle.std.proofs.Common.{◌≡◌, ◌<◌, [], map, length, get_or, rules, arith, ap, refl}
 use Rattle.flat_net.specs.Nodes.{number_of}
-use Rattle.flat_net.specs.Net.{net_count, node_of, table_pins}
+use Rattle.flat_net.specs.Net.{node_of, table_pins}
 use Rattle.flat_net.specs.Turned.{IsLast, IsTurned}
-use Rattle.flat_net.specs.declared.order.Mark.TheVariants.{New, Open, Done}
+use Rattle.flat_net.specs.declared.order.Mark.TheVariants.{New, Done}
 use Rattle.flat_net.proofs.Searching.{mark_at}
-use Rattle.flat_net.proofs.Tables.{IsSearching, work, few_reads}
-use Rattle.flat_net.proofs.Steps.{top_open, top_table, open_within, open_passed, root_opened, opens, read_next, passes, finishes, loops, opens_less, passes_less, finishes_less, ends, begins}
+use Rattle.flat_net.proofs.Tables.{work, few_reads}
+use Rattle.flat_net.proofs.Steps.{top_open, open_passed, root_opened, opens, read_next, passes, finishes, loops, opens_less, passes_less, finishes_less, ends, begins}
 use Rattle.flat_net.proofs.order.order_tables.Goals as goal
 
 pub moves-init : goal.moves-init
 moves-init c = record {
-    searching = rw at (begins c.args.wiring.now c.in_ok-search.search.marks.items c.in_ok-search.search.passed.items (map number_of c.in_ok-search.search.path.items) (map number_of c.in_ok-search.search.order.items) c.in_ok-search.ensures.marks c.in_ok-search.ensures.tables c.in_ok-search.ensures.others c.in_ok-search.ensures.passed (ap (map number_of) c.in_ok-search.ensures.path) c.in_ok-search.ensures.nodes c.in_ok-search.ensures.no_tables c.in_ok-search.ensures.ascending c.in_ok-search.ensures.all);
-    low = omega arith;
-    high = omega arith;
-    count = c.net_count-count.ensures.count;
-    wired = c.net_count-count.ensures.net;
-  }
+  searching = rw at (begins c.args.wiring.now c.in_ok-search.search.marks.items c.in_ok-search.search.passed.items (map number_of c.in_ok-search.search.path.items) (map number_of c.in_ok-search.search.order.items) c.in_ok-search.ensures.marks c.in_ok-search.ensures.tables c.in_ok-search.ensures.others c.in_ok-search.ensures.passed (ap (map number_of) c.in_ok-search.ensures.path) c.in_ok-search.ensures.nodes c.in_ok-search.ensures.no_tables c.in_ok-search.ensures.ascending c.in_ok-search.ensures.all);
+  low = omega arith;
+  high = omega arith;
+  count = c.net_count-count.ensures.count;
+  wired = c.net_count-count.ensures.net;
+}
   where
     at : c.input_count-at.result ≡ length c.args.wiring.now.inputs
     at = c.input_count-at.ensures.count
@@ -56,12 +56,12 @@ moves-smaller-in_default-next_read c =
 
 pub moves-preserved-in_default-next_read : goal.moves-preserved-in_default-next_read
 moves-preserved-in_default-next_read c = record {
-    searching = finishes c.args.wiring.now c.moves.at _ _ _ _ c.moves.invariant.searching _ _ _ _ c.in-Some.top.0 (search rules) c.in_ok-finish.ensures.marks c.in_ok-finish.ensures.passed c.in_ok-finish.ensures.path c.in_ok-finish.ensures.order;
-    low = c.moves.invariant.low;
-    high = c.moves.invariant.high;
-    count = c.moves.invariant.count;
-    wired = c.moves.invariant.wired;
-  }
+  searching = finishes c.args.wiring.now c.moves.at _ _ _ _ c.moves.invariant.searching _ _ _ _ c.in-Some.top.0 (search rules) c.in_ok-finish.ensures.marks c.in_ok-finish.ensures.passed c.in_ok-finish.ensures.path c.in_ok-finish.ensures.order;
+  low = c.moves.invariant.low;
+  high = c.moves.invariant.high;
+  count = c.moves.invariant.count;
+  wired = c.moves.invariant.wired;
+}
 
 -- the next pin is new
 pub moves-smaller-in_ok-open-in-New : goal.moves-smaller-in_ok-open-in-New

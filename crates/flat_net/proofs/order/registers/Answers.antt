@@ -1,7 +1,7 @@
-use Rattle.std.proofs.Common.{◌≡◌, ◌++◌, [], ◌∷◌, length, map, rules, arith, ap, ◌∙◌}
+use Rattle.std.proofs.Common.{◌≡◌, ◌++◌, [], ◌∷◌, map, rules, ap, ◌∙◌}
 use Rattle.std.proofs.lemmas.List.{map_push}
 use Rattle.flat_net.specs.Nodes.{number_of}
-use Rattle.flat_net.proofs.Beginning.{AreRegisters, registers_more}
+use Rattle.flat_net.proofs.Beginning.{registers_more}
 use Rattle.flat_net.proofs.order.registers.Goals as goal
 
 pub loop-x-preserved : goal.loop-x-preserved

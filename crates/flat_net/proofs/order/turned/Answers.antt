@@ -1,4 +1,4 @@
-use Rattle.std.proofs.Common.{◌≡◌, ◌++◌, arith, ap, ◌∙◌, drop, length, map}
+use Rattle.std.proofs.Common.{◌≡◌, ◌++◌, arith, ap, ◌∙◌, drop, map}
 use Rattle.std.proofs.lemmas.List.{length-map}
 use Rattle.std.specs.Prelude.{slice_range}
 use Rattle.std.proofs.lemmas.Grind.{common_steps}

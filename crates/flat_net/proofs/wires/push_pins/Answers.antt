@@ -11,9 +11,9 @@ loop-read-init c = record { pins = sym (append-nil (map number_of c.args.pins.no
 
 pub loop-read-preserved : goal.loop-read-preserved
 loop-read-preserved c = record {
-    pins = pushed_pins c.args.names.now.keys c.args.reads.now c.loop-read.read-index c.read-item.result c.loop-read-test.true c.read-item.is (map number_of c.args.pins.now.items) (map number_of c.loop-read.pins.items) (map number_of c.push_pin.new.pins.items) c.loop-read.invariant.pins c.in_default.ensures.ok;
-    nets = pushed_nets c.args.names.now.keys c.args.reads.now c.loop-read.read-index c.read-item.result c.loop-read-test.true c.read-item.is c.loop-read.invariant.nets c.in_default.ensures.net;
-  }
+  pins = pushed_pins c.args.names.now.keys c.args.reads.now c.loop-read.read-index c.read-item.result c.loop-read-test.true c.read-item.is (map number_of c.args.pins.now.items) (map number_of c.loop-read.pins.items) (map number_of c.push_pin.new.pins.items) c.loop-read.invariant.pins c.in_default.ensures.ok;
+  nets = pushed_nets c.args.names.now.keys c.args.reads.now c.loop-read.read-index c.read-item.result c.loop-read-test.true c.read-item.is c.loop-read.invariant.nets c.in_default.ensures.net;
+}
 
 pub returns-in-Err-clause-fault : goal.returns-in-Err-clause-fault
 returns-in-Err-clause-fault c = λ other.

@@ -5,7 +5,6 @@ use Rattle.flat_net.specs.Nodes.{number_of}
 use Rattle.flat_net.specs.Draft.{reads_of}
 use Rattle.flat_net.specs.DraftView.{plain_element}
 use Rattle.flat_net.specs.Faults.{number_in}
-use Rattle.flat_net.specs.Wired.{AreWires}
 use Rattle.flat_net.proofs.Going.{one_more, split_here}
 use Rattle.flat_net.proofs.WiredLaws.{wires_none, wires_more, room, first_of_all}
 use Rattle.flat_net.proofs.wires.wire.Goals as goal
@@ -26,7 +25,7 @@ loop-element-preserved c =
     let next = one_more plain_element c.args.elements.now c.loop-element.element-index c.element-item.result c.loop-element-test.true c.element-item.is in
     let pins : map number_of c.push_element.new.wires.pins.items ≡ map number_of c.loop-element.wires.pins.items ++ map (number_in c.args.names.now.keys) (reads_of (plain_element c.element-item.result)) = c.in_default.ensures.pins in
     let ends : c.push_element.new.wires.ends.items ≡ c.loop-element.wires.ends.items ++ length (map number_of c.loop-element.wires.pins.items ++ map (number_in c.args.names.now.keys) (reads_of (plain_element c.element-item.result))) ∷ [] =
-        c.in_default.ensures.ends ∙ ap (λ n. c.loop-element.wires.ends.items ++ n ∷ []) (sym (length-map c.push_element.new.wires.pins.items number_of) ∙ ap length pins) in
+    c.in_default.ensures.ends ∙ ap (λ n. c.loop-element.wires.ends.items ++ n ∷ []) (sym (length-map c.push_element.new.wires.pins.items number_of) ∙ ap length pins) in
     rw (next, pins, ends, c.in_default.ensures.registers) (wires_more c.args.names.now.keys (map plain_element (take c.loop-element.element-index c.args.elements.now)) (plain_element c.element-item.result) (map number_of c.loop-element.wires.pins.items) c.loop-element.wires.ends.items c.loop-element.wires.registers c.loop-element.invariant c.in_default.ensures.nets)
 
 pub returns-in-Err-clause-fault : goal.returns-in-Err-clause-fault

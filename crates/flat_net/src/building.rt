@@ -1,7 +1,7 @@
 //! The design of a draft.
 ghost use Rattle.std.specs.Prelude.{◌≡◌, ◌≢◌, ℕ, ◌+◌, ◌<◌, ◌++◌, List, true, map, length, slice_index, MatchOption, OnOk, IfOk, IfErr};
 ghost use Rattle.std.specs.Str.{bytes_eq};
-ghost use Rattle.indexmap.specs.IndexSet.{IsUnique, remove_key};
+ghost use Rattle.indexmap.specs.IndexSet.{remove_key};
 ghost use Rattle.flat_net.specs.Net.{Design, IsDesign, IsOrder, name_of, net_count};
 ghost use Rattle.flat_net.specs.Nodes.{number_of};
 ghost use Rattle.flat_net.specs.Draft.{AreDistinct, out_of};
@@ -23,7 +23,10 @@ use std::alloc::Global;
 use tmr_base::{Edge, Name, NetId, OutOfMemory};
 
 /// The control of the first latch, once more.
-fn copied_clock(alloc: Global, elements: &[DraftElement]) -> Result<Option<(Edge, Name)>, OutOfMemory>
+fn copied_clock(
+    alloc: Global,
+    elements: &[DraftElement],
+) -> Result<Option<(Edge, Name)>, OutOfMemory>
     ensures { IfOk result (λ clock. clock ≡ clock_from (first_control (map plain_element elements.now))) }
 {
     match first_latch(elements) {
@@ -35,9 +38,7 @@ fn copied_clock(alloc: Global, elements: &[DraftElement]) -> Result<Option<(Edge
 
 /// The names without the clock's.
 fn without_clock(names: IndexSet<Name>, clock: &Option<(Edge, Name)>) -> IndexSet<Name>
-    requires { IsUnique bytes_eq names }
-    ensures names { MatchOption clock.now (result.keys ≡ names.keys) (λ c. result.keys ≡ remove_key (bytes_eq c.1) names.keys) }
-    ensures unique { IsUnique bytes_eq result }
+    ensures { MatchOption clock.now (result.keys ≡ names.keys) (λ c. result.keys ≡ remove_key (bytes_eq c.1) names.keys) }
 {
     let mut names = names;
     match clock {
@@ -52,18 +53,20 @@ fn without_clock(names: IndexSet<Name>, clock: &Option<(Edge, Name)>) -> IndexSe
 /// The names of the nets of a draft, which are those of its inputs but for the clock, and then of its elements' outputs.
 fn net_names(names: IndexSet<Name>, draft: &Draft, clock: &Option<(Edge, Name)>) -> IndexSet<Name>
     requires names { names.keys ≡ draft.now.inputs ++ map out_of draft.now.elements }
-    requires unique { IsUnique bytes_eq names }
     requires inputs { AreDistinct draft.now.inputs }
     requires clean { HasCleanClock draft.now }
     requires clock { clock.now ≡ clock_of draft.now }
-    ensures names { result.keys ≡ draft_names draft.now }
-    ensures unique { IsUnique bytes_eq result }
+    ensures { result.keys ≡ draft_names draft.now }
 {
     without_clock(names, clock)
 }
 
 /// The pins and the outputs of a draft by number. `Undriven` comes exactly where one of them is no net.
-fn numbered(alloc: Global, names: &IndexSet<Name>, draft: &Draft) -> Result<(Wires, Vec<NetId>), NetFault>
+fn numbered(
+    alloc: Global,
+    names: &IndexSet<Name>,
+    draft: &Draft,
+) -> Result<(Wires, Vec<NetId>), NetFault>
     requires names { names.now.keys ≡ draft_names draft.now }
     requires nets { length draft.now.inputs + length draft.now.elements < 4294967295 }
     requires pins { length (draft_reads draft.now) < 4294967295 }
@@ -87,9 +90,15 @@ fn numbered(alloc: Global, names: &IndexSet<Name>, draft: &Draft) -> Result<(Wir
 }
 
 /// The packed design.
-fn packed(alloc: Global, names: IndexSet<Name>, clock: Option<(Edge, Name)>, wires: Wires, outputs: Vec<NetId>, draft: Draft) -> Result<Wiring, OutOfMemory>
+fn packed(
+    alloc: Global,
+    names: IndexSet<Name>,
+    clock: Option<(Edge, Name)>,
+    wires: Wires,
+    outputs: Vec<NetId>,
+    draft: Draft,
+) -> Result<Wiring, OutOfMemory>
     requires names { names.keys ≡ draft_names draft }
-    requires unique { IsUnique bytes_eq names }
     requires clock { clock ≡ clock_of draft }
     requires wires { AreWires names.keys draft.elements (map number_of wires.pins.items) wires.ends.items wires.registers }
     requires numbers { map number_of outputs.items ≡ map (number_in names.keys) draft.outputs }
@@ -181,5 +190,8 @@ pub fn build(alloc: Global, draft: Draft) -> Result<FlatNet, NetFault>
         Err(fault) => return Err(fault),
     };
     let wiring = packed(alloc, names, clock, wires, outputs, draft)?;
-    ordered(alloc, wiring)
+    match ordered(alloc, wiring) {
+        Ok(net) => Ok(net),
+        Err(fault) => Err(fault),
+    }
 }

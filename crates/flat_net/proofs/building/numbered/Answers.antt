@@ -2,11 +2,11 @@ use Rattle.std.proofs.Common.{◌≡◌, ◌≢◌, ℕ, List, not, rules, subst
 use Rattle.flat_net.specs.Draft.{PlainDraft}
 use Rattle.flat_net.specs.First.{HasNone, IsFirst}
 use Rattle.flat_net.specs.declared.fault.NetFault.TheVariants.{Memory, Undriven}
-use Rattle.flat_net.specs.Faults.{is_among, is_no_net, draft_names, draft_reads}
+use Rattle.flat_net.specs.Faults.{is_among, is_no_net, draft_reads}
 use Rattle.flat_net.proofs.Firsts.{none_append}
 use Rattle.flat_net.proofs.Sound.{names_few}
 use Rattle.flat_net.proofs.Causes.{undriven_fault, undriven_output}
-use Rattle.flat_net.proofs.build.numbered.Goals as goal
+use Rattle.flat_net.proofs.building.numbered.Goals as goal
 
 pub wire-requires-clause-names : goal.wire-requires-clause-names
 wire-requires-clause-names c = rw c.requires.names (names_few c.args.draft.now c.requires.nets)

@@ -1,20 +1,13 @@
-use Rattle.std.proofs.Common.{◌≡◌, ◌<◌, ◌+◌, ◌-◌, List, ℕ, length, map, subst, ap, sym, ◌∙◌, arith, rules}
-use Rattle.std.specs.List.{IsDistinct}
-use Rattle.std.specs.Str.{bytes_eq}
+use Rattle.std.proofs.Common.{◌≡◌, ◌-◌, length, map, subst, ap, ◌∙◌, arith}
 use Rattle.std.proofs.lemmas.List.{length-append, length-map}
-use Rattle.flat_net.specs.Nodes.{number_of}
-use Rattle.flat_net.specs.Net.{Net}
 use Rattle.flat_net.specs.Unordered.{IsUnordered}
 use Rattle.flat_net.specs.Draft.{PlainDraft, IsDraft, out_of}
 use Rattle.flat_net.specs.DraftView.{plain_element}
-use Rattle.flat_net.specs.Faults.{draft_names, net_inputs, number_in, net_of_draft}
+use Rattle.flat_net.specs.Faults.{draft_names, net_inputs, net_of_draft}
 use Rattle.flat_net.specs.Packed.{body_of}
-use Rattle.flat_net.specs.Wired.{AreWires}
-use Rattle.flat_net.specs.View.{net_of}
-use Rattle.flat_net.specs.declared.wiring.Wiring.TheInside.{Inside}
 use Rattle.flat_net.proofs.Sound.{unordered, names_few}
 use Rattle.flat_net.proofs.Packing.{IsPackedFrom, net_packed, wiring_packed, bodies_map}
-use Rattle.flat_net.proofs.build.packed.Goals as goal
+use Rattle.flat_net.proofs.building.packed.Goals as goal
 
 pub overflow_cast-inputs : goal.overflow_cast-inputs
 overflow_cast-inputs c =
@@ -31,7 +24,7 @@ new-requires c = wiring_packed c.args.draft _ parts valid
     elements = ap (λ (d : PlainDraft). d.elements) c.draft.view_is
 
     valid : IsUnordered (net_of_draft c.args.draft)
-    valid = unordered c.args.draft is c.requires.nets c.requires.pins c.requires.outputs (rw c.requires.names at c.requires.unique) c.requires.once c.requires.clean c.requires.driven
+    valid = unordered c.args.draft is c.requires.nets c.requires.pins c.requires.outputs (rw c.requires.names at c.len.ensures.unique) c.requires.once c.requires.clean c.requires.driven
 
     parts : IsPackedFrom c.args.draft (record { model = c.draft.inside.model; names = c.args.names; inputs = c.len.result - c.len-2.result; nodes = record { bodies = c.in_ok-bodies.bodies; ends = c.args.wires.ends; pins = c.args.wires.pins; registers = c.args.wires.registers }; outputs = c.args.outputs; clock = c.args.clock })
     parts = record {
