@@ -1,2 +1,12 @@
 pub mod PlainWords
 pub mod LoadLaws
+pub mod TextLaws
+pub mod VerdictLaws
+pub mod RunLaws
+pub mod DesignLaws
+pub mod ReadLaws
+pub mod RunClauses
+pub mod DraftLaws
+pub mod CountLaws
+pub mod NetLaws
+pub mod FaultLaws

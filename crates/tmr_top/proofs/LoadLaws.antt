@@ -1,8 +1,8 @@
 -- Loads, one after the other.
-use Rattle.std.proofs.Common.{◌≡◌, ◌≢◌, ℕ, ◌<◌, ◌≤◌, Bool, true, false, List, Option, Some, None, refl, sym, ap, subst, ◌∙◌, min, ◌+◌, ◌-◌, ◌^◌, arith}
+use Rattle.std.proofs.Common.{◌≡◌, ℕ, ◌≤◌, Bool, true, false, List, Option, Some, None, refl, sym, ap, ◌∙◌, arith}
 use Rattle.std.specs.Str.{bytes_eq}
 use Rattle.std.proofs.lemmas.Slice.Eq.{bytes_eq-Decides}
-use Rattle.tmr_outside.specs.Counts.{Rose, RoseOf, NoneFell, NoneRose, OthersStay}
+use Rattle.tmr_outside.specs.Counts.{RoseOf, NoneRose, OthersStay}
 
 -- where no other count rose, nor this one, none did
 pub none_rose : (name : List ℕ) (before now : List ℕ → ℕ) → OthersStay name before now → now name ≡ before name → NoneRose before now

@@ -4,3 +4,11 @@ pub mod FileWords
 pub mod Steps
 pub mod Loads
 pub mod FileBytes
+pub mod Texts
+pub mod Reasons
+pub mod Designs
+pub mod Unread
+pub mod Verdicts
+pub mod Runs
+pub mod OneModel
+pub mod OwnElements

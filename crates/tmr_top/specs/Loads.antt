@@ -1,5 +1,5 @@
 -- Three files that are loaded one after the other.
-use Rattle.std.specs.Prelude.{◌≡◌, ℕ, ◌≤◌, ◌⊎◌, List, length, Option, Some, None, IsSome}
+use Rattle.std.specs.Prelude.{◌≡◌, ℕ, ◌≤◌, List, length, Option, Some, None, IsSome}
 use Rattle.std.specs.FinMap.{get}
 use Rattle.tmr_outside.specs.Contents.{Contents, IsTooLong}
 use Rattle.tmr_outside.specs.Counts.{RoseOf}

@@ -1,0 +1,35 @@
+use Rattle.tmr_top.proofs.RunClauses.{usage, usage_only, fault, refused, refused_only, not_accepted, not_accepted_only, done, complete, missing_only, masks}
+use Rattle.tmr_top.proofs.program.run.Goals as goal
+
+pub returns-clause-masks : goal.returns-clause-masks
+returns-clause-masks g c = masks _ _ _ _ _ _ _ _ _ c.perform.ensures.printed
+
+pub returns-clause-usage : goal.returns-clause-usage
+returns-clause-usage g c = usage _ _ _ _ _ _ _ _ _ c.perform.ensures.printed
+
+pub returns-clause-usage_only : goal.returns-clause-usage_only
+returns-clause-usage_only g c = usage_only _ _ _ _ _ _ _ _ _ c.perform.ensures.printed
+
+pub returns-clause-fault : goal.returns-clause-fault
+returns-clause-fault g c = fault _ _ _ _ _ _ _ _ _ c.perform.ensures.printed
+
+pub returns-clause-missing_only : goal.returns-clause-missing_only
+returns-clause-missing_only g c = missing_only _ _ _ _ _ _ _ _ _ c.perform.ensures.printed
+
+pub returns-clause-refused : goal.returns-clause-refused
+returns-clause-refused g c = refused _ _ _ _ _ _ _ _ _ c.perform.ensures.printed c.perform.ensures.unfailed
+
+pub returns-clause-refused_only : goal.returns-clause-refused_only
+returns-clause-refused_only g c = refused_only _ _ _ _ _ _ _ _ _ c.perform.ensures.printed
+
+pub returns-clause-not_accepted : goal.returns-clause-not_accepted
+returns-clause-not_accepted g c = not_accepted _ _ _ _ _ _ _ _ _ c.perform.ensures.printed c.perform.ensures.unfailed
+
+pub returns-clause-not_accepted_only : goal.returns-clause-not_accepted_only
+returns-clause-not_accepted_only g c = not_accepted_only _ _ _ _ _ _ _ _ _ c.perform.ensures.printed
+
+pub returns-clause-done : goal.returns-clause-done
+returns-clause-done g c = done _ _ _ _ _ _ _ _ _ c.perform.ensures.printed c.perform.ensures.unfailed
+
+pub returns-clause-complete : goal.returns-clause-complete
+returns-clause-complete g c = complete _ _ _ _ _ _ _ _ _ c.perform.ensures.printed

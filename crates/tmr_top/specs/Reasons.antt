@@ -1,0 +1,50 @@
+-- What is printed of why a file is refused.
+use Rattle.std.specs.Prelude.{ℕ, List, [], ◌∷◌, ◌++◌, codes}
+use Rattle.flat_net.specs.declared.fault.NetFault.{NetFault}
+use Rattle.flat_net.specs.declared.fault.NetFault.TheVariants as net
+use Rattle.blif_text.specs.declared.fault.TextKind.{TextKind}
+use Rattle.blif_text.specs.declared.fault.TextKind.TheVariants as kind
+use Rattle.certificate.specs.declared.fault.CertFault.{CertFault}
+use Rattle.certificate.specs.declared.fault.CertFault.TheVariants as fault
+use Rattle.blif_text.specs.Kind.{Bad}
+use Rattle.tmr_top.specs.Texts.{joined, line_reason}
+
+abbrev pub kind_text : TextKind → List ℕ
+kind_text kind.NoModel = codes "no model"
+kind_text kind.Unsupported = codes "unsupported"
+kind_text kind.BadName = codes "bad name"
+kind_text kind.BadRow = codes "bad row"
+kind_text kind.MixedCover = codes "mixed cover"
+kind_text kind.BadLatch = codes "bad latch"
+kind_text kind.BadBinding = codes "bad binding"
+kind_text kind.DuplicatePort = codes "duplicate port"
+kind_text kind.DuplicateModel = codes "duplicate model"
+kind_text kind.RowOutside = codes "row outside"
+kind_text kind.Arguments = codes "arguments"
+
+-- of the first bad line of a netlist
+abbrev pub bad_reason : Bad → List ℕ
+bad_reason bad = line_reason bad.line (kind_text bad.kind)
+
+-- of the first bad line of a certificate
+abbrev pub cert_reason : CertFault → List ℕ
+cert_reason (fault.Line n) = line_reason n (codes "bad line")
+cert_reason (fault.UnknownNet n) = line_reason n (codes "unknown net")
+cert_reason (fault.Order n) = line_reason n (codes "order")
+cert_reason (fault.Range n) = line_reason n (codes "range")
+cert_reason (fault.Doubled n) = line_reason n (codes "doubled")
+cert_reason fault.Memory = []
+
+-- each name with a blank before it
+abbrev pub spaced : List (List ℕ) → List ℕ
+spaced [] = []
+spaced (name ∷ names) = 32 ∷ (name ++ spaced names)
+
+-- of a draft that is no design
+abbrev pub fault_reason : NetFault → List ℕ
+fault_reason (net.DoubleDriven name) = joined (codes "double driven " ∷ name ∷ [])
+fault_reason (net.MixedClock name) = joined (codes "mixed clock " ∷ name ∷ [])
+fault_reason (net.ClockUse name) = joined (codes "clock use " ∷ name ∷ [])
+fault_reason (net.Undriven name) = joined (codes "undriven " ∷ name ∷ [])
+fault_reason (net.CombLoop names) = codes "combinational loop" ++ spaced names.items
+fault_reason net.Memory = []

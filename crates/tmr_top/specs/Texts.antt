@@ -1,0 +1,48 @@
+-- The printed lines, as lists of bytes.
+use Rattle.std.specs.Prelude.{ℕ, ◌+◌, nat_eq, max, List, [], ◌∷◌, ◌++◌, length, codes, if◌then◌else◌}
+use Rattle.std.specs.Fmt.{decimal}
+use Rattle.flat_net.specs.Net.{Net, name_of}
+use Rattle.certificate.specs.Cert.{PlainCert}
+
+-- pieces, one behind the other
+abbrev pub joined : List (List ℕ) → List ℕ
+joined [] = []
+joined (piece ∷ pieces) = piece ++ joined pieces
+
+-- the greatest of the numbers, or 0 where there is none
+abbrev pub greatest : List ℕ → ℕ
+greatest [] = 0
+greatest (d ∷ ds) = max d (greatest ds)
+
+-- how many partitions there are, the greatest certified depth, and the initial values that were taken as 0 in both designs
+unfoldable pub accepted_line : PlainCert → ℕ → ℕ → List ℕ
+accepted_line k assumed hardened_assumed =
+    joined (codes "accepted partitions " ∷ decimal (length k.depth) ∷ codes " depth " ∷ decimal (greatest k.depth)
+    ∷ codes " assumed " ∷ decimal assumed ∷ codes " " ∷ decimal hardened_assumed ∷ codes "\n" ∷ [])
+
+-- where a rule fails: at the inputs, at the clock, at a hardened node, or at an output position
+unfoldable pub place_text : Net → ℕ → ℕ → List ℕ
+place_text h rule place =
+    if nat_eq rule 1 then codes "inputs"
+    else if nat_eq rule 2 then codes "clock"
+    else if nat_eq rule 8 then joined (codes "output " ∷ decimal place ∷ [])
+    else name_of h (length h.inputs + place)
+
+unfoldable pub not_accepted_line : Net → ℕ → ℕ → List ℕ
+not_accepted_line h rule place = joined (codes "not accepted: rule " ∷ decimal rule ∷ codes " at " ∷ place_text h rule place ∷ codes "\n" ∷ [])
+
+unfoldable pub refused_line : List ℕ → List ℕ → List ℕ
+refused_line file reason = joined (codes "refused " ∷ file ∷ codes ": " ∷ reason ∷ codes "\n" ∷ [])
+
+unfoldable pub load_fault_line : List ℕ → List ℕ
+load_fault_line file = joined (codes "fault: load " ∷ file ∷ codes "\n" ∷ [])
+
+-- a place in a file by its line, and what is wrong there
+unfoldable pub line_reason : ℕ → List ℕ → List ℕ
+line_reason line kind = joined (codes "line " ∷ decimal line ∷ codes ": " ∷ kind ∷ [])
+
+unfoldable pub usage_text : List ℕ
+usage_text = codes "usage: tmr validate ORIG HARD CERT\n"
+
+unfoldable pub memory_text : List ℕ
+memory_text = codes "want of memory\n"

@@ -1,0 +1,96 @@
+//! What is printed of why a file is refused.
+ghost use Rattle.std.specs.Prelude.{◌≡◌, IfOk};
+ghost use Rattle.tmr_top.specs.Texts.{line_reason};
+ghost use Rattle.std.specs.Prelude.{◌≢◌, ◌++◌, ◌∷◌, [], codes, OnOk};
+ghost use Rattle.tmr_top.specs.Texts.{joined};
+ghost use Rattle.tmr_top.specs.Reasons.{kind_text, spaced, fault_reason as reason_of_fault, cert_reason as reason_of_cert};
+
+use crate::texts::{at_line, join};
+use blif_text::TextKind;
+use certificate::CertFault;
+use flat_net::NetFault;
+use std::alloc::Global;
+use tmr_base::{Name, OutOfMemory};
+
+/// What is wrong with a bad line of a netlist.
+fn kind(kind: TextKind) -> &'static str
+    ensures { result.now ≡ kind_text kind }
+{
+    match kind {
+        TextKind::NoModel => "no model",
+        TextKind::Unsupported => "unsupported",
+        TextKind::BadName => "bad name",
+        TextKind::BadRow => "bad row",
+        TextKind::MixedCover => "mixed cover",
+        TextKind::BadLatch => "bad latch",
+        TextKind::BadBinding => "bad binding",
+        TextKind::DuplicatePort => "duplicate port",
+        TextKind::DuplicateModel => "duplicate model",
+        TextKind::RowOutside => "row outside",
+        TextKind::Arguments => "arguments",
+    }
+}
+
+/// The reason of the first bad line of a netlist.
+pub fn bad_line(alloc: Global, line: u32, of: TextKind) -> Result<Vec<u8>, OutOfMemory>
+    ensures { IfOk result (λ text. text.items ≡ line_reason line (kind_text of)) }
+{
+    at_line(alloc, line, kind(of))
+}
+
+/// The reason of the first bad line of a certificate.
+pub fn cert_reason(alloc: Global, fault: CertFault) -> Result<Vec<u8>, OutOfMemory>
+    ensures reason { IfOk result (λ text. text.items ≡ reason_of_cert fault) }
+    ensures caused { OnOk result (fault ≢ CertFault.Memory) }
+{
+    match fault {
+        CertFault::Line(line) => at_line(alloc, line, "bad line"),
+        CertFault::UnknownNet(line) => at_line(alloc, line, "unknown net"),
+        CertFault::Order(line) => at_line(alloc, line, "order"),
+        CertFault::Range(line) => at_line(alloc, line, "range"),
+        CertFault::Doubled(line) => at_line(alloc, line, "doubled"),
+        CertFault::Memory => Err(OutOfMemory),
+    }
+}
+
+/// A text, and then a name.
+fn naming(alloc: Global, text: &str, name: &Name) -> Result<Vec<u8>, OutOfMemory>
+    ensures { IfOk result (λ reason. reason.items ≡ joined (text.now ∷ name.now ∷ [])) }
+{
+    join(alloc, &[text.as_bytes(), name.bytes()])
+}
+
+/// Puts each name with a blank before it.
+#[tactic(auto, using(crate::proofs::TextLaws::names))]
+fn put_spaced(text: &mut Vec<u8>, names: &[Name]) -> Result<(), OutOfMemory>
+    ensures { OnOk result (text.new.items ≡ text.old.items ++ spaced names.now) }
+{
+    for name in names {
+        text.push(b' ')?;
+        text.extend_from_slice(name.bytes())?;
+    }
+    Ok(())
+}
+
+/// The reason of a loop of tables.
+fn loop_reason(alloc: Global, names: &[Name]) -> Result<Vec<u8>, OutOfMemory>
+    ensures { IfOk result (λ reason. reason.items ≡ codes "combinational loop" ++ spaced names.now) }
+{
+    let mut text = b"combinational loop".to_vec(alloc)?;
+    put_spaced(&mut text, names)?;
+    Ok(text)
+}
+
+/// The reason of a draft that is no design.
+pub fn fault_reason(alloc: Global, fault: &NetFault) -> Result<Vec<u8>, OutOfMemory>
+    ensures { IfOk result (λ reason. reason.items ≡ reason_of_fault fault.now) }
+{
+    match fault {
+        NetFault::DoubleDriven(name) => naming(alloc, "double driven ", name),
+        NetFault::MixedClock(name) => naming(alloc, "mixed clock ", name),
+        NetFault::ClockUse(name) => naming(alloc, "clock use ", name),
+        NetFault::Undriven(name) => naming(alloc, "undriven ", name),
+        NetFault::CombLoop(names) => loop_reason(alloc, names),
+        NetFault::Memory => Err(OutOfMemory),
+    }
+}

@@ -1,0 +1,174 @@
+//! The printed lines.
+ghost use Rattle.std.specs.Prelude.{◌≡◌, ◌+◌, ◌≤◌, ◌<◌, ◌∷◌, [], codes, length, max, IfOk};
+ghost use Rattle.std.specs.Fmt.{decimal};
+ghost use Rattle.tmr_top.specs.FileWords.{read_words as read_pieces};
+ghost use Rattle.tmr_top.specs.Texts.{joined, greatest, accepted_line, place_text, not_accepted_line, refused_line, load_fault_line, line_reason, usage_text, memory_text};
+ghost use Rattle.flat_net.specs.Net.{net_count};
+ghost use Rattle.validator.specs.Place.{IsPlace};
+
+use certificate::Certificate;
+use flat_net::FlatNet;
+use std::alloc::Global;
+use tmr_base::{NetId, OutOfMemory, PartId};
+use validator::Refusal;
+
+/// How the program is called.
+#[tactic(auto, unfolding(crate::specs::Texts::usage_text))]
+pub fn usage() -> &'static str
+    ensures { result.now ≡ usage_text }
+{
+    "usage: tmr validate ORIG HARD CERT\n"
+}
+
+/// What is put where there was no memory.
+#[tactic(auto, unfolding(crate::specs::Texts::memory_text))]
+pub fn want_of_memory() -> &'static str
+    ensures { result.now ≡ memory_text }
+{
+    "want of memory\n"
+}
+
+/// The pieces, one behind the other.
+#[tactic(auto, using(crate::proofs::TextLaws::pieces))]
+pub fn join(alloc: Global, pieces: &[&[u8]]) -> Result<Vec<u8>, OutOfMemory>
+    ensures { IfOk result (λ text. text.items ≡ joined (read_pieces pieces.now)) }
+{
+    let mut text = Vec::new(alloc);
+    for piece in pieces {
+        text.extend_from_slice(piece)?;
+    }
+    Ok(text)
+}
+
+/// The greatest certified depth, or 0 where there is no partition.
+#[tactic(auto, using(crate::proofs::TextLaws::numbers))]
+fn greatest_depth(c: &Certificate) -> u32
+    ensures { result ≡ greatest c.now.depth }
+{
+    let mut most = 0;
+    for p in 0..c.parts() {
+        most = most.max(c.depth(PartId(p)));
+    }
+    most
+}
+
+/// The line of an accepted pair.
+#[tactic(auto, unfolding(crate::specs::Texts::accepted_line))]
+pub fn accepted(
+    alloc: Global,
+    c: &Certificate,
+    assumed: u32,
+    hardened_assumed: u32,
+) -> Result<Vec<u8>, OutOfMemory>
+    ensures { IfOk result (λ text. text.items ≡ accepted_line c.now assumed hardened_assumed) }
+{
+    let parts = c.parts().to_string(alloc)?;
+    let depth = greatest_depth(c).to_string(alloc)?;
+    let first = assumed.to_string(alloc)?;
+    let second = hardened_assumed.to_string(alloc)?;
+    join(
+        alloc,
+        &[
+            b"accepted partitions ".as_slice(),
+            parts.as_bytes(),
+            b" depth ".as_slice(),
+            depth.as_bytes(),
+            b" assumed ".as_slice(),
+            first.as_bytes(),
+            b" ".as_slice(),
+            second.as_bytes(),
+            b"\n".as_slice(),
+        ],
+    )
+}
+
+/// Where a rule fails.
+#[tactic(auto, unfolding(crate::specs::Texts::place_text))]
+fn place(alloc: Global, h: &FlatNet, refusal: Refusal) -> Result<Vec<u8>, OutOfMemory>
+    requires { IsPlace h.now.net refusal.rule refusal.at }
+    ensures { IfOk result (λ text. text.items ≡ place_text h.now.net refusal.rule refusal.at) }
+{
+    if refusal.rule == 1 {
+        return join(alloc, &[b"inputs".as_slice()]);
+    }
+    if refusal.rule == 2 {
+        return join(alloc, &[b"clock".as_slice()]);
+    }
+    if refusal.rule == 8 {
+        let at = refusal.at.to_string(alloc)?;
+        return join(alloc, &[b"output ".as_slice(), at.as_bytes()]);
+    }
+    join(
+        alloc,
+        &[h.name(NetId(h.input_count() + refusal.at)).bytes()],
+    )
+}
+
+/// The line of a pair that breaks a rule.
+#[tactic(auto, unfolding(crate::specs::Texts::not_accepted_line))]
+pub fn not_accepted(alloc: Global, h: &FlatNet, refusal: Refusal) -> Result<Vec<u8>, OutOfMemory>
+    requires { IsPlace h.now.net refusal.rule refusal.at }
+    ensures { IfOk result (λ text. text.items ≡ not_accepted_line h.now.net refusal.rule refusal.at) }
+{
+    let rule = refusal.rule.to_string(alloc)?;
+    let place = place(alloc, h, refusal)?;
+    join(
+        alloc,
+        &[
+            b"not accepted: rule ".as_slice(),
+            rule.as_bytes(),
+            b" at ".as_slice(),
+            place.as_slice(),
+            b"\n".as_slice(),
+        ],
+    )
+}
+
+/// The line of a file that is refused.
+#[tactic(auto, unfolding(crate::specs::Texts::refused_line))]
+pub fn refused(alloc: Global, file: &str, reason: &[u8]) -> Result<Vec<u8>, OutOfMemory>
+    ensures { IfOk result (λ text. text.items ≡ refused_line file.now reason.now) }
+{
+    join(
+        alloc,
+        &[
+            b"refused ".as_slice(),
+            file.as_bytes(),
+            b": ".as_slice(),
+            reason,
+            b"\n".as_slice(),
+        ],
+    )
+}
+
+/// The line of a file whose load failed.
+#[tactic(auto, unfolding(crate::specs::Texts::load_fault_line))]
+pub fn load_fault(alloc: Global, file: &str) -> Result<Vec<u8>, OutOfMemory>
+    ensures { IfOk result (λ text. text.items ≡ load_fault_line file.now) }
+{
+    join(
+        alloc,
+        &[
+            b"fault: load ".as_slice(),
+            file.as_bytes(),
+            b"\n".as_slice(),
+        ],
+    )
+}
+
+/// What is wrong in a line of a file.
+#[tactic(auto, unfolding(crate::specs::Texts::line_reason))]
+pub fn at_line(alloc: Global, line: u32, kind: &str) -> Result<Vec<u8>, OutOfMemory>
+    ensures { IfOk result (λ text. text.items ≡ line_reason line kind.now) }
+{
+    let number = line.to_string(alloc)?;
+    join(
+        alloc,
+        &[
+            b"line ".as_slice(),
+            number.as_bytes(),
+            b": ".as_slice(),
+            kind.as_bytes(),
+        ],
+    )
+}
