@@ -46,6 +46,25 @@ const TWO_FEWER_ROWS: &str =
 const TWO_CERT: &str =
     "tmr-cert 1\nparts 2\npart 0 depth 0\npart 1 depth 0\nnode x 0 x~0 x~1 x~2 0 0 0\nnode y 1 y~0 y~1 y~2 0 0 0\nvoter x~1~a x 1 0\nvoter x~1~b x 1 1\nvoter x~1~c x 1 2\nend\n";
 
+/// The toggle register in two partitions: the table in the first, the register in the second.
+const PARTED_HARD: &str =
+    ".model tog\n.inputs\n.outputs q~0 q~1 q~2\n.names q~0~a d~0\n0 1\n.names q~0~b d~1\n0 1\n.names q~0~c d~2\n0 1\n.names d~0 d~1 d~2 d~1~a\n11- 1\n1-1 1\n-11 1\n.names d~0 d~1 d~2 d~1~b\n11- 1\n1-1 1\n-11 1\n.names d~0 d~1 d~2 d~1~c\n11- 1\n1-1 1\n-11 1\n.latch d~1~a q~0 0\n.latch d~1~b q~1 0\n.latch d~1~c q~2 0\n.names q~0 q~1 q~2 q~0~a\n11- 1\n1-1 1\n-11 1\n.names q~0 q~1 q~2 q~0~b\n11- 1\n1-1 1\n-11 1\n.names q~0 q~1 q~2 q~0~c\n11- 1\n1-1 1\n-11 1\n.end\n";
+
+const PARTED_CERT: &str =
+    "tmr-cert 1\nparts 2\npart 0 depth 0\npart 1 depth 1\nnode d 0 d~0 d~1 d~2 0 0 0\nnode q 1 q~0 q~1 q~2 1 1 1\nvoter d~1~a d 1 0\nvoter d~1~b d 1 1\nvoter d~1~c d 1 2\nvoter q~0~a q 0 0\nvoter q~0~b q 0 1\nvoter q~0~c q 0 2\nend\n";
+
+const PARTED_FOREIGN_COPY: &str =
+    ".model tog\n.inputs\n.outputs q~0 q~1 q~2\n.names q~0~a d~0\n0 1\n.names q~0~b d~1\n0 1\n.names q~0~c d~2\n0 1\n.names d~0 d~1 d~2 d~1~a\n11- 1\n1-1 1\n-11 1\n.names d~0 d~1 d~2 d~1~b\n11- 1\n1-1 1\n-11 1\n.names d~0 d~1 d~2 d~1~c\n11- 1\n1-1 1\n-11 1\n.latch d~0 q~0 0\n.latch d~1~b q~1 0\n.latch d~1~c q~2 0\n.names q~0 q~1 q~2 q~0~a\n11- 1\n1-1 1\n-11 1\n.names q~0 q~1 q~2 q~0~b\n11- 1\n1-1 1\n-11 1\n.names q~0 q~1 q~2 q~0~c\n11- 1\n1-1 1\n-11 1\n.end\n";
+
+const PARTED_SMALL_LABEL: &str =
+    "tmr-cert 1\nparts 2\npart 0 depth 0\npart 1 depth 1\nnode d 0 d~0 d~1 d~2 0 0 0\nnode q 1 q~0 q~1 q~2 0 0 0\nvoter d~1~a d 1 0\nvoter d~1~b d 1 1\nvoter d~1~c d 1 2\nvoter q~0~a q 0 0\nvoter q~0~b q 0 1\nvoter q~0~c q 0 2\nend\n";
+
+const PARTED_SMALL_DEPTH: &str =
+    "tmr-cert 1\nparts 2\npart 0 depth 0\npart 1 depth 0\nnode d 0 d~0 d~1 d~2 0 0 0\nnode q 1 q~0 q~1 q~2 1 1 1\nvoter d~1~a d 1 0\nvoter d~1~b d 1 1\nvoter d~1~c d 1 2\nvoter q~0~a q 0 0\nvoter q~0~b q 0 1\nvoter q~0~c q 0 2\nend\n";
+
+const PARTED_OTHER_ORDER: &str =
+    ".model tog\n.inputs\n.outputs q~0 q~1 q~2\n.names q~0~a d~0\n0 1\n.names q~0~b d~1\n0 1\n.names q~0~c d~2\n0 1\n.names d~0 d~1 d~2 d~1~a\n11- 1\n1-1 1\n-11 1\n.names d~0 d~1 d~2 d~1~b\n11- 1\n1-1 1\n-11 1\n.names d~0 d~1 d~2 d~1~c\n11- 1\n1-1 1\n-11 1\n.latch d~1~a q~0 0\n.latch d~1~b q~1 0\n.latch d~1~c q~2 0\n.names q~0 q~1 q~2 q~0~a\n11- 1\n1-1 1\n-11 1\n.names q~0 q~1 q~2 q~0~b\n11- 1\n1-1 1\n-11 1\n.names q~1 q~0 q~2 q~0~c\n11- 1\n1-1 1\n-11 1\n.end\n";
+
 fn words(alloc: Global, texts: &[&str]) -> Result<Vec<String>, AllocError> {
     let mut words = Vec::new(alloc);
     for text in texts {
@@ -115,6 +134,41 @@ fn pairs(rt: HostRuntime) -> Result<(), Fail> {
             TOGGLE_CERT,
             1,
             "not accepted: rule 4 at q~0\n",
+        ),
+        (
+            TOGGLE,
+            PARTED_HARD,
+            PARTED_CERT,
+            0,
+            "accepted partitions 2 depth 1 assumed 0 0\n",
+        ),
+        (
+            TOGGLE,
+            PARTED_FOREIGN_COPY,
+            PARTED_CERT,
+            1,
+            "not accepted: rule 4 at q~0\n",
+        ),
+        (
+            TOGGLE,
+            PARTED_OTHER_ORDER,
+            PARTED_CERT,
+            1,
+            "not accepted: rule 5 at q~0~c\n",
+        ),
+        (
+            TOGGLE,
+            PARTED_HARD,
+            PARTED_SMALL_LABEL,
+            1,
+            "not accepted: rule 6 at q~0\n",
+        ),
+        (
+            TOGGLE,
+            PARTED_HARD,
+            PARTED_SMALL_DEPTH,
+            1,
+            "not accepted: rule 7 at q~0\n",
         ),
         (
             TWO,
@@ -191,6 +245,11 @@ fn a_put_that_fails(rt: HostRuntime) -> Result<(), Fail> {
     let status = run(alloc, words.as_slice(), &mut files, &mut out);
     assert_eq!(rt; status, Status::Fault);
     assert_eq!(rt; out.written(), b"acc".as_slice());
+    files.hold("h", AND_SWAPPED_OUTPUTS.as_bytes())?;
+    out.fail_at(1, 3)?;
+    let status = run(alloc, words.as_slice(), &mut files, &mut out);
+    assert_eq!(rt; status, Status::NotAccepted);
+    assert_eq!(rt; out.written(), b"accnot".as_slice());
     Ok(())
 }
 
