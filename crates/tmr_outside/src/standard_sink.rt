@@ -1,21 +1,32 @@
 //! The standard output.
-ghost use Rattle.std.specs.Prelude.{None};
+ghost use Rattle.std.specs.Prelude.{◌≡◌};
 
 use crate::fault_count::FaultCount;
 use crate::{PutFault, Sink};
 use std::io::ErrorKind;
+use std::marker::Model;
 
 /// The standard output, as the runtime has it. It tells nothing of what went out, and is never steady.
-/// Each refusal raises its count.
+/// Each refusal raises its count, as which it is seen.
 #[derive(Drop)]
 pub struct StdSink<'a, P: Print> {
     to: &'a P,
     faults: FaultCount,
 }
 
+impl<'a, P: Print> Model for StdSink<'a, P> {
+    ghost use Rattle.std.specs.Prelude.{ℕ};
+
+    ghost Value = { ℕ };
+
+    ghost view = { λ sink. sink.faults };
+}
+
 impl<'a, P: Print> StdSink<'a, P> {
     /// The standard output of this runtime, without faults.
-    pub fn new(to: &'a P) -> Self {
+    pub fn new(to: &'a P) -> Self
+        ensures { result ≡ 0 }
+    {
         StdSink {
             to,
             faults: FaultCount::new(),
@@ -51,7 +62,7 @@ impl<P: Print> Sink for StdSink<'_, P> {
 
     ghost written = { λ sink. None };
 
-    ghost put_count = { λ sink. sink.faults };
+    ghost put_count = { λ count. count };
 
     ghost steady = { λ sink. ⊥ };
 
