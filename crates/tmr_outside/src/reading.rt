@@ -118,13 +118,13 @@ mod tests {
     use crate::gathered::Gathered;
     use std::test::Fail;
 
-    /// Gives four bytes at a time, is interrupted once, and breaks after `left` reads.
+    /// Gives four bytes at a time, is interrupted once, and fails after `left` reads.
     #[derive(Drop)]
-    struct Breaking {
+    struct FailingReader {
         left: u64,
     }
 
-    impl Read for Breaking {
+    impl Read for FailingReader {
         fn read(&mut self, buffer: &mut [u8]) -> io::Result<usize> {
             if self.left == 0 {
                 return Err(io::Error::from(ErrorKind::Other));
@@ -138,7 +138,7 @@ mod tests {
     }
 
     #[test]
-    fn a_file_may_break_off(rt: HostRuntime) -> Result<(), Fail> {
+    fn a_read_may_fail_in_the_middle(rt: HostRuntime) -> Result<(), Fail> {
         let alloc = rt.alloc();
         for (reads, limit, fault, taken) in [
             (4, 100, LoadFault::Failed, 12),
@@ -146,7 +146,7 @@ mod tests {
             (4, 11, LoadFault::TooLong, 8),
             (0, 100, LoadFault::Failed, 0),
         ] {
-            let mut file = Breaking { left: reads };
+            let mut file = FailingReader { left: reads };
             let mut gathered = Gathered::new(alloc, limit);
             let outcome = hand_out_within(&mut file, limit, &mut gathered);
             assert_eq!(rt; outcome, Err(fault), "after {reads} reads, limit {limit}");
