@@ -3,7 +3,8 @@ use Rattle.std.proofs.Common.{◌≡◌, ◌<◌, ◌≤◌, ◌+◌, ◌-◌, �
 use Rattle.std.specs.Io.KnownBytes.{Consumes, IsAtEnd}
 use Rattle.std.proofs.KnownBytes.{Consumes-nil, Consumes-trans, Consumes-whole}
 use Rattle.std.proofs.Math.Seq.{take-add, take-append_seam}
-use Rattle.tmr_outside.specs.Pieces.{Takes, TakesFile, ReadsUpTo, HandsOn, HandsOnFirst}
+use Rattle.tmr_outside.specs.Pieces.{Takes, TakesFile}
+use Rattle.tmr_outside.specs.Reading.{ReadsUpTo, MovesBytes, MovesFirst}
 
 -- what was taken, and then a piece
 pub Takes-then : {stood between stands : List ℕ → Type 0} {room mid left : ℕ} (xs ys : List ℕ) → Takes stood between room mid xs → ((given : List ℕ) → between given → stands (given ++ ys)) → left + length ys ≡ mid → Takes stood stands room left (xs ++ ys)
@@ -21,8 +22,8 @@ pub TakesFile-none : {stands : List ℕ → Type 0} {room : ℕ} (limit : ℕ) (
 TakesFile-none limit name = record { taken = []; takes = Takes-none; within = zero-le; first = tt; whole = λ ok. tt }
 
 -- two pieces that were handed on, one after the other
-pub HandsOn-then : {unread between rest : Option (List ℕ)} {stood stands_between stands : List ℕ → Type 0} {room mid left : ℕ} (m n : ℕ) → HandsOn unread between stood stands_between room mid m → HandsOn between rest stands_between stands mid left n → HandsOn unread rest stood stands room left (m + n)
-HandsOn-then m n first second = record {
+pub MovesBytes-then : {unread between rest : Option (List ℕ)} {stood stands_between stands : List ℕ → Type 0} {room mid left : ℕ} (m n : ℕ) → MovesBytes unread between stood stands_between room mid m → MovesBytes between rest stands_between stands mid left n → MovesBytes unread rest stood stands room left (m + n)
+MovesBytes-then m n first second = record {
   bytes = first.bytes ++ second.bytes;
   counted = omega (arith, length-append first.bytes second.bytes, first.counted, second.counted);
   read = Consumes-trans _ _ _ first.bytes second.bytes first.read second.read;
@@ -30,8 +31,8 @@ HandsOn-then m n first second = record {
 }
 
 -- where nothing was handed on
-pub HandsOn-none : {unread : Option (List ℕ)} {stands : List ℕ → Type 0} {room : ℕ} → HandsOn unread unread stands stands room room 0
-HandsOn-none {unread} {stands} {room} = record {
+pub MovesBytes-none : {unread : Option (List ℕ)} {stands : List ℕ → Type 0} {room : ℕ} → MovesBytes unread unread stands stands room room 0
+MovesBytes-none {unread} {stands} {room} = record {
   bytes = [];
   counted = refl;
   read = Consumes-nil unread;
@@ -44,8 +45,8 @@ first_of None rest bytes read = tt
 first_of (Some all) None bytes read = absurd read
 first_of (Some all) (Some rest) bytes read = ap (take (length bytes)) read ∙ take-append_seam bytes rest
 
-pub HandsOnFirst-from : {unread rest : Option (List ℕ)} {stood stands : List ℕ → Type 0} {room left : ℕ} (limit count : ℕ) {ok : Type 0} → HandsOn unread rest stood stands room left count → count ≤ limit → (ok → IsAtEnd rest) → HandsOnFirst unread stood stands room left limit ok
-HandsOnFirst-from {unread} {rest} limit count handed fits ended = record {
+pub MovesFirst-from : {unread rest : Option (List ℕ)} {stood stands : List ℕ → Type 0} {room left : ℕ} (limit count : ℕ) {ok : Type 0} → MovesBytes unread rest stood stands room left count → count ≤ limit → (ok → IsAtEnd rest) → MovesFirst unread stood stands room left limit ok
+MovesFirst-from {unread} {rest} limit count handed fits ended = record {
   bytes = handed.bytes;
   takes = handed.takes;
   within = omega (arith, handed.counted);
@@ -54,7 +55,7 @@ HandsOnFirst-from {unread} {rest} limit count handed fits ended = record {
 }
 
 -- what is handed on in all is read, and then some more
-pub ReadsUpTo-after : {unread between rest : Option (List ℕ)} {stood stands : List ℕ → Type 0} {room left : ℕ} (count most limit : ℕ) → HandsOn unread between stood stands room left count → ReadsUpTo between rest most → count + most ≤ limit → ReadsUpTo unread rest limit
+pub ReadsUpTo-after : {unread between rest : Option (List ℕ)} {stood stands : List ℕ → Type 0} {room left : ℕ} (count most limit : ℕ) → MovesBytes unread between stood stands room left count → ReadsUpTo between rest most → count + most ≤ limit → ReadsUpTo unread rest limit
 ReadsUpTo-after count most limit handed more fits = record {
   bytes = handed.bytes ++ more.bytes;
   read = Consumes-trans _ _ _ handed.bytes more.bytes handed.read more.read;
@@ -62,7 +63,7 @@ ReadsUpTo-after count most limit handed more fits = record {
 }
 
 -- a file has more bytes than were handed on where its rest has more than may come
-pub longer_than : (unread between : Option (List ℕ)) {stood stands : List ℕ → Type 0} {room left : ℕ} (count may limit : ℕ) → HandsOn unread between stood stands room left count → IfSome between (λ rest. may < length rest) → count + may ≡ limit → IfSome unread (λ all. limit < length all)
+pub longer_than : (unread between : Option (List ℕ)) {stood stands : List ℕ → Type 0} {room left : ℕ} (count may limit : ℕ) → MovesBytes unread between stood stands room left count → IfSome between (λ rest. may < length rest) → count + may ≡ limit → IfSome unread (λ all. limit < length all)
 longer_than None between count may limit handed more sum = tt
 longer_than (Some all) None count may limit handed more sum = absurd handed.read
 longer_than (Some all) (Some rest) count may limit handed more sum = omega (arith, ap length handed.read, length-append handed.bytes rest, handed.counted)

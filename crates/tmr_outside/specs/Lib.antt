@@ -5,4 +5,5 @@ pub mod MemoryFiles
 pub mod MemorySink
 pub mod Pieces
 pub mod Plan
+pub mod Reading
 pub mod Written

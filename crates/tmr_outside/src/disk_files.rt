@@ -1,5 +1,5 @@
 //! Real files.
-ghost use Rattle.std.specs.Prelude.{◌≤◌, None, IfOk, IsOk, vec_len};
+ghost use Rattle.std.specs.Prelude.{◌≡◌, ◌≤◌, None, IfOk, IsOk, vec_len};
 ghost use Rattle.tmr_outside.specs.Pieces.{TakesFile};
 
 use crate::fault_count::FaultCount;
@@ -8,19 +8,31 @@ use crate::reading::{hand_out_within, load_fault};
 use crate::{Files, LoadFault, SaveFault, Taker};
 use std::alloc::Global;
 use std::io::{ErrorKind, Write};
+use std::marker::Model;
 use std::{fs, rt};
 
 /// Real files, as the runtime has them. They tell nothing of what they hold, and are never steady. One
-/// count serves the loads and the saves of all names, and each refusal raises it.
+/// count serves the loads and the saves of all names, and each refusal raises it. They are seen as this
+/// count.
 #[derive(Drop)]
 pub struct DiskFiles<'a, R: rt::Files> {
     rt: &'a R,
     faults: FaultCount,
 }
 
+impl<'a, R: rt::Files> Model for DiskFiles<'a, R> {
+    ghost use Rattle.std.specs.Prelude.{ℕ};
+
+    ghost Value = { ℕ };
+
+    ghost view = { λ files. files.faults };
+}
+
 impl<'a, R: rt::Files> DiskFiles<'a, R> {
     /// The files of this runtime, without faults.
-    pub fn new(rt: &'a R) -> Self {
+    pub fn new(rt: &'a R) -> Self
+        ensures { result ≡ 0 }
+    {
         DiskFiles {
             rt,
             faults: FaultCount::new(),
@@ -86,9 +98,9 @@ impl<R: rt::Files> Files for DiskFiles<'_, R> {
 
     ghost contents = { λ files. None };
 
-    ghost load_count = { λ files name. files.faults };
+    ghost load_count = { λ count name. count };
 
-    ghost save_count = { λ files name. files.faults };
+    ghost save_count = { λ count name. count };
 
     ghost steady = { λ files. ⊥ };
 

@@ -1,4 +1,4 @@
-//! What lies outside the program: files by name, and a sink for the printed text.
+//! What is outside the program: files by name, and a sink for the printed text.
 //!
 //! `Files` and `Sink` count their faults, and the counts never fall. The layer above may rely on what the
 //! files hold and what went out, wherever the object tells it, and on the cause of each refusal: `Failed`

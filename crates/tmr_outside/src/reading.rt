@@ -1,8 +1,9 @@
 //! Reading a file up to a limit.
 ghost use Rattle.std.specs.Prelude.{◌+◌, ◌≡◌, ◌≢◌, ◌<◌, ◌≤◌, length, take, vec_len, IfOk, OnOk, OnErr, IsOk, IfSome, IsErrOf};
+ghost use Rattle.std.specs.IoError.{error_kind};
 ghost use Rattle.std.specs.Io.{ReadsAtMost};
 ghost use Rattle.std.specs.Io.KnownBytes.{Keeps, Consumes, IsAtEnd};
-ghost use Rattle.tmr_outside.specs.Pieces.{ReadsUpTo, HandsOn, HandsOnFirst};
+ghost use Rattle.tmr_outside.specs.Reading.{ReadsUpTo, MovesBytes, MovesFirst};
 
 use crate::{LONGEST_PIECE, LoadFault, Taker};
 use std::io;
@@ -10,7 +11,9 @@ use std::io::{ErrorKind, Read};
 
 /// Why a load gives nothing where the runtime answers this error.
 pub fn load_fault(error: &io::Error) -> LoadFault
-    ensures { result ≢ LoadFault.TooLong }
+    ensures memory { error_kind error.now ≡ ErrorKind.OutOfMemory → result ≡ LoadFault.Memory }
+    ensures other { error_kind error.now ≢ ErrorKind.OutOfMemory → result ≡ LoadFault.Failed }
+    ensures kinds { result ≢ LoadFault.TooLong }
 {
     if error.kind() == ErrorKind::OutOfMemory {
         LoadFault::Memory
@@ -69,7 +72,7 @@ fn hand_out_next<F: Read, T: Taker>(
     requires room { left ≤ T.room to.old }
     requires some { 0 < length buffer.old }
     requires short { length buffer.old ≤ LONGEST_PIECE }
-    ensures handed { IfOk result (HandsOn (F.remaining file.old) (F.remaining file.new)
+    ensures handed { IfOk result (MovesBytes (F.remaining file.old) (F.remaining file.new)
         (T.stands to.old) (T.stands to.new) (T.room to.old) (T.room to.new)) }
     ensures within { IfOk result (λ count. count ≤ left) }
     ensures end { IfOk result (λ count. count ≡ 0 → IsAtEnd (F.remaining file.new)) }
@@ -92,7 +95,7 @@ pub fn hand_out_within<F: Read, T: Taker>(
     to: &mut T,
 ) -> Result<(), LoadFault>
     requires { limit ≤ T.room to.old }
-    ensures handed { HandsOnFirst (F.remaining file.old) (T.stands to.old) (T.stands to.new) (T.room to.old) (T.room to.new)
+    ensures handed { MovesFirst (F.remaining file.old) (T.stands to.old) (T.stands to.new) (T.room to.old) (T.room to.new)
         limit (IsOk result) }
     ensures too_long { IsErrOf result LoadFault.TooLong → IfSome (F.remaining file.old) (λ all. limit < length all) }
     ensures read { ReadsUpTo (F.remaining file.old) (F.remaining file.new) (limit + 1) }
@@ -115,13 +118,13 @@ mod tests {
     use crate::gathered::Gathered;
     use std::test::Fail;
 
-    /// Gives four bytes at a time, is interrupted once, and breaks after `left` reads.
+    /// Gives four bytes at a time, is interrupted once, and fails after `left` reads.
     #[derive(Drop)]
-    struct Breaking {
+    struct FailingReader {
         left: u64,
     }
 
-    impl Read for Breaking {
+    impl Read for FailingReader {
         fn read(&mut self, buffer: &mut [u8]) -> io::Result<usize> {
             if self.left == 0 {
                 return Err(io::Error::from(ErrorKind::Other));
@@ -135,7 +138,7 @@ mod tests {
     }
 
     #[test]
-    fn a_file_may_break_off(rt: HostRuntime) -> Result<(), Fail> {
+    fn a_read_may_fail_in_the_middle(rt: HostRuntime) -> Result<(), Fail> {
         let alloc = rt.alloc();
         for (reads, limit, fault, taken) in [
             (4, 100, LoadFault::Failed, 12),
@@ -143,7 +146,7 @@ mod tests {
             (4, 11, LoadFault::TooLong, 8),
             (0, 100, LoadFault::Failed, 0),
         ] {
-            let mut file = Breaking { left: reads };
+            let mut file = FailingReader { left: reads };
             let mut gathered = Gathered::new(alloc, limit);
             let outcome = hand_out_within(&mut file, limit, &mut gathered);
             assert_eq!(rt; outcome, Err(fault), "after {reads} reads, limit {limit}");

@@ -1,21 +1,32 @@
 //! The standard output.
-ghost use Rattle.std.specs.Prelude.{None};
+ghost use Rattle.std.specs.Prelude.{◌≡◌};
 
 use crate::fault_count::FaultCount;
 use crate::{PutFault, Sink};
 use std::io::ErrorKind;
+use std::marker::Model;
 
 /// The standard output, as the runtime has it. It tells nothing of what went out, and is never steady.
-/// Each refusal raises its count.
+/// Each refusal raises its count, as which it is seen.
 #[derive(Drop)]
 pub struct StdSink<'a, P: Print> {
     to: &'a P,
     faults: FaultCount,
 }
 
+impl<'a, P: Print> Model for StdSink<'a, P> {
+    ghost use Rattle.std.specs.Prelude.{ℕ};
+
+    ghost Value = { ℕ };
+
+    ghost view = { λ sink. sink.faults };
+}
+
 impl<'a, P: Print> StdSink<'a, P> {
     /// The standard output of this runtime, without faults.
-    pub fn new(to: &'a P) -> Self {
+    pub fn new(to: &'a P) -> Self
+        ensures { result ≡ 0 }
+    {
         StdSink {
             to,
             faults: FaultCount::new(),
@@ -51,7 +62,7 @@ impl<P: Print> Sink for StdSink<'_, P> {
 
     ghost written = { λ sink. None };
 
-    ghost put_count = { λ sink. sink.faults };
+    ghost put_count = { λ count. count };
 
     ghost steady = { λ sink. ⊥ };
 
@@ -65,17 +76,31 @@ impl<P: Print> Sink for StdSink<'_, P> {
 #[cfg(test)]
 mod tests {
     use super::*;
+    use std::cell::Cell;
     use std::fmt::Display;
     use std::io;
     use std::test::Fail;
 
-    /// An output that takes three bytes and then no more, or none at all.
+    /// An output that takes three bytes of the first write, and may refuse that write or the rest. It
+    /// keeps the digits that went out as a number.
     #[derive(Drop)]
-    struct Broken {
-        taken: Option<usize>,
+    struct PartialOutput {
+        first: Option<ErrorKind>,
+        rest: Option<ErrorKind>,
+        digits: Cell<u64>,
     }
 
-    impl Print for Broken {
+    impl PartialOutput {
+        fn note(&self, bytes: &[u8]) {
+            for byte in bytes {
+                let digit = byte.wrapping_sub(b'0') as u64;
+                let digits = self.digits.get().wrapping_mul(10);
+                self.digits.set(digits.wrapping_add(digit));
+            }
+        }
+    }
+
+    impl Print for PartialOutput {
         fn print<D: Display + Drop>(&self, _value: D) -> io::Result<()> {
             Err(io::Error::from(ErrorKind::Unsupported))
         }
@@ -84,27 +109,46 @@ mod tests {
             Err(io::Error::from(ErrorKind::Unsupported))
         }
 
-        fn write_all(&self, _bytes: &[u8]) -> io::Result<()> {
-            Err(io::Error::from(ErrorKind::OutOfMemory))
+        fn write_all(&self, bytes: &[u8]) -> io::Result<()> {
+            match self.rest {
+                Some(kind) => Err(io::Error::from(kind)),
+                None => {
+                    self.note(bytes);
+                    Ok(())
+                }
+            }
         }
 
         fn write_some(&self, bytes: &[u8]) -> io::Result<usize> {
-            match self.taken {
-                Some(count) => Ok(count.min(bytes.len())),
-                None => Err(io::Error::from(ErrorKind::OutOfMemory)),
+            match self.first {
+                Some(kind) => Err(io::Error::from(kind)),
+                None => {
+                    let count = bytes.len().min(3);
+                    self.note(&bytes[..count]);
+                    Ok(count)
+                }
             }
         }
     }
 
     #[test]
     fn texts_go_out_or_are_refused(rt: HostRuntime) -> Result<(), Fail> {
-        StdSink::new(&rt).put(b"accepted\n")?;
-        let half = Broken { taken: Some(3) };
-        let mut sink = StdSink::new(&half);
-        assert_eq!(rt; sink.put(b"accepted"), Err(PutFault::Failed));
-        let none = Broken { taken: None };
-        let mut sink = StdSink::new(&none);
-        assert_eq!(rt; sink.put(b"accepted"), Err(PutFault::Memory));
+        StdSink::new(&rt).put(b"12345\n")?;
+        let full = Some(ErrorKind::OutOfMemory);
+        for (first, rest, answer, out) in [
+            (None, None, Ok(()), 12_345),
+            (None, full, Err(PutFault::Failed), 123),
+            (full, None, Err(PutFault::Memory), 0),
+            (Some(ErrorKind::Interrupted), None, Ok(()), 12_345),
+        ] {
+            let output = PartialOutput {
+                first,
+                rest,
+                digits: Cell::new(0),
+            };
+            assert_eq!(rt; StdSink::new(&output).put(b"12345"), answer);
+            assert_eq!(rt; output.digits.get(), out);
+        }
         Ok(())
     }
 }

@@ -1,12 +1,12 @@
 use Rattle.std.proofs.Common.{◌+◌, arith}
-use Rattle.tmr_outside.proofs.PieceLemmas.{HandsOn-then, ReadsUpTo-after}
+use Rattle.tmr_outside.proofs.PieceLemmas.{MovesBytes-then, ReadsUpTo-after}
 use Rattle.tmr_outside.proofs.reading.hand_out_within.Goals as goal
 
 pub loop-preserved : goal.loop-preserved
 loop-preserved g c = record {
   count = c.loop.invariant.count + c.in-Ok.count;
   counted = omega (arith, c.in-Ok.ensures.within);
-  handed = HandsOn-then c.loop.invariant.count c.in-Ok.count c.loop.invariant.handed c.in-Ok.ensures.handed;
+  handed = MovesBytes-then c.loop.invariant.count c.in-Ok.count c.loop.invariant.handed c.in-Ok.ensures.handed;
 }
 
 pub returns-in-Err-clause-read : goal.returns-in-Err-clause-read
