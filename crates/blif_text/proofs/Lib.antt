@@ -4,7 +4,6 @@ pub mod Pass
 pub mod Rows
 pub mod Tables
 pub mod Refusals
-pub mod Inner
 pub mod Taken
 pub mod Examples
 pub mod Sound

@@ -18,6 +18,8 @@ mod progress;
 mod reader;
 mod row;
 mod table;
+#[cfg(test)]
+mod tests;
 mod text;
 mod word;
 

@@ -180,14 +180,8 @@ impl OpenModel {
           table = option_map (with_row (first.now ∷ plain arguments.now)) self.old.table;
         }) }
     {
-        match self.table.take() {
-            Some(mut table) => match table.push_row(first, arguments) {
-                Ok(()) => {
-                    self.table = Some(table);
-                    Ok(())
-                }
-                Err(refusal) => Err(refusal),
-            },
+        match &mut self.table {
+            Some(table) => table.push_row(first, arguments),
             None => Err(Refusal::Bad(TextKind::RowOutside)),
         }
     }

@@ -154,14 +154,8 @@ impl Progress {
         ensures { (line : ℕ) → Answers result (kind_in self.old (statement_by line word first.now (plain arguments.now)))
             (λ _. self.new ≡ after self.old (statement_by line word first.now (plain arguments.now))) }
     {
-        match self.open_model.take() {
-            Some(mut model) => match model.take(alloc, word, first, arguments) {
-                Ok(()) => {
-                    self.open_model = Some(model);
-                    Ok(())
-                }
-                Err(refusal) => Err(refusal),
-            },
+        match &mut self.open_model {
+            Some(model) => model.take(alloc, word, first, arguments),
             None => Err(Refusal::Bad(TextKind::NoModel)),
         }
     }

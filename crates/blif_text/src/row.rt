@@ -43,6 +43,7 @@ fn put_marks(cover: &mut Cover, marks: &[u8], output: u8) -> Result<(), Refusal>
     ensures ok { OnOk result (cover.new ≡ pushing.with_row cover.old marks.now output) }
     ensures err { OnErr result (cover.new ≡ cover.old) }
 {
+    // A cover numbers its rows by u32. No text that is read has so many.
     if cover.row_count() == u32::MAX {
         return Err(Refusal::Memory);
     }

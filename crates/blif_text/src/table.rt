@@ -34,7 +34,7 @@ impl Model for OpenTable {
     ghost invariant = { λ t. t.cover.width ≡ length t.pins.items };
 }
 
-/// A cover without rows of that many pins.
+/// A cover without rows of that many pins, which no text that is read has beyond u32.
 fn cover_of(alloc: Global, pins: usize) -> Result<Cover, Refusal>
     ensures { Answers result None (λ cover. cover ≡ record { width = pins; is_on = true; rows = [] }) }
 {
