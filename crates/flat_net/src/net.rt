@@ -149,7 +149,7 @@ impl FlatNet {
     pub fn pin_total(&self) -> u32
         ensures { result ≡ pin_total self.now.net }
     {
-        self.wiring.all_pins().len() as u32
+        self.wiring.pin_total()
     }
 
     /// Node i of an order of all nodes, each once, in which each table stands behind each table that it reads.
