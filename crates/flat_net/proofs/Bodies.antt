@@ -1,5 +1,5 @@
 -- What the body of a node tells of it.
-use Rattle.std.proofs.Common.{◌≡◌, ℕ, ◌<◌, Bool, Option, Some, None, refl, length}
+use Rattle.std.proofs.Common.{◌≡◌, ℕ, ◌<◌, ◌≤◌, Bool, Option, Some, None, refl, length}
 use Rattle.table_cover.specs.Cover.{PlainCover}
 use Rattle.flat_net.specs.declared.kind.Kind.TheVariants as kind
 use Rattle.flat_net.specs.declared.nodes.Body.TheVariants.{TableBody, RegisterBody}
@@ -7,7 +7,7 @@ use Rattle.flat_net.specs.Kinds.{kind_of}
 use Rattle.flat_net.specs.Net.{Net, Node, Table, Register, node_of, IsTable, IsRegister, IsCoverOf, IsInitOf, table_pins, pins_at}
 use Rattle.flat_net.specs.Packed.{IsBodyOf}
 use Rattle.flat_net.proofs.Slots.{slot_below}
-use Rattle.flat_net.proofs.Ranges.{table_within}
+use Rattle.flat_net.proofs.Ranges.{table_within, register_within}
 
 pub input_kind : (n : Net) (x : ℕ) → x < length n.inputs → kind.Input ≡ kind_of (node_of n x)
 input_kind n x h = rw (slot_below (length n.inputs) n.nodes x h) refl
@@ -61,3 +61,22 @@ pub ruleset kinds = (input_kind, table_kind, register_kind)
 pub ruleset covers = (cover_body, no_table)
 
 pub ruleset inits = (init_body, no_register)
+
+-- what the kind of a net tells
+pub table_from_kind : (o : Option Node) → kind_of o ≡ kind.Table → IsTable o
+table_from_kind None e = absurd (cc)
+table_from_kind (Some (Table name cover pins)) e = tt
+table_from_kind (Some (Register name init pin)) e = absurd (cc)
+
+pub register_from_kind : (o : Option Node) → kind_of o ≡ kind.Register → IsRegister o
+register_from_kind None e = absurd (cc)
+register_from_kind (Some (Table name cover pins)) e = absurd (cc)
+register_from_kind (Some (Register name init pin)) e = tt
+
+pub node_from_table : (n : Net) (x : ℕ) → kind_of (node_of n x) ≡ kind.Table → length n.inputs ≤ x
+node_from_table n x e = (table_within n x (table_from_kind (node_of n x) e)).0
+
+pub node_from_register : (n : Net) (x : ℕ) → kind_of (node_of n x) ≡ kind.Register → length n.inputs ≤ x
+node_from_register n x e = (register_within n x (register_from_kind (node_of n x) e)).0
+
+pub ruleset from_kind = (table_from_kind, register_from_kind, node_from_table, node_from_register)

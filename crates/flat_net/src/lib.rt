@@ -14,6 +14,8 @@ mod kind;
 mod net;
 mod nodes;
 mod order;
+#[cfg(test)]
+mod tests;
 mod wires;
 mod wiring;
 

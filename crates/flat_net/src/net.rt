@@ -149,12 +149,12 @@ impl FlatNet {
     pub fn pin_total(&self) -> u32
         ensures { result ≡ pin_total self.now.net }
     {
-        self.wiring.all_pins().len() as u32
+        self.wiring.pin_total()
     }
 
-    /// Node i of an order in which each table stands behind each table that it reads.
+    /// Node i of an order of all nodes, each once, in which each table stands behind each table that it reads.
     pub fn ordered(&self, i: u32) -> NetId
-        requires { i < length self.now.order }
+        requires { i < length self.now.net.nodes }
         ensures ordered { slice_get self.now.order i ≡ Some result.0 }
         ensures low { length self.now.net.inputs ≤ result.0 }
         ensures high { result.0 < net_count self.now.net }

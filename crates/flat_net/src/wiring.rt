@@ -220,6 +220,14 @@ impl Wiring {
         self.nodes.registers
     }
 
+    /// How many pins all nodes have together.
+    #[tactic(auto, using(crate::proofs::PackedLaws::kept))]
+    pub fn pin_total(&self) -> u32
+        ensures { result ≡ pin_total self.now }
+    {
+        self.nodes.pins.len() as u32
+    }
+
     /// The pins of all nodes, node by node in order, each node's pins in order.
     #[tactic(auto, using(crate::proofs::PackedLaws::kept))]
     pub fn all_pins(&self) -> &[NetId]
