@@ -1,0 +1,5 @@
+pub mod Below
+pub mod Reading
+pub mod Cost
+pub mod Sizes
+pub mod Refining

@@ -1,0 +1,12 @@
+//! Partitions of a design's nodes: the plain cut, its refinement, and what a partitioning costs.
+//!
+//! The layers above may rely on this: `plain`, `refine`, `cost` and `is_minimal` are exactly their
+//! definitions, in which the cost is counted anew each time; refining keeps the rule of sizes and
+//! never raises the cost.
+#![tactic(auto)]
+
+mod nodes;
+mod plain_cut;
+mod rows;
+
+pub use plain_cut::plain;
