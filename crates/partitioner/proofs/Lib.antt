@@ -1,2 +1,6 @@
 pub mod PlainLaws
 pub mod RowLaws
+pub mod Numbers
+pub mod NotingLaws
+pub mod PinLaws
+pub mod SourceLaws

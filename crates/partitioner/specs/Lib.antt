@@ -1,5 +1,6 @@
 pub mod Below
 pub mod Reading
+pub mod Noting
 pub mod Cost
 pub mod Sizes
 pub mod Refining

@@ -7,6 +7,7 @@
 
 mod nodes;
 mod plain_cut;
+mod reading;
 mod rows;
 
 pub use plain_cut::plain;
