@@ -1,6 +1,7 @@
 pub mod Below
 pub mod Reading
 pub mod Noting
+pub mod Meeting
 pub mod Cost
 pub mod Sizes
 pub mod Refining

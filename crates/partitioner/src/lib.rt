@@ -5,6 +5,7 @@
 //! never raises the cost.
 #![tactic(auto)]
 
+mod cost;
 mod nodes;
 mod plain_cut;
 mod reading;
