@@ -3,6 +3,7 @@ pub mod RowLaws
 pub mod Numbers
 pub mod BelowLaws
 pub mod MeetingLaws
+pub mod CostLaws
 pub mod NotingLaws
 pub mod PinLaws
 pub mod SourceLaws

@@ -1,12 +1,11 @@
 -- One more node of a row met.
-use Rattle.std.proofs.Common.{◌≡◌, ℕ, zero, suc, ◌+◌, ◌<◌, ◌≤◌, ◌⊎◌, inl, inr, Bool, true, false, cond, eqb, not, ◌&&◌, ◌||◌, List, [], ◌∷◌, length, refl, sym, ◌∙◌, ap, subst, arith, get_or, take}
-use Rattle.std.specs.List.{list_any, All}
+use Rattle.std.proofs.Common.{◌≡◌, ℕ, zero, suc, ◌+◌, ◌<◌, ◌⊎◌, inl, inr, Bool, true, false, eqb, not, ◌&&◌, ◌||◌, List, length, refl, sym, ◌∙◌, ap, arith, get_or, take}
+use Rattle.std.specs.List.{list_any}
 use Rattle.std.proofs.lemmas.Bool.{cases_eq, eq-eqb, ne_eqb}
-use Rattle.std.proofs.lemmas.List.{take_all}
 use Rattle.std.proofs.lemmas.List.Folds.{list_any_more}
 use Rattle.partitioner.specs.Below.{one_if, count_below}
 use Rattle.partitioner.specs.Meeting.{is_met}
-use Rattle.partitioner.proofs.BelowLaws.{count_changed, count_none, count_same}
+use Rattle.partitioner.proofs.BelowLaws.{count_changed, count_same}
 
 spread : (b c d : Bool) → (b && (c || d)) ≡ ((b && c) || (b && d))
 spread true c d = refl

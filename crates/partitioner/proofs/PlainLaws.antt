@@ -1,14 +1,13 @@
 -- The plain cut keeps the rule of sizes.
-use Rattle.std.proofs.Common.{◌≡◌, ℕ, zero, suc, ◌+◌, ◌-◌, ◌*◌, ◌/◌, ◌%◌, ◌<◌, ◌≤◌, ◌⊎◌, inl, inr, Bool, true, false, cond, eqb, min, List, [], ◌∷◌, ◌++◌, length, map, refl, sym, ◌∙◌, ap, subst, arith, get_or, add-one}
+use Rattle.std.proofs.Common.{◌≡◌, ℕ, zero, suc, ◌+◌, ◌-◌, ◌*◌, ◌/◌, ◌%◌, ◌<◌, ◌≤◌, ◌⊎◌, inl, inr, Bool, true, false, cond, eqb, List, length, map, refl, sym, ◌∙◌, ap, subst, arith, get_or, add-one}
 use Rattle.std.specs.List.{range_with_len, All}
 use Rattle.std.specs.Int.{div_ceil}
 use Rattle.std.proofs.lemmas.Bool.Decides.{nat_tests}
-use Rattle.std.proofs.lemmas.List.{length-map}
 use Rattle.std.proofs.lemmas.List.FromFn.{length-map-range_with_len, get_or-map-range_with_len, sum_by-map-range_with_len_more}
 use Rattle.std.proofs.lemmas.Nat.{div-add-mod', mod_below, div_below}
 use Rattle.std.proofs.lemmas.Grind.{div_ceil_times}
 use Rattle.flat_net.specs.Net.{Net}
-use Rattle.partitioner.specs.Sizes.{held, capacity, plain_parts, KeepsSize}
+use Rattle.partitioner.specs.Sizes.{held, plain_parts, KeepsSize}
 
 -- the partitions of the first n nodes
 abbrev plain_of : ℕ → ℕ → List ℕ

@@ -1,5 +1,5 @@
 -- Rows of numbers kept in vectors.
-use Rattle.std.proofs.Common.{◌≡◌, ℕ, ◌+◌, ◌<◌, List, [], ◌∷◌, ◌++◌, length, map, set, get_or, replicate, refl, sym, ◌∙◌, ap, arith, vec_items, Vec, Global, slice_index_or, slice_set}
+use Rattle.std.proofs.Common.{◌≡◌, ℕ, ◌+◌, ◌<◌, List, [], ◌∷◌, ◌++◌, length, map, set, get_or, replicate, sym, ◌∙◌, ap}
 use Rattle.std.proofs.lemmas.List.{map-set, map-append, replicate_more, get_or-map}
 
 -- one number put behind a row

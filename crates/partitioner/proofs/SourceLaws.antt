@@ -1,13 +1,13 @@
 -- The rows of the nodes that a node reads, made from the rows of the nodes that read it.
-use Rattle.std.proofs.Common.{◌≡◌, ℕ, zero, suc, ◌+◌, ◌-◌, ◌<◌, ◌≤◌, Bool, true, false, eqb, ◌||◌, List, [], ◌∷◌, length, refl, sym, ◌∙◌, ap, subst, arith, get_or, take}
+use Rattle.std.proofs.Common.{◌≡◌, ℕ, suc, ◌+◌, ◌<◌, ◌≤◌, Bool, eqb, ◌||◌, List, [], length, refl, sym, ◌∙◌, ap, subst, arith, get_or, take}
 use Rattle.std.specs.List.{range_with_len, list_any, All}
 use Rattle.std.proofs.lemmas.List.{take_all}
 use Rattle.std.proofs.lemmas.List.Folds.{list_any_more}
 use Rattle.std.proofs.lemmas.List.Elements.{All-filter}
 use Rattle.flat_net.specs.Net.{Net}
-use Rattle.partitioner.specs.Reading.{reads, reads_other, is_source, marked_by_row}
+use Rattle.partitioner.specs.Reading.{reads_other, is_source, marked_by_row}
 use Rattle.partitioner.specs.Noting.{Lists, ListsMarked, noted, related}
-use Rattle.partitioner.proofs.NotingLaws.{noted_marks, marks_same, marks_none, marks_all}
+use Rattle.partitioner.proofs.NotingLaws.{noted_marks, marks_none, marks_all}
 use Rattle.partitioner.proofs.Numbers.{numbers_below, any_passing}
 
 -- the numbers of a row are in range

@@ -5,10 +5,11 @@
 //! never raises the cost.
 #![tactic(auto)]
 
-mod cost;
 mod nodes;
+mod pairs;
 mod plain_cut;
 mod reading;
 mod rows;
 
+pub use pairs::cost;
 pub use plain_cut::plain;

@@ -1,4 +1,4 @@
-use Rattle.std.proofs.Common.{◌≡◌, ℕ, ◌+◌, ◌-◌, ◌<◌, ◌≤◌, List, length, get_or, sym, subst, arith, rules}
+use Rattle.std.proofs.Common.{◌≡◌, ℕ, ◌+◌, ◌-◌, List, length, get_or, sym, subst, arith}
 use Rattle.flat_net.specs.Net.{node_of, pins_at}
 use Rattle.partitioner.proofs.PinLaws.{Marked, node_pins, pin_noted}
 use Rattle.partitioner.proofs.reading.note_pin.Goals as goal

@@ -1,4 +1,4 @@
-use Rattle.std.proofs.Common.{◌≡◌, ℕ, ◌+◌, ◌≤◌, length, subst, arith}
+use Rattle.std.proofs.Common.{◌≡◌, ℕ, ◌+◌, length, subst, arith}
 use Rattle.flat_net.specs.Net.{node_of, pins_at}
 use Rattle.partitioner.proofs.PinLaws.{node_pins, pins_end}
 use Rattle.partitioner.proofs.reading.note_pins.Goals as goal

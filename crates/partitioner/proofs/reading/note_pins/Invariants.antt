@@ -1,4 +1,3 @@
-use Rattle.std.proofs.Common.{ℕ}
 use Rattle.partitioner.proofs.PinLaws.{Marked}
 use Rattle.partitioner.proofs.reading.note_pins.Given as goal
 

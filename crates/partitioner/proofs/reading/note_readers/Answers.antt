@@ -1,6 +1,5 @@
-use Rattle.std.proofs.Common.{◌≡◌, ◌<◌, ◌+◌, ◌∙◌, ℕ, List, length, get_or, slice_index_or, refl, sym, subst, arith}
+use Rattle.std.proofs.Common.{◌<◌, ◌+◌, ◌∙◌, ℕ, List, length, get_or, refl, sym, subst, arith}
 use Rattle.partitioner.specs.Reading.{reads_other}
-use Rattle.partitioner.specs.Noting.{noted, related}
 use Rattle.partitioner.proofs.SourceLaws.{MarkedSources, rows_below, source_noted, sources_start, sources_end}
 use Rattle.partitioner.proofs.reading.note_readers.Goals as goal
 

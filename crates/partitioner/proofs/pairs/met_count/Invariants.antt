@@ -1,8 +1,8 @@
-use Rattle.std.proofs.Common.{◌≡◌, ◌≤◌, ℕ, Bool, List, nat_eq, slice_index}
+use Rattle.std.proofs.Common.{◌≡◌, ◌≤◌, ℕ, Bool, List, nat_eq}
 use Rattle.std.specs.HashSet.{contains}
 use Rattle.partitioner.specs.Below.{count_below}
 use Rattle.partitioner.specs.Meeting.{is_met}
-use Rattle.partitioner.proofs.cost.met_count.Given as goal
+use Rattle.partitioner.proofs.pairs.met_count.Given as goal
 
 -- the partitions met so far, and how many they are
 pub record Met (seen : ℕ → Bool) (count bound own : ℕ) (of row : List ℕ) (j : ℕ) : Type 0 where

@@ -40,3 +40,18 @@ fn met_count(alloc: Global, parts: &Parts, x: u32, row: &[u32]) -> Result<u64, O
     }
     Ok(count)
 }
+
+/// The number of pairs of a node and a partition other than its own in which some node reads it.
+/// `parts` has one number per node.
+pub fn cost(alloc: Global, n: &FlatNet, parts: &Parts) -> Result<u64, OutOfMemory>
+    requires { length parts.now.of ≡ length n.now.net.nodes }
+    ensures { IfOk result (λ pairs. pairs ≡ cost n.now.net parts.now) }
+{
+    let readers = readers_of(alloc, n)?;
+    let _partitions = parts.count();
+    let mut total = 0;
+    for x in 0..nodes_of(n) {
+        total += met_count(alloc, parts, x, readers.row(x))?;
+    }
+    Ok(total)
+}
