@@ -73,3 +73,8 @@ sum_le (suc k) m f h =
     let before = sum_le k m f (λ x l. h x (omega arith)) in
     let here = h k (omega arith) in
     omega (arith, before, here)
+
+pub sum_zero : (k : ℕ) → sum_below k (λ x. 0) ≡ 0
+unfolding sum_below
+sum_zero zero = refl
+sum_zero (suc k) = omega (arith, sum_zero k)

@@ -4,6 +4,8 @@ pub mod Numbers
 pub mod BelowLaws
 pub mod MeetingLaws
 pub mod CostLaws
+pub mod PutLaws
+pub mod LowestLaws
 pub mod NotingLaws
 pub mod PinLaws
 pub mod SourceLaws
