@@ -1,6 +1,7 @@
 -- Sums and counts over the numbers below a bound.
 use Rattle.std.proofs.Common.{◌≡◌, ℕ, zero, suc, ◌+◌, ◌*◌, ◌<◌, ◌≤◌, ◌⊎◌, inl, inr, Bool, true, false, refl, ap, arith, add-one}
 use Rattle.std.proofs.lemmas.Bool.{cases_eq}
+use mir.Val.{bool_byte}
 use Rattle.partitioner.specs.Below.{sum_below, one_if, count_below}
 
 pub sum_more : (k : ℕ) (f : ℕ → ℕ) → sum_below (k + 1) f ≡ sum_below k f + f k
@@ -78,3 +79,8 @@ pub sum_zero : (k : ℕ) → sum_below k (λ x. 0) ≡ 0
 unfolding sum_below
 sum_zero zero = refl
 sum_zero (suc k) = omega (arith, sum_zero k)
+
+-- a bool as a number
+pub byte_of : (b : Bool) → bool_byte b ≡ one_if b
+byte_of true = refl
+byte_of false = refl

@@ -6,6 +6,8 @@ pub mod MeetingLaws
 pub mod CostLaws
 pub mod PutLaws
 pub mod LowestLaws
+pub mod CountLaws
+pub mod LossLaws
 pub mod NotingLaws
 pub mod PinLaws
 pub mod SourceLaws

@@ -107,7 +107,7 @@ after_is n parts i b x p l l' ne =
     let own : get_or (set parts.of i b) x 0 ≡ get_or parts.of x 0 = get_or-set_other parts.of i x b 0 (λ e. ne (sym e)) in
     ap (λ (z : ℕ). not (eqb z p) && list_any (λ y. eqb (get_or (set parts.of i b) y 0) p) (other_readers n x)) own
     ∙ ap (λ (c : Bool). not (eqb (get_or parts.of x 0) p) && c)
-      (any_put parts.of i b p (other_readers n x) l ∙ ap (λ (c : Bool). is_kept n parts.of i x p || (c && eqb b p)) (is_among n i x l'))
+    (any_put parts.of i b p (other_readers n x) l ∙ ap (λ (c : Bool). is_kept n parts.of i x p || (c && eqb b p)) (is_among n i x l'))
 
 foreign_put_other : (n : Net) (parts : PlainParts) (i b x : ℕ) → i < length parts.of → i < length n.nodes → b < parts.count → (i ≡ x → ⊥) → foreign_count n (put parts i b) x ≡ count_below parts.count (without n parts i x) + one_if (reads_other n i x && is_fresh n parts.of i x b)
 unfolding without after_put
@@ -115,7 +115,7 @@ foreign_put_other n parts i b x l l' within ne =
     let counted : foreign_count n (put parts i b) x ≡ count_below parts.count (after_put n parts i b x) = foreign_others n (put parts i b) x ∙ count_same parts.count (λ p. not (eqb (get_or (set parts.of i b) x 0) p) && list_any (λ y. eqb (get_or (set parts.of i b) y 0) p) (other_readers n x)) (after_put n parts i b x) (λ p h. after_is n parts i b x p l l' ne) in
     let balance = count_changed parts.count b (without n parts i x) (after_put n parts i b x) within (λ p h other. sym (ap (λ (c : Bool). not (eqb (get_or parts.of x 0) p) && (is_kept n parts.of i x p || (reads_other n i x && c))) (ne_eqb b p (λ e. other (sym e))) ∙ ap (λ (c : Bool). not (eqb (get_or parts.of x 0) p) && c) (or_no (is_kept n parts.of i x p) (reads_other n i x)))) in
     let here : one_if (after_put n parts i b x b) ≡ one_if (without n parts i x b) + one_if (reads_other n i x && is_fresh n parts.of i x b) =
-      ap (λ (c : Bool). one_if (not (eqb (get_or parts.of x 0) b) && (is_kept n parts.of i x b || (reads_other n i x && c)))) (eq-eqb b b refl) ∙ one_more (eqb (get_or parts.of x 0) b) (is_kept n parts.of i x b) (reads_other n i x) in
+    ap (λ (c : Bool). one_if (not (eqb (get_or parts.of x 0) b) && (is_kept n parts.of i x b || (reads_other n i x && c)))) (eq-eqb b b refl) ∙ one_more (eqb (get_or parts.of x 0) b) (is_kept n parts.of i x b) (reads_other n i x) in
     omega (arith, counted, balance, here)
 
 not_itself : (n : Net) (i : ℕ) → reads_other n i i ≡ false
@@ -136,8 +136,8 @@ wanted_still n parts i b p l l' =
 foreign_put_same : (n : Net) (parts : PlainParts) (i b : ℕ) → i < length parts.of → i < length n.nodes → b < parts.count → foreign_count n (put parts i b) i + 1 ≡ count_below parts.count (is_wanted n parts.of i) + one_if (not (is_wanted n parts.of i b))
 foreign_put_same n parts i b l l' within =
     let counted : foreign_count n (put parts i b) i ≡ count_below parts.count (λ p. not (eqb b p) && is_wanted n parts.of i p) =
-      foreign_others n (put parts i b) i ∙ count_same parts.count (λ p. not (eqb (get_or (set parts.of i b) i 0) p) && list_any (λ y. eqb (get_or (set parts.of i b) y 0) p) (other_readers n i)) (λ p. not (eqb b p) && is_wanted n parts.of i p)
-        (λ p h. ap (λ (z : ℕ). not (eqb z p) && list_any (λ y. eqb (get_or (set parts.of i b) y 0) p) (other_readers n i)) (get_or-set_same parts.of i b 0 l) ∙ ap (λ (c : Bool). not (eqb b p) && c) (wanted_still n parts i b p l l')) in
+    foreign_others n (put parts i b) i ∙ count_same parts.count (λ p. not (eqb (get_or (set parts.of i b) i 0) p) && list_any (λ y. eqb (get_or (set parts.of i b) y 0) p) (other_readers n i)) (λ p. not (eqb b p) && is_wanted n parts.of i p)
+    (λ p h. ap (λ (z : ℕ). not (eqb z p) && list_any (λ y. eqb (get_or (set parts.of i b) y 0) p) (other_readers n i)) (get_or-set_same parts.of i b 0 l) ∙ ap (λ (c : Bool). not (eqb b p) && c) (wanted_still n parts i b p l l')) in
     let balance = count_changed parts.count b (λ p. not (eqb b p) && is_wanted n parts.of i p) (is_wanted n parts.of i) within (λ p h other. ap (λ (c : Bool). not c && is_wanted n parts.of i p) (ne_eqb b p (λ e. other (sym e)))) in
     let here : one_if (not (eqb b b) && is_wanted n parts.of i b) ≡ 0 = ap (λ (c : Bool). one_if (not c && is_wanted n parts.of i b)) (eq-eqb b b refl) in
     omega (arith, counted, balance, here, one_of_two (is_wanted n parts.of i b))
@@ -154,7 +154,7 @@ foreign_put n parts i b x l l' within = go (cases_eq i x)
     go (inl e) =
         let is : eqb i x ≡ true = eq-eqb i x e in
         let at : foreign_count n (put parts i b) x + 1 ≡ count_below parts.count (is_wanted n parts.of i) + one_if (not (is_wanted n parts.of i b)) =
-          subst (λ (z : ℕ). foreign_count n (put parts i b) z + 1 ≡ count_below parts.count (is_wanted n parts.of i) + one_if (not (is_wanted n parts.of i b))) e (foreign_put_same n parts i b l l' within) in
+        subst (λ (z : ℕ). foreign_count n (put parts i b) z + 1 ≡ count_below parts.count (is_wanted n parts.of i) + one_if (not (is_wanted n parts.of i b))) e (foreign_put_same n parts i b l l' within) in
         let one : one_if (eqb i x) ≡ 1 = ap one_if is in
         let base : base_at n parts i x ≡ count_below parts.count (is_wanted n parts.of i) = ap (λ (c : Bool). cond c (count_below parts.count (is_wanted n parts.of i)) (count_below parts.count (without n parts i x))) is in
         let more : loss_at n parts i b x ≡ one_if (not (is_wanted n parts.of i b)) = ap (λ (c : Bool). cond c (one_if (not (is_wanted n parts.of i b))) (one_if (reads_other n i x && is_fresh n parts.of i x b))) is in
@@ -220,7 +220,6 @@ loss_sum n parts i b l =
         let left : loss_at n parts i b x ≡ one_if (reads_other n i x && is_fresh n parts.of i x b) = ap (λ (c : Bool). cond c (one_if (not (is_wanted n parts.of i b))) (one_if (reads_other n i x && is_fresh n parts.of i x b))) is in
         let right : cond (eqb i x) (one_if (not (is_wanted n parts.of i b))) 0 ≡ 0 = ap (λ (c : Bool). cond c (one_if (not (is_wanted n parts.of i b))) 0) is in
         omega (arith, left, right)
-
 
 -- the cost without what node i does
 pub base : Net → PlainParts → ℕ → ℕ

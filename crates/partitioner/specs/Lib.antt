@@ -3,6 +3,8 @@ pub mod Reading
 pub mod Noting
 pub mod Meeting
 pub mod Cost
+pub mod Counting
 pub mod Loss
 pub mod Sizes
 pub mod Refining
+pub mod Tracking

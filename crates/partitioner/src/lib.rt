@@ -5,8 +5,11 @@
 //! never raises the cost.
 #![tactic(auto)]
 
+mod counting;
+mod losses;
 mod nodes;
 mod pairs;
+mod partitioning;
 mod plain_cut;
 mod reading;
 mod rows;

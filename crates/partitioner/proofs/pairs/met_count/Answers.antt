@@ -1,15 +1,10 @@
 use Rattle.std.proofs.Common.{◌≡◌, ◌∙◌, Bool, true, false, not, eqb, ◌&&◌, ◌||◌, get_or, nat_eq, refl, sym, ap, arith}
 use Rattle.std.specs.List.{list_any}
-use mir.Val.{bool_byte}
 use Rattle.partitioner.specs.Below.{one_if}
 use Rattle.partitioner.specs.Meeting.{is_met}
-use Rattle.partitioner.proofs.BelowLaws.{count_le, one_if_le}
+use Rattle.partitioner.proofs.BelowLaws.{count_le, one_if_le, byte_of}
 use Rattle.partitioner.proofs.MeetingLaws.{met_step, met_more, met_none, met_none_counted}
 use Rattle.partitioner.proofs.pairs.met_count.Goals as goal
-
-byte_of : (b : Bool) → bool_byte b ≡ one_if b
-byte_of true = refl
-byte_of false = refl
 
 pub loop-y-init : goal.loop-y-init
 loop-y-init c =
