@@ -8,6 +8,7 @@ pub mod PutLaws
 pub mod LowestLaws
 pub mod CountLaws
 pub mod LossLaws
+pub mod PlaceLaws
 pub mod NotingLaws
 pub mod PinLaws
 pub mod SourceLaws

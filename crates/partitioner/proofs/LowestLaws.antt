@@ -2,14 +2,7 @@
 use Rattle.std.proofs.Common.{◌≡◌, ℕ, zero, suc, ◌+◌, ◌<◌, ◌≤◌, ◌⊎◌, inl, inr, Bool, true, false, cond, eqb, ltb, not, ◌&&◌, refl, sym, ◌∙◌, ap, subst, arith}
 use Rattle.std.proofs.lemmas.Bool.{cases_eq, cases_lt, cases_order, cases_Bool, lt-ltb, le-ltb, ltb-true, ltb-false, and_parts, true≢false}
 use Rattle.partitioner.specs.Refining.{lowest, lower_of}
-
--- a is as good as c: lower there, or no higher and either the start or no later
-abbrev pub AsGood : (ℕ → ℕ) → ℕ → ℕ → ℕ → Type 0
-AsGood f start a c = (f a < f c) ⊎ ((f a ≡ f c) × ((a ≡ start) ⊎ (a ≤ c)))
-
--- a is the start, or passes below the bound and is lower than the start
-abbrev pub IsReached : (ℕ → ℕ) → (ℕ → Bool) → ℕ → ℕ → ℕ → Type 0
-IsReached f passes start bound a = (a ≡ start) ⊎ ((a < bound) × (passes a ≡ true) × (f a < f start))
+use Rattle.partitioner.specs.Leading.{AsGood, IsReached}
 
 pub record IsLowest (f : ℕ → ℕ) (passes : ℕ → Bool) (start bound a : ℕ) : Type 0 where
   pub reached : IsReached f passes start bound a

@@ -8,3 +8,4 @@ pub mod Loss
 pub mod Sizes
 pub mod Refining
 pub mod Tracking
+pub mod Leading

@@ -10,6 +10,7 @@ mod losses;
 mod nodes;
 mod pairs;
 mod partitioning;
+mod placing;
 mod plain_cut;
 mod reading;
 mod rows;
