@@ -9,6 +9,8 @@ pub mod LowestLaws
 pub mod CountLaws
 pub mod LossLaws
 pub mod PlaceLaws
+pub mod HeldLaws
+pub mod TrackLaws
 pub mod NotingLaws
 pub mod PinLaws
 pub mod SourceLaws

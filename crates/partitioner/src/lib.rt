@@ -14,6 +14,7 @@ mod placing;
 mod plain_cut;
 mod reading;
 mod rows;
+mod tracking;
 
 pub use pairs::cost;
 pub use plain_cut::plain;
