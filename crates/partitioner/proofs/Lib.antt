@@ -11,6 +11,7 @@ pub mod LossLaws
 pub mod PlaceLaws
 pub mod HeldLaws
 pub mod TrackLaws
+pub mod MinimalLaws
 pub mod NotingLaws
 pub mod PinLaws
 pub mod SourceLaws

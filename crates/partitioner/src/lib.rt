@@ -7,6 +7,7 @@
 
 mod counting;
 mod losses;
+mod minimal;
 mod nodes;
 mod pairs;
 mod partitioning;
@@ -16,5 +17,6 @@ mod reading;
 mod rows;
 mod tracking;
 
+pub use minimal::is_minimal;
 pub use pairs::cost;
 pub use plain_cut::plain;

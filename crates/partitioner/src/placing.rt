@@ -17,7 +17,7 @@ pub struct Lead {
 }
 
 /// Where node x stands.
-fn part_of(n: &FlatNet, p: &Partitioning, x: u32) -> u32
+pub fn part_of(n: &FlatNet, p: &Partitioning, x: u32) -> u32
     requires tracks { Tracks n.now.net p.now }
     requires node { x < length n.now.net.nodes }
     ensures value { result ≡ slice_index p.now.of.items x }
