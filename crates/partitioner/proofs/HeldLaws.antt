@@ -1,9 +1,9 @@
 -- How many nodes each partition holds.
-use Rattle.std.proofs.Common.{◌≡◌, ℕ, ◌+◌, ◌<◌, ◌≤◌, ◌⊎◌, inl, inr, Bool, true, false, cond, eqb, List, length, refl, sym, ◌∙◌, ap, subst, arith, get_or, set, take}
+use Rattle.std.proofs.Common.{◌≡◌, ℕ, ◌+◌, ◌-◌, ◌<◌, ◌≤◌, ◌⊎◌, inl, inr, Bool, true, false, cond, eqb, List, length, refl, sym, ◌∙◌, ap, subst, arith, get_or, set, take}
 use Rattle.std.specs.List.{count_by}
 use Rattle.std.proofs.lemmas.Bool.{cases_eq, eq-eqb, ne_eqb}
-use Rattle.std.proofs.lemmas.List.{get_or-set_same, get_or-set_other, length-take}
-use Rattle.std.proofs.lemmas.List.Sums.{sum_by_more, sum_by-set, count_by-le-length}
+use Rattle.std.proofs.lemmas.List.{get_or-set_same, get_or-set_other, length-take, length-set}
+use Rattle.std.proofs.lemmas.List.Sums.{sum_by_more, sum_by-set, count_by-le-length, get_or-le-sum_by}
 use Rattle.partitioner.specs.Below.{one_if}
 use Rattle.partitioner.specs.Sizes.{held}
 
@@ -31,3 +31,38 @@ held_counted of holds count j q r l long within at before h = go (cases_eq q r)
 -- a node that moves
 pub held_moved : (of : List ℕ) (i b q : ℕ) → i < length of → held (set of i b) q + one_if (eqb (get_or of i 0) q) ≡ held of q + one_if (eqb b q)
 held_moved of i b q l = sum_by-set (λ r. one_if (eqb r q)) of i b 0 l
+
+pub held_some : (of : List ℕ) (i : ℕ) → i < length of → 0 < held of (get_or of i 0)
+held_some of i l =
+    let one : one_if (eqb (get_or of i 0) (get_or of i 0)) ≡ 1 = ap one_if (eq-eqb (get_or of i 0) (get_or of i 0) refl) in
+    omega (arith, get_or-le-sum_by (λ r. one_if (eqb r (get_or of i 0))) of i 0 l, one)
+
+pub held_within : (of : List ℕ) (q : ℕ) → held of q ≤ length of
+held_within of q = count_by-le-length (λ r. eqb r q) of
+
+-- the counts kept for two partitions, shifted
+pub held_shifted : (holds : List ℕ) (a b q : ℕ) → a < length holds → b < length holds → (a ≡ b → ⊥) → 0 < get_or holds a 0 → get_or (set (set holds a (get_or holds a 0 - 1)) b (get_or holds b 0 + 1)) q 0 + one_if (eqb a q) ≡ get_or holds q 0 + one_if (eqb b q)
+held_shifted holds a b q l m apart some = go (cases_eq b q) (cases_eq a q)
+  where
+    go : (b ≡ q) ⊎ (b ≡ q → ⊥) → (a ≡ q) ⊎ (a ≡ q → ⊥) → get_or (set (set holds a (get_or holds a 0 - 1)) b (get_or holds b 0 + 1)) q 0 + one_if (eqb a q) ≡ get_or holds q 0 + one_if (eqb b q)
+    go (inl e) (inl f) = absurd (apart (f ∙ sym e))
+    go (inl e) (inr nf) =
+        let here : get_or (set (set holds a (get_or holds a 0 - 1)) b (get_or holds b 0 + 1)) q 0 ≡ get_or holds b 0 + 1 =
+        subst (λ (r : ℕ). get_or (set (set holds a (get_or holds a 0 - 1)) b (get_or holds b 0 + 1)) r 0 ≡ get_or holds b 0 + 1) e (get_or-set_same (set holds a (get_or holds a 0 - 1)) b (get_or holds b 0 + 1) 0 (omega (arith, length-set holds a (get_or holds a 0 - 1), m))) in
+        let at : get_or holds b 0 ≡ get_or holds q 0 = ap (λ (r : ℕ). get_or holds r 0) e in
+        let none : one_if (eqb a q) ≡ 0 = ap one_if (ne_eqb a q nf) in
+        let one : one_if (eqb b q) ≡ 1 = ap one_if (eq-eqb b q e) in
+        omega (arith, here, at, none, one)
+    go (inr ne) (inl f) =
+        let outer = get_or-set_other (set holds a (get_or holds a 0 - 1)) b q (get_or holds b 0 + 1) 0 (λ e. ne (sym e)) in
+        let here : get_or (set holds a (get_or holds a 0 - 1)) q 0 ≡ get_or holds a 0 - 1 = subst (λ (r : ℕ). get_or (set holds a (get_or holds a 0 - 1)) r 0 ≡ get_or holds a 0 - 1) f (get_or-set_same holds a (get_or holds a 0 - 1) 0 l) in
+        let at : get_or holds a 0 ≡ get_or holds q 0 = ap (λ (r : ℕ). get_or holds r 0) f in
+        let one : one_if (eqb a q) ≡ 1 = ap one_if (eq-eqb a q f) in
+        let none : one_if (eqb b q) ≡ 0 = ap one_if (ne_eqb b q ne) in
+        omega (arith, outer, here, at, one, none, some)
+    go (inr ne) (inr nf) =
+        let outer = get_or-set_other (set holds a (get_or holds a 0 - 1)) b q (get_or holds b 0 + 1) 0 (λ e. ne (sym e)) in
+        let here = get_or-set_other holds a q (get_or holds a 0 - 1) 0 (λ e. nf (sym e)) in
+        let no : one_if (eqb a q) ≡ 0 = ap one_if (ne_eqb a q nf) in
+        let none : one_if (eqb b q) ≡ 0 = ap one_if (ne_eqb b q ne) in
+        omega (arith, outer, here, no, none)

@@ -12,6 +12,7 @@ pub mod PlaceLaws
 pub mod HeldLaws
 pub mod TrackLaws
 pub mod MinimalLaws
+pub mod ShiftLaws
 pub mod NotingLaws
 pub mod PinLaws
 pub mod SourceLaws

@@ -1,5 +1,5 @@
 -- The numbers below a bound, and those of them that pass a test.
-use Rattle.std.proofs.Common.{◌≡◌, ℕ, zero, suc, ◌+◌, ◌<◌, ◌⊎◌, inl, inr, Bool, true, false, cond, eqb, ◌||◌, List, [], ◌∷◌, ◌++◌, refl, ◌∙◌, ap, subst, arith}
+use Rattle.std.proofs.Common.{◌≡◌, ℕ, zero, suc, ◌+◌, ◌<◌, ◌⊎◌, inl, inr, Bool, true, false, cond, eqb, ◌||◌, List, [], ◌∷◌, ◌++◌, refl, ◌∙◌, ap, subst, arith, sym}
 use Rattle.std.specs.List.{range_with_len, All, filter, list_any}
 use Rattle.std.proofs.lemmas.Bool.{eq-eqb, ne_eqb, cases_eq}
 use Rattle.std.proofs.lemmas.List.Elements.{filter-append, All-filter, All-head, All-tail}
@@ -62,3 +62,10 @@ passing_step p n y l before =
 pub any_passing : (p : ℕ → Bool) (n y : ℕ) → y < n → list_any (λ m. eqb m y) (filter p (range_with_len 0 n)) ≡ p y
 any_passing p zero y l = absurd (omega arith)
 any_passing p (suc n) y l = passing_step p n y l (λ h. any_passing p n y h)
+
+pub eqb_turned : (a b : ℕ) → eqb a b ≡ eqb b a
+eqb_turned a b = go (cases_eq a b)
+  where
+    go : (a ≡ b) ⊎ (a ≡ b → ⊥) → eqb a b ≡ eqb b a
+    go (inl e) = eq-eqb a b e ∙ sym (eq-eqb b a (sym e))
+    go (inr ne) = ne_eqb a b ne ∙ sym (ne_eqb b a (λ e. ne (sym e)))

@@ -11,7 +11,7 @@ use Rattle.partitioner.specs.Reading.{reads, reads_other, other_readers, other_s
 use Rattle.partitioner.specs.Cost.{foreign_count, cost, is_read_in}
 use Rattle.partitioner.specs.Loss.{is_kept, is_fresh, is_wanted, loss}
 use Rattle.partitioner.specs.Refining.{put}
-use Rattle.partitioner.proofs.Numbers.{passing_more, any_passing}
+use Rattle.partitioner.proofs.Numbers.{passing_more, any_passing, eqb_turned}
 use Rattle.partitioner.proofs.BelowLaws.{count_same, count_changed, sum_same, sum_balanced, sum_zero, one_if_le}
 use Rattle.partitioner.proofs.CostLaws.{met_is}
 
@@ -52,14 +52,7 @@ any_put of i b p (y ∷ ys) l =
 -- the two ways to write the test
 any_turned : (i : ℕ) (ys : List ℕ) → list_any (λ y. eqb i y) ys ≡ list_any (λ y. eqb y i) ys
 any_turned i [] = refl
-any_turned i (y ∷ ys) = ap (λ (c : Bool). c || list_any (λ y. eqb i y) ys) (turned i y) ∙ ap (λ (c : Bool). eqb y i || c) (any_turned i ys)
-  where
-    turned : (a b : ℕ) → eqb a b ≡ eqb b a
-    turned a b = go (cases_eq a b)
-      where
-        go : (a ≡ b) ⊎ (a ≡ b → ⊥) → eqb a b ≡ eqb b a
-        go (inl e) = eq-eqb a b e ∙ sym (eq-eqb b a (sym e))
-        go (inr ne) = ne_eqb a b ne ∙ sym (ne_eqb b a (λ e. ne (sym e)))
+any_turned i (y ∷ ys) = ap (λ (c : Bool). c || list_any (λ y. eqb i y) ys) (eqb_turned i y) ∙ ap (λ (c : Bool). eqb y i || c) (any_turned i ys)
 
 -- node i is among the other readers of x exactly where it reads x
 is_among : (n : Net) (i x : ℕ) → i < length n.nodes → list_any (λ y. eqb i y) (other_readers n x) ≡ reads_other n i x

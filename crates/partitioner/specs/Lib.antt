@@ -9,3 +9,4 @@ pub mod Sizes
 pub mod Refining
 pub mod Tracking
 pub mod Leading
+pub mod Moving

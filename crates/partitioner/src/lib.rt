@@ -8,6 +8,7 @@
 mod counting;
 mod losses;
 mod minimal;
+mod moving;
 mod nodes;
 mod pairs;
 mod partitioning;
