@@ -1,15 +1,13 @@
 -- Tests of rows by the counts of readers.
-use Rattle.std.proofs.Common.{◌≡◌, ℕ, zero, suc, ◌+◌, ◌*◌, ◌<◌, ◌≤◌, ◌⊎◌, inl, inr, Bool, true, false, cond, eqb, ltb, not, ◌&&◌, ◌||◌, List, [], ◌∷◌, length, refl, sym, ◌∙◌, ap, subst, arith, get_or}
-use Rattle.std.specs.List.{range_with_len, filter, list_any, count_by}
-use Rattle.std.proofs.lemmas.Bool.{cases_eq, cases_Bool, eq-eqb, ne_eqb, lt-ltb, le-ltb}
-use Rattle.std.proofs.lemmas.Bool.Decides.{nat_tests}
+use Rattle.std.proofs.Common.{◌≡◌, ℕ, zero, suc, ◌+◌, ◌*◌, ◌<◌, ◌≤◌, ◌⊎◌, inl, inr, Bool, true, false, cond, eqb, ltb, not, ◌&&◌, ◌||◌, List, [], ◌∷◌, length, refl, sym, ◌∙◌, ap, arith, get_or}
+use Rattle.std.specs.List.{list_any, count_by}
+use Rattle.std.proofs.lemmas.Bool.{cases_eq, eq-eqb, ne_eqb, lt-ltb}
 use Rattle.std.proofs.lemmas.List.Sums.{sum_by-cons}
 use Rattle.flat_net.specs.Net.{Net}
 use Rattle.partitioner.specs.Below.{one_if, count_below}
 use Rattle.partitioner.specs.Reading.{reads_other, other_readers}
-use Rattle.partitioner.specs.Loss.{is_kept, is_fresh, is_wanted}
+use Rattle.partitioner.specs.Loss.{is_fresh, is_wanted}
 use Rattle.partitioner.specs.Tracking.{reader_count}
-use Rattle.partitioner.proofs.BelowLaws.{count_same, one_if_le}
 use Rattle.partitioner.proofs.PutLaws.{count_passing}
 
 pub any_by_count : (f : ℕ → Bool) (ys : List ℕ) → list_any f ys ≡ ltb 0 (count_by f ys)

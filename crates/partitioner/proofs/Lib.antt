@@ -13,6 +13,7 @@ pub mod HeldLaws
 pub mod TrackLaws
 pub mod MinimalLaws
 pub mod ShiftLaws
+pub mod RefineLaws
 pub mod NotingLaws
 pub mod PinLaws
 pub mod SourceLaws

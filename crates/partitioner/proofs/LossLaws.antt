@@ -1,6 +1,6 @@
 -- The loss, counted over a row.
-use Rattle.std.proofs.Common.{◌≡◌, ℕ, zero, suc, ◌+◌, ◌<◌, ◌≤◌, Bool, true, false, not, List, [], ◌∷◌, length, refl, sym, ◌∙◌, ap, subst, arith, get_or, take, IsPermutation}
-use Rattle.std.specs.List.{range_with_len, filter, list_any, count_by, All}
+use Rattle.std.proofs.Common.{◌≡◌, ℕ, ◌+◌, ◌<◌, ◌≤◌, true, not, List, length, sym, ◌∙◌, ap, arith, get_or, take, IsPermutation}
+use Rattle.std.specs.List.{range_with_len, count_by, All}
 use Rattle.std.proofs.lemmas.List.{take_all}
 use Rattle.std.proofs.lemmas.List.Sums.{sum_by_more, sum_by-take-le}
 use Rattle.std.proofs.lemmas.List.Sorted.{All-permutation, sum_by-IsPermutation}

@@ -1,9 +1,9 @@
 -- Where no node would move.
-use Rattle.std.proofs.Common.{◌≡◌, ℕ, ◌<◌, ◌≤◌, ◌⊎◌, inl, inr, Bool, true, length, refl, sym, ◌∙◌, ap, subst, arith, get_or}
+use Rattle.std.proofs.Common.{◌≡◌, ℕ, ◌<◌, ◌≤◌, inl, inr, true, length, sym, ap, subst, arith, get_or}
 use Rattle.flat_net.specs.Net.{Net}
 use Rattle.tmr_base.specs.Parts.{PlainParts}
 use Rattle.partitioner.specs.Cost.{cost}
-use Rattle.partitioner.specs.Refining.{has_room, put, place, lowest, IsMinimal}
+use Rattle.partitioner.specs.Refining.{has_room, put, place, IsMinimal}
 use Rattle.partitioner.specs.Leading.{AsGood, IsReached}
 use Rattle.partitioner.proofs.LowestLaws.{IsLowest, lowest_is}
 use Rattle.partitioner.proofs.PutLaws.{put_same}

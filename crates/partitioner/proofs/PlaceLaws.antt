@@ -1,7 +1,7 @@
 -- The partition where the loss is lowest is where the cost is lowest, and few partitions need be tried.
-use Rattle.std.proofs.Common.{◌≡◌, ℕ, zero, suc, ◌+◌, ◌<◌, ◌≤◌, ◌⊎◌, inl, inr, Bool, true, false, eqb, ltb, not, ◌&&◌, ◌||◌, List, [], ◌∷◌, length, refl, sym, ◌∙◌, ap, subst, arith, get_or, take, IsPermutation}
-use Rattle.std.specs.List.{list_any, count_by, All}
-use Rattle.std.proofs.lemmas.Bool.{cases_Bool, cases_lt, cases_eq, and_parts, or_cases, eqb-true, ltb-true, not-false, true≢false}
+use Rattle.std.proofs.Common.{◌≡◌, ℕ, ◌+◌, ◌<◌, ◌≤◌, ◌⊎◌, inl, inr, Bool, true, false, eqb, ltb, not, ◌&&◌, ◌||◌, List, [], ◌∷◌, length, sym, ◌∙◌, ap, subst, arith, get_or, take, IsPermutation}
+use Rattle.std.specs.List.{list_any, All}
+use Rattle.std.proofs.lemmas.Bool.{cases_Bool, cases_lt, and_parts, or_cases, eqb-true, ltb-true, not-false, true≢false}
 use Rattle.std.proofs.lemmas.List.Elements.{All-head, All-tail}
 use Rattle.std.proofs.lemmas.List.Sums.{count_by-le-length}
 use Rattle.std.proofs.lemmas.List.{length-take}
@@ -9,7 +9,7 @@ use Rattle.flat_net.specs.Net.{Net}
 use Rattle.partitioner.specs.declared.partitioning.Partitioning.{Partitioning}
 use Rattle.partitioner.specs.declared.placing.Lead.{Lead}
 use Rattle.partitioner.specs.Below.{one_if}
-use Rattle.partitioner.specs.Reading.{reads_other, other_readers, other_sources}
+use Rattle.partitioner.specs.Reading.{other_readers, other_sources}
 use Rattle.partitioner.specs.Cost.{cost}
 use Rattle.partitioner.specs.Loss.{is_fresh, is_kept, is_wanted, loss}
 use Rattle.partitioner.specs.Refining.{has_room, put, place}

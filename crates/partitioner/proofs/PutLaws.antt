@@ -1,18 +1,18 @@
 -- The cost where one node is put into another partition.
-use Rattle.std.proofs.Common.{◌≡◌, ℕ, zero, suc, ◌+◌, ◌*◌, ◌<◌, ◌≤◌, ◌⊎◌, inl, inr, Bool, true, false, cond, eqb, not, ◌&&◌, ◌||◌, List, [], ◌∷◌, ◌++◌, length, refl, sym, ◌∙◌, ap, subst, arith, get_or, set, slice_set}
-use Rattle.std.specs.List.{range_with_len, filter, list_any, count_by, sum_by}
-use Rattle.std.proofs.lemmas.Bool.{cases_eq, cases_Bool, eq-eqb, ne_eqb}
+use Rattle.std.proofs.Common.{◌≡◌, ℕ, zero, suc, ◌+◌, ◌<◌, ◌⊎◌, inl, inr, Bool, true, false, cond, eqb, not, ◌&&◌, ◌||◌, List, [], ◌∷◌, length, refl, sym, ◌∙◌, ap, subst, arith, get_or, set}
+use Rattle.std.specs.List.{range_with_len, filter, list_any, count_by}
+use Rattle.std.proofs.lemmas.Bool.{cases_eq, eq-eqb, ne_eqb}
 use Rattle.std.proofs.lemmas.List.{get_or-set_same, get_or-set_other, set-get_or}
-use Rattle.std.proofs.lemmas.List.Sums.{sum_by-cons, sum_by-append}
+use Rattle.std.proofs.lemmas.List.Sums.{sum_by-append}
 use Rattle.flat_net.specs.Net.{Net}
 use Rattle.tmr_base.specs.Parts.{PlainParts}
 use Rattle.partitioner.specs.Below.{sum_below, one_if, count_below}
-use Rattle.partitioner.specs.Reading.{reads, reads_other, other_readers, other_sources}
+use Rattle.partitioner.specs.Reading.{reads, reads_other, other_readers}
 use Rattle.partitioner.specs.Cost.{foreign_count, cost, is_read_in}
 use Rattle.partitioner.specs.Loss.{is_kept, is_fresh, is_wanted, loss}
 use Rattle.partitioner.specs.Refining.{put}
 use Rattle.partitioner.proofs.Numbers.{passing_more, any_passing, eqb_turned}
-use Rattle.partitioner.proofs.BelowLaws.{count_same, count_changed, sum_same, sum_balanced, sum_zero, one_if_le}
+use Rattle.partitioner.proofs.BelowLaws.{count_same, count_changed, sum_same, sum_balanced, sum_zero}
 use Rattle.partitioner.proofs.CostLaws.{met_is}
 
 -- who stands in p after i is put into b

@@ -1,13 +1,13 @@
 -- Counting the readers of all nodes.
-use Rattle.std.proofs.Common.{◌≡◌, ℕ, ◌+◌, ◌<◌, ◌≤◌, ◌⊎◌, inl, inr, Bool, true, false, cond, eqb, ltb, List, [], length, refl, sym, ◌∙◌, ap, subst, arith, get_or, IsPermutation}
-use Rattle.std.specs.List.{range_with_len, filter, count_by}
+use Rattle.std.proofs.Common.{◌≡◌, ℕ, ◌+◌, ◌<◌, ◌≤◌, ◌⊎◌, inl, inr, Bool, cond, eqb, ltb, List, [], length, sym, ◌∙◌, ap, subst, arith, get_or, IsPermutation}
+use Rattle.std.specs.List.{range_with_len, count_by}
 use Rattle.std.proofs.lemmas.Bool.{cases_eq, eq-eqb, ne_eqb, lt-ltb}
 use Rattle.std.proofs.lemmas.Bool.Decides.{nat_tests}
 use Rattle.std.proofs.lemmas.List.FromFn.{length-range_with_len}
 use Rattle.std.proofs.lemmas.List.Sums.{length-filter, count_by-le-length}
 use Rattle.std.proofs.lemmas.List.Sorted.{IsPermutation-refl}
 use Rattle.flat_net.specs.Net.{Net}
-use Rattle.partitioner.specs.Reading.{reads_other, is_source, other_readers, other_sources}
+use Rattle.partitioner.specs.Reading.{is_source, other_readers, other_sources}
 use Rattle.partitioner.specs.Noting.{Lists, related}
 use Rattle.partitioner.specs.Tracking.{reader_count}
 

@@ -1,5 +1,5 @@
 -- The best partition found so far for a node.
-use Rattle.std.specs.Prelude.{◌≡◌, ℕ, ◌<◌, ◌≤◌, ◌==◌, Bool, true, not, nat_lt, ◌&&◌, ◌||◌, ◌⊎◌, List, All, slice_index}
+use Rattle.std.specs.Prelude.{◌≡◌, ℕ, ◌<◌, ◌≤◌, ◌==◌, Bool, true, not, nat_lt, ◌&&◌, ◌||◌, ◌⊎◌, All, slice_index}
 use Rattle.flat_net.specs.Net.{Net}
 use Rattle.partitioner.specs.declared.partitioning.Partitioning.{Partitioning}
 use Rattle.partitioner.specs.declared.placing.Lead.{Lead}

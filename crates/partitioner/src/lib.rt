@@ -15,9 +15,11 @@ mod partitioning;
 mod placing;
 mod plain_cut;
 mod reading;
+mod refining;
 mod rows;
 mod tracking;
 
 pub use minimal::is_minimal;
 pub use pairs::cost;
 pub use plain_cut::plain;
+pub use refining::refine;

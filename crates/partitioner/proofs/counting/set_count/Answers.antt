@@ -1,5 +1,5 @@
 use Rattle.std.proofs.Common.{◌≡◌, ℕ, ◌∙◌, Bool, true, false, cond, Option, Some, unwrap_or, refl, ap}
-use Rattle.partitioner.specs.Counting.{same_spot, count_at}
+use Rattle.partitioner.specs.Counting.{same_spot}
 use Rattle.std.specs.HashMap.{get}
 use Rattle.partitioner.proofs.counting.set_count.Goals as goal
 

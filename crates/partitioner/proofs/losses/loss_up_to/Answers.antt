@@ -1,9 +1,9 @@
-use Rattle.std.proofs.Common.{◌≡◌, ◌<◌, ◌≤◌, ◌+◌, ◌∙◌, ℕ, Bool, not, List, length, get_or, sym, ap, subst, refl, arith, IsPermutation, rules}
+use Rattle.std.proofs.Common.{◌≡◌, ◌∙◌, ℕ, Bool, not, List, get_or, sym, ap, subst, arith, IsPermutation}
 use Rattle.partitioner.specs.Below.{one_if}
 use Rattle.partitioner.specs.Reading.{other_sources}
-use Rattle.partitioner.specs.Loss.{is_fresh, is_wanted, loss}
+use Rattle.partitioner.specs.Loss.{is_fresh, is_wanted}
 use Rattle.partitioner.proofs.BelowLaws.{one_if_le, byte_of}
-use Rattle.partitioner.proofs.LossLaws.{loss_so_far, loss_more, loss_all, loss_at_least, sources_below, sources_read}
+use Rattle.partitioner.proofs.LossLaws.{loss_more, loss_all, loss_at_least, sources_below, sources_read}
 use Rattle.partitioner.proofs.losses.loss_up_to.Goals as goal
 
 pub loop-x-init : goal.loop-x-init

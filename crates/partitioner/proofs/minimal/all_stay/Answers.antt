@@ -1,4 +1,4 @@
-use Rattle.std.proofs.Common.{◌≡◌, ◌<◌, ◌∙◌, ℕ, sym, refl, arith}
+use Rattle.std.proofs.Common.{◌∙◌, sym, refl, arith}
 use Rattle.std.proofs.lemmas.Bool.{false≢true}
 use Rattle.partitioner.specs.Tracking.{parts_of}
 use Rattle.partitioner.proofs.MinimalLaws.{all_stay_minimal, mover_not_minimal}

@@ -1,14 +1,12 @@
-use Rattle.std.proofs.Common.{◌≡◌, ◌≢◌, ◌<◌, ◌≤◌, ◌+◌, ◌-◌, ◌∙◌, ℕ, true, eqb, List, length, get_or, set, sym, ap, subst, refl, arith, IsPermutation}
-use Rattle.std.specs.List.{All, count_by}
+use Rattle.std.proofs.Common.{◌≡◌, ◌<◌, ◌+◌, ◌-◌, ◌∙◌, ℕ, List, length, get_or, set, sym, ap, subst, arith, IsPermutation}
 use Rattle.std.proofs.lemmas.List.{length-set}
 use Rattle.std.proofs.lemmas.List.Elements.{All-set}
-use Rattle.partitioner.specs.Below.{one_if}
-use Rattle.partitioner.specs.Reading.{reads_other, other_sources, marked_by_row}
+use Rattle.partitioner.specs.Reading.{other_sources, marked_by_row}
 use Rattle.partitioner.specs.Counting.{count_at}
 use Rattle.partitioner.specs.Moving.{Shifts}
 use Rattle.partitioner.specs.Sizes.{held}
 use Rattle.partitioner.proofs.LossLaws.{sources_below, sources_read}
-use Rattle.partitioner.proofs.HeldLaws.{held_some, held_within, held_shifted, held_moved}
+use Rattle.partitioner.proofs.HeldLaws.{held_some, held_shifted, held_moved}
 use Rattle.partitioner.proofs.ShiftLaws.{sources_once, source_counted, readers_within, counts_moved}
 use Rattle.partitioner.proofs.moving.put_node.Goals as goal
 

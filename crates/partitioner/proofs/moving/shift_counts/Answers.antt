@@ -1,4 +1,4 @@
-use Rattle.std.proofs.Common.{◌≡◌, ◌<◌, ◌≤◌, ◌+◌, ◌-◌, ◌∙◌, ℕ, Bool, false, cond, eqb, ◌&&◌, get_or, sym, ap, arith}
+use Rattle.std.proofs.Common.{◌+◌, ◌-◌, ◌∙◌, ℕ, cond, eqb, ◌&&◌, get_or, ap, arith}
 use Rattle.partitioner.specs.Reading.{marked_by_row}
 use Rattle.partitioner.specs.Counting.{count_at}
 use Rattle.partitioner.proofs.ShiftLaws.{not_before, shift_still, shift_more}

@@ -1,4 +1,4 @@
-use Rattle.std.proofs.Common.{◌≡◌, ◌∙◌, Bool, true, false, not, eqb, ◌&&◌, ◌||◌, get_or, nat_eq, refl, sym, ap, arith}
+use Rattle.std.proofs.Common.{◌≡◌, ◌∙◌, Bool, not, eqb, ◌&&◌, ◌||◌, get_or, nat_eq, sym, ap, arith}
 use Rattle.std.specs.List.{list_any}
 use Rattle.partitioner.specs.Below.{one_if}
 use Rattle.partitioner.specs.Meeting.{is_met}

@@ -1,4 +1,4 @@
-use Rattle.std.proofs.Common.{◌≡◌, ◌<◌, ◌+◌, ◌∙◌, ℕ, List, length, get_or, sym, subst, below_more, arith}
+use Rattle.std.proofs.Common.{◌≡◌, ◌<◌, ◌∙◌, ℕ, List, length, get_or, sym, subst, below_more, arith}
 use Rattle.std.proofs.lemmas.List.{get_or_default}
 use Rattle.partitioner.specs.Reading.{reads_other, other_readers}
 use Rattle.partitioner.specs.Leading.{LeadsOpen, start_of}

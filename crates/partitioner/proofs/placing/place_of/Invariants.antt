@@ -1,5 +1,4 @@
 use Rattle.std.proofs.Common.{◌≡◌, ◌+◌}
-use Rattle.flat_net.specs.Net.{Net}
 use Rattle.partitioner.specs.Leading.{IsLead}
 use Rattle.partitioner.proofs.PlaceLaws.{LeadsOrMissed}
 use Rattle.partitioner.proofs.placing.place_of.Given as goal

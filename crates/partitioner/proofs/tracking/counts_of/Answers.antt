@@ -1,4 +1,4 @@
-use Rattle.std.proofs.Common.{◌≡◌, ◌<◌, ◌+◌, ◌∙◌, ℕ, Bool, cond, eqb, List, length, get_or, slice_index, sym, ap, subst, refl, arith}
+use Rattle.std.proofs.Common.{◌≡◌, ◌<◌, ◌∙◌, ℕ, cond, eqb, List, length, slice_index, sym, ap, subst, arith}
 use Rattle.std.specs.List.{All, count_by}
 use Rattle.partitioner.specs.Reading.{reads_other, other_readers}
 use Rattle.partitioner.specs.Counting.{count_at}

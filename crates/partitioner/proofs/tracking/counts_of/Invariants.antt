@@ -1,4 +1,4 @@
-use Rattle.std.proofs.Common.{◌≡◌, ℕ, ◌<◌, length, nat_lt, if◌then◌else◌}
+use Rattle.std.proofs.Common.{◌≡◌, ℕ, nat_lt, if◌then◌else◌}
 use Rattle.partitioner.specs.Counting.{count_at}
 use Rattle.partitioner.specs.Tracking.{reader_count}
 use Rattle.partitioner.proofs.tracking.counts_of.Given as goal

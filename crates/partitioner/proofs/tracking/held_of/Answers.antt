@@ -1,6 +1,5 @@
-use Rattle.std.proofs.Common.{◌≡◌, ◌<◌, ◌+◌, ◌∙◌, ℕ, List, length, get_or, set, take, sym, ap, subst, refl, arith}
+use Rattle.std.proofs.Common.{◌≡◌, ◌<◌, ◌+◌, ◌∙◌, ℕ, get_or, set, ap, refl, arith}
 use Rattle.std.proofs.lemmas.List.{get_or_read, length-set}
-use Rattle.partitioner.specs.Sizes.{held}
 use Rattle.partitioner.proofs.HeldLaws.{held_le, held_counted}
 use Rattle.partitioner.proofs.tracking.held_of.Goals as goal
 

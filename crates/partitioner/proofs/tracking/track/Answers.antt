@@ -1,6 +1,5 @@
-use Rattle.std.proofs.Common.{◌≡◌, ◌<◌, ◌≤◌, ◌+◌, ◌∙◌, ℕ, List, length, sym, ap, subst, arith}
+use Rattle.std.proofs.Common.{◌<◌, ◌∙◌, ℕ, List, length, sym, ap, subst, arith}
 use Rattle.std.specs.List.{All}
-use Rattle.partitioner.specs.Counting.{count_at}
 use Rattle.partitioner.specs.Sizes.{held}
 use Rattle.partitioner.specs.Tracking.{reader_count}
 use Rattle.partitioner.proofs.TrackLaws.{sources_are}
