@@ -35,5 +35,5 @@ row_counted n of old new x before more z q = more z q ∙ go (cases_eq x z)
         tests : (z x : ℕ) → (x ≡ z → ⊥) → ltb z x ≡ ltb z (x + 1)
         tests z x ne = grind (arith, nat_tests)
 
-pub sources_are : (n : Net) (rows : List (List ℕ)) (i : ℕ) → Lists (is_source n) (length n.nodes) (length n.nodes) rows → i < length n.nodes → IsPermutation (other_sources n i) (get_or rows i [])
-sources_are n rows i lists l = subst (λ (row : List ℕ). IsPermutation (other_sources n i) row) (sym (lists.row i l)) (IsPermutation-refl (other_sources n i))
+pub sources_are : (n : Net) (rows sorted : List (List ℕ)) (i : ℕ) → Lists (is_source n) (length n.nodes) (length n.nodes) rows → i < length n.nodes → IsPermutation (get_or rows i []) (get_or sorted i []) → IsPermutation (other_sources n i) (get_or sorted i [])
+sources_are n rows sorted i lists l perm = subst (λ (row : List ℕ). IsPermutation row (get_or sorted i [])) (lists.row i l) perm

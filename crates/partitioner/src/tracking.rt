@@ -81,17 +81,20 @@ fn counts_of(
     Ok(counts)
 }
 
-/// The partitioning with what is kept beside it.
+/// The partitioning with what is kept beside it. The nodes that a node reads stand in ascending order of
+/// how many nodes read them, so that a node's place is found among few partitions.
 pub fn track(alloc: Global, n: &FlatNet, parts: &Parts) -> Result<Partitioning, OutOfMemory>
     requires { length parts.now.of ≡ length n.now.net.nodes }
     ensures tracks { IfOk result (λ p. Tracks n.now.net p) }
     ensures parts { IfOk result (λ p. parts_of p ≡ parts.now) }
 {
-    let _nodes = nodes_of(n);
+    let nodes = nodes_of(n);
     let count = parts.count();
     let of = parts_list(alloc, parts)?;
     let readers = readers_of(alloc, n)?;
-    let sources = sources_of(alloc, n, &readers)?;
+    let ascending = sources_of(alloc, n, &readers)?;
+    let weights = readers.lengths(alloc, nodes)?;
+    let sources = ascending.sorted(alloc, nodes, weights.as_slice())?;
     let held = held_of(alloc, count, of.as_slice())?;
     let counts = counts_of(alloc, n, &readers, of.as_slice())?;
     Ok(Partitioning {
