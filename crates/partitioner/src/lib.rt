@@ -17,6 +17,8 @@ mod plain_cut;
 mod reading;
 mod refining;
 mod rows;
+#[cfg(test)]
+mod tests;
 mod tracking;
 
 pub use minimal::is_minimal;
