@@ -1,0 +1,27 @@
+use Rattle.std.proofs.Common.{◌≡◌, ◌<◌, ◌∙◌, ℕ, List, length, get_or, sym, subst, below_more, arith}
+use Rattle.std.proofs.lemmas.List.{get_or_default}
+use Rattle.partitioner.specs.Reading.{reads_other, other_readers}
+use Rattle.partitioner.specs.Leading.{LeadsOpen, start_of}
+use Rattle.partitioner.proofs.SourceLaws.{rows_below}
+use Rattle.partitioner.proofs.placing.consider_readers.Goals as goal
+
+pub part_of-requires-clause-node : goal.part_of-requires-clause-node
+part_of-requires-clause-node c =
+    subst (λ (xs : List ℕ). c.loop-y.y-index < length xs → get_or xs c.loop-y.y-index 0 < length c.args.n.now.net.nodes) (sym c.row-y-items.ensures)
+    (rows_below (reads_other c.args.n.now.net) (length c.args.n.now.net.nodes) (length c.args.n.now.net.nodes) c.args.p.now.readers c.args.x c.loop-y.y-index c.requires.tracks.readers c.requires.read) c.loop-y-test.true
+
+pub loop-y-preserved : goal.loop-y-preserved
+loop-y-preserved c =
+    record {
+      lead = c.consider-lead.ensures.lead;
+      kept = λ q h. c.consider-lead.ensures.kept q (c.loop-y.invariant.kept q h);
+      tried = below_more _ _ (λ k h room. c.consider-lead.ensures.kept _ (c.loop-y.invariant.tried k h room))
+          (subst (λ (q : ℕ). LeadsOpen c.args.n.now.net c.args.size c.args.p.now c.args.i c.consider-lead.result.place q) c.part_of.ensures.value c.consider-lead.ensures.tried);
+    }
+
+pub returns-clause-tried : goal.returns-clause-tried
+returns-clause-tried c = λ k d h.
+    let row : c.row-y-items.result.now ≡ other_readers c.args.n.now.net c.args.x = c.row-y-items.ensures ∙ c.requires.tracks.readers.row c.args.x c.requires.read in
+    subst (λ (z : ℕ). LeadsOpen c.args.n.now.net c.args.size c.args.p.now c.args.i c.loop-y.lead.place (start_of c.args.p.now z)) (get_or_default (other_readers c.args.n.now.net c.args.x) k 0 d h)
+    (subst (λ (xs : List ℕ). k < length xs → LeadsOpen c.args.n.now.net c.args.size c.args.p.now c.args.i c.loop-y.lead.place (start_of c.args.p.now (get_or xs k 0))) row
+    (λ l. c.loop-y.invariant.tried k (omega (arith, l, c.loop-y-test.false))) h)

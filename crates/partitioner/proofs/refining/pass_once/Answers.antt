@@ -1,0 +1,23 @@
+use Rattle.std.proofs.Common.{◌≡◌, ◌+◌, ◌∙◌, sym, ap, refl}
+use Rattle.std.proofs.lemmas.Bool.{true≢false}
+use Rattle.tmr_base.specs.Parts.{PlainParts}
+use Rattle.partitioner.specs.Refining.{move, moves}
+use Rattle.partitioner.specs.Tracking.{parts_of}
+use Rattle.partitioner.proofs.RefineLaws.{moves_none, moves_more}
+use Rattle.partitioner.proofs.refining.pass_once.Goals as goal
+use Rattle.partitioner.proofs.refining.pass_once.Goals.{then-branch, else-branch}
+
+pub loop-i-init : goal.loop-i-init
+loop-i-init c = record { tracks = c.requires; parts = sym (moves_none c.args.n.now.net c.args.size (parts_of c.args.p.now)); still = λ h. refl }
+
+pub loop-i-preserved : goal.loop-i-preserved
+loop-i-preserved c =
+    let n = c.args.n.now.net in
+    let before = parts_of c.args.p.now in
+    let i = c.loop-i.i in
+    let after : parts_of c.move_node.new.p ≡ moves n c.args.size before (i + 1) =
+    c.in_ok-move_node.ensures.parts ∙ (ap (λ (parts : PlainParts). move n c.args.size parts i) c.loop-i.invariant.parts ∙ sym (moves_more n c.args.size before i)) in
+    elim c.if-branch.branch [
+      | then-branch w ↦ record { tracks = c.in_ok-move_node.ensures.tracks; parts = after; still = λ h. absurd (true≢false (sym w.moved-is ∙ h)) }
+      | else-branch w ↦ record { tracks = c.in_ok-move_node.ensures.tracks; parts = after; still = λ h. c.in_ok-move_node.ensures.still w.if-branch.false ∙ c.loop-i.invariant.still (sym w.moved-is ∙ h) }
+    ]

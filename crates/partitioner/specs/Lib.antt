@@ -1,0 +1,12 @@
+pub mod Below
+pub mod Reading
+pub mod Noting
+pub mod Meeting
+pub mod Cost
+pub mod Counting
+pub mod Loss
+pub mod Sizes
+pub mod Refining
+pub mod Tracking
+pub mod Leading
+pub mod Moving

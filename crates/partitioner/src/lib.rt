@@ -1,0 +1,27 @@
+//! Partitions of a design's nodes: the plain cut, its refinement, and what a partitioning costs.
+//!
+//! The layers above may rely on this: `plain`, `refine`, `cost` and `is_minimal` are exactly their
+//! definitions, in which the cost is counted anew each time; refining keeps the rule of sizes and
+//! never raises the cost.
+#![tactic(auto)]
+
+mod counting;
+mod losses;
+mod minimal;
+mod moving;
+mod nodes;
+mod pairs;
+mod partitioning;
+mod placing;
+mod plain_cut;
+mod reading;
+mod refining;
+mod rows;
+#[cfg(test)]
+mod tests;
+mod tracking;
+
+pub use minimal::is_minimal;
+pub use pairs::cost;
+pub use plain_cut::plain;
+pub use refining::refine;

@@ -1,0 +1,55 @@
+//! What a node costs in each partition.
+ghost use Rattle.std.specs.Prelude.{◌≡◌, ◌<◌, ◌≤◌, ◌==◌, ℕ, Bool, true, length, slice_index};
+ghost use Rattle.flat_net.specs.Net.{Net};
+ghost use Rattle.partitioner.specs.Below.{one_if};
+ghost use Rattle.partitioner.specs.Reading.{reads_other};
+ghost use Rattle.partitioner.specs.Loss.{is_fresh, is_wanted, loss};
+ghost use Rattle.partitioner.specs.Tracking.{Tracks};
+
+use crate::counting::count_at;
+use crate::partitioning::Partitioning;
+use flat_net::FlatNet;
+
+/// Partition q holds neither node x nor, beside i, a node that reads it. `mine` is 1 where i stands in q.
+#[tactic(auto, using(crate::proofs::CountLaws::fresh_by_count))]
+fn is_fresh(n: &FlatNet, p: &Partitioning, i: u32, x: u32, q: u32, mine: u32) -> bool
+    requires tracks { Tracks n.now.net p.now }
+    requires node { i < length n.now.net.nodes }
+    requires source { x < length n.now.net.nodes }
+    requires reads { reads_other n.now.net i x ≡ true }
+    requires partition { q < p.now.count }
+    requires mine { mine ≡ one_if (slice_index p.now.of.items i == q) }
+    ensures { result ≡ is_fresh n.now.net p.now.of.items i x q }
+{
+    p.of[x as usize] != q && count_at(&p.counts, x, q) == mine
+}
+
+/// Some other node reads node i from partition q.
+#[tactic(auto, using(crate::proofs::CountLaws::wanted_by_count))]
+fn is_wanted(n: &FlatNet, p: &Partitioning, i: u32, q: u32) -> bool
+    requires tracks { Tracks n.now.net p.now }
+    requires node { i < length n.now.net.nodes }
+    requires partition { q < p.now.count }
+    ensures { result ≡ is_wanted n.now.net p.now.of.items i q }
+{
+    0 < count_at(&p.counts, i, q)
+}
+
+/// The loss of node i in partition q, or where it is above `most`, some number above `most`.
+pub fn loss_up_to(n: &FlatNet, p: &Partitioning, i: u32, q: u32, most: u64) -> u64
+    requires tracks { Tracks n.now.net p.now }
+    requires node { i < length n.now.net.nodes }
+    requires partition { q < p.now.count }
+    ensures exact { result ≤ most → result ≡ loss n.now.net p.now.of.items i q }
+    ensures above { most < result → most < loss n.now.net p.now.of.items i q }
+{
+    let mine = u32::from(p.of[i as usize] == q);
+    let mut loss = u64::from(!is_wanted(n, p, i, q));
+    for x in p.sources.row(i) {
+        if most < loss {
+            return loss;
+        }
+        loss += u64::from(is_fresh(n, p, i, *x, q, mine));
+    }
+    loss
+}

@@ -1,0 +1,36 @@
+//! Whether a single move lowers the cost.
+ghost use Rattle.std.specs.Prelude.{◌≡◌, ◌<◌, ◌↔◌, ℕ, length, IsTrue, IfOk};
+ghost use Rattle.partitioner.specs.Sizes.{KeepsSize};
+ghost use Rattle.partitioner.specs.Refining.{IsMinimal};
+ghost use Rattle.partitioner.specs.Tracking.{Tracks, parts_of};
+
+use crate::nodes::nodes_of;
+use crate::partitioning::Partitioning;
+use crate::placing::{part_of, place_of};
+use crate::tracking::track;
+use flat_net::FlatNet;
+use std::alloc::Global;
+use tmr_base::{OutOfMemory, Parts};
+
+/// Each node goes to where it stands.
+fn all_stay(n: &FlatNet, p: &Partitioning, size: u32) -> bool
+    requires { Tracks n.now.net p.now }
+    ensures { IsTrue result ↔ IsMinimal n.now.net size (parts_of p.now) }
+{
+    for i in 0..nodes_of(n) {
+        if place_of(n, p, size, i) != part_of(n, p, i) {
+            return false;
+        }
+    }
+    true
+}
+
+/// No single node moved to a partition with room lowers the cost. `parts` keeps the rule of sizes.
+pub fn is_minimal(alloc: Global, n: &FlatNet, parts: &Parts, size: u32) -> Result<bool, OutOfMemory>
+    requires size { 0 < size }
+    requires parts { KeepsSize n.now.net size parts.now }
+    ensures { IfOk result (λ minimal. IsTrue minimal ↔ IsMinimal n.now.net size parts.now) }
+{
+    let p = track(alloc, n, parts)?;
+    Ok(all_stay(n, &p, size))
+}

@@ -1,0 +1,119 @@
+//! Where a node goes.
+ghost use Rattle.std.specs.Prelude.{◌≡◌, ◌<◌, ◌≤◌, ◌==◌, ℕ, Bool, true, length, slice_index};
+ghost use Rattle.flat_net.specs.Net.{Net};
+ghost use Rattle.partitioner.specs.Refining.{has_room, place};
+ghost use Rattle.partitioner.specs.Tracking.{Tracks, parts_of};
+ghost use Rattle.partitioner.specs.Leading.{IsLead, Leads, LeadsOpen, LeadsReaders, is_better, is_settled, start_of};
+
+use crate::losses::loss_up_to;
+use crate::partitioning::Partitioning;
+use flat_net::FlatNet;
+
+/// The best partition so far for a node, and the node's loss there.
+#[derive(Clone, Copy, Drop)]
+pub struct Lead {
+    pub place: u32,
+    pub loss: u64,
+}
+
+/// Where node x stands.
+pub fn part_of(n: &FlatNet, p: &Partitioning, x: u32) -> u32
+    requires tracks { Tracks n.now.net p.now }
+    requires node { x < length n.now.net.nodes }
+    ensures value { result ≡ slice_index p.now.of.items x }
+    ensures range { result < p.now.count }
+{
+    p.of[x as usize]
+}
+
+/// Partition q has room for a node that is not in it.
+fn has_room(n: &FlatNet, p: &Partitioning, size: u32, q: u32) -> bool
+    requires tracks { Tracks n.now.net p.now }
+    requires partition { q < p.now.count }
+    ensures { result ≡ has_room size (parts_of p.now) q }
+{
+    u64::from(p.held[q as usize]) < u64::from(size) + u64::from(size / 4)
+}
+
+/// A loss of `found` in partition q takes the lead.
+fn is_better(lead: Lead, start: u32, found: u64, q: u32) -> bool
+    ensures { result ≡ is_better lead start found q }
+{
+    found < lead.loss || (found == lead.loss && (lead.place != start && q < lead.place))
+}
+
+/// No partition that loses at least `tried` can take the lead.
+fn is_settled(lead: Lead, start: u32, tried: u64) -> bool
+    ensures { result ≡ is_settled lead start tried }
+{
+    lead.loss < tried || (lead.loss == tried && lead.place == start)
+}
+
+/// The lead after partition q is tried for node i.
+fn consider(n: &FlatNet, p: &Partitioning, size: u32, i: u32, lead: Lead, q: u32) -> Lead
+    requires tracks { Tracks n.now.net p.now }
+    requires node { i < length n.now.net.nodes }
+    requires partition { q < p.now.count }
+    requires lead { IsLead n.now.net size p.now i lead }
+    ensures lead { IsLead n.now.net size p.now i result }
+    ensures kept { (c : ℕ) → Leads n.now.net p.now i lead.place c → Leads n.now.net p.now i result.place c }
+    ensures tried { LeadsOpen n.now.net size p.now i result.place q }
+{
+    let start = p.of[i as usize];
+    if q == start || q == lead.place || !has_room(n, p, size, q) {
+        return lead;
+    }
+    let found = loss_up_to(n, p, i, q, lead.loss);
+    if is_better(lead, start, found, q) {
+        Lead {
+            place: q,
+            loss: found,
+        }
+    } else {
+        lead
+    }
+}
+
+/// The lead after the partitions of all other readers of node x are tried for node i.
+fn consider_readers(n: &FlatNet, p: &Partitioning, size: u32, i: u32, lead: Lead, x: u32) -> Lead
+    requires tracks { Tracks n.now.net p.now }
+    requires node { i < length n.now.net.nodes }
+    requires read { x < length n.now.net.nodes }
+    requires lead { IsLead n.now.net size p.now i lead }
+    ensures lead { IsLead n.now.net size p.now i result }
+    ensures kept { (c : ℕ) → Leads n.now.net p.now i lead.place c → Leads n.now.net p.now i result.place c }
+    ensures tried { LeadsReaders n.now.net size p.now i result.place x }
+{
+    let mut lead = lead;
+    for y in p.readers.row(x) {
+        lead = consider(n, p, size, i, lead, part_of(n, p, *y));
+    }
+    lead
+}
+
+/// The partition that node i goes to, which is its own where no move lowers the cost.
+pub fn place_of(n: &FlatNet, p: &Partitioning, size: u32, i: u32) -> u32
+    requires tracks { Tracks n.now.net p.now }
+    requires node { i < length n.now.net.nodes }
+    ensures { result ≡ place n.now.net size (parts_of p.now) i }
+{
+    let start = part_of(n, p, i);
+    let mut lead = Lead {
+        place: start,
+        loss: loss_up_to(n, p, i, start, u64::MAX),
+    };
+    if is_settled(lead, start, 0) {
+        return start;
+    }
+    lead = consider_readers(n, p, size, i, lead, i);
+    let mut tried = 1;
+    for x in p.sources.row(i) {
+        if is_settled(lead, start, tried) {
+            return lead.place;
+        }
+        lead = consider(n, p, size, i, lead, part_of(n, p, *x));
+        lead = consider_readers(n, p, size, i, lead, *x);
+        tried += 1;
+    }
+    lead.place
+}

@@ -1,0 +1,87 @@
+//! Passes of moves.
+ghost use Rattle.std.specs.Prelude.{◌≡◌, ◌<◌, ◌≤◌, ℕ, Bool, false, length, OnOk, IfOk};
+ghost use Rattle.flat_net.specs.Net.{Net};
+ghost use Rattle.partitioner.specs.Cost.{cost};
+ghost use Rattle.partitioner.specs.Sizes.{KeepsSize};
+ghost use Rattle.partitioner.specs.Refining.{move, pass, refined};
+ghost use Rattle.partitioner.specs.Tracking.{Tracks, parts_of};
+
+use crate::moving::put_node;
+use crate::nodes::nodes_of;
+use crate::partitioning::Partitioning;
+use crate::placing::{part_of, place_of};
+use crate::tracking::track;
+use flat_net::FlatNet;
+use std::alloc::Global;
+use tmr_base::{OutOfMemory, Parts};
+
+/// Moves node i to where it goes. Says whether it moved.
+fn move_node(n: &FlatNet, p: &mut Partitioning, size: u32, i: u32) -> Result<bool, OutOfMemory>
+    requires tracks { Tracks n.now.net p.old }
+    requires node { i < length n.now.net.nodes }
+    ensures tracks { OnOk result (Tracks n.now.net p.new) }
+    ensures parts { OnOk result (parts_of p.new ≡ move n.now.net size (parts_of p.old) i) }
+    ensures still { IfOk result (λ moved. moved ≡ false → parts_of p.new ≡ parts_of p.old) }
+{
+    let place = place_of(n, p, size, i);
+    if place == part_of(n, p, i) {
+        return Ok(false);
+    }
+    put_node(n, p, i, place)?;
+    Ok(true)
+}
+
+/// One pass over all nodes. Says whether a node moved.
+fn pass_once(n: &FlatNet, p: &mut Partitioning, size: u32) -> Result<bool, OutOfMemory>
+    requires { Tracks n.now.net p.old }
+    ensures tracks { OnOk result (Tracks n.now.net p.new) }
+    ensures parts { OnOk result (parts_of p.new ≡ pass n.now.net size (parts_of p.old)) }
+    ensures still { IfOk result (λ moved. moved ≡ false → parts_of p.new ≡ parts_of p.old) }
+{
+    let mut moved = false;
+    for i in 0..nodes_of(n) {
+        if move_node(n, p, size, i)? {
+            moved = true;
+        }
+    }
+    Ok(moved)
+}
+
+/// So many passes, ended after a pass without moves.
+fn pass_often(n: &FlatNet, p: &mut Partitioning, size: u32, passes: u32) -> Result<(), OutOfMemory>
+    requires { Tracks n.now.net p.old }
+    ensures tracks { OnOk result (Tracks n.now.net p.new) }
+    ensures parts { OnOk result (parts_of p.new ≡ refined n.now.net size (parts_of p.old) passes) }
+{
+    for done in 0..passes {
+        let _done = done;
+        if !pass_once(n, p, size)? {
+            return Ok(());
+        }
+    }
+    Ok(())
+}
+
+/// The parts after so many passes of moves, in each of which every node in turn goes to the partition
+/// with room where the cost is lowest, the first of several, if that is lower than now.
+///
+/// `parts` keeps the rule of sizes, and so does what comes out, which never costs more. After want of
+/// memory the given parts are dropped.
+pub fn refine(
+    alloc: Global,
+    n: &FlatNet,
+    parts: Parts,
+    size: u32,
+    passes: u32,
+) -> Result<Parts, OutOfMemory>
+    requires size { 0 < size }
+    requires parts { KeepsSize n.now.net size parts }
+    ensures exact { IfOk result (λ after. after ≡ refined n.now.net size parts passes) }
+    ensures size { IfOk result (λ after. KeepsSize n.now.net size after) }
+    ensures cost { IfOk result (λ after. cost n.now.net after ≤ cost n.now.net parts) }
+{
+    let mut p = track(alloc, n, &parts)?;
+    pass_often(n, &mut p, size, passes)?;
+    let Partitioning { count, of, .. } = p;
+    Ok(Parts::make(count, of))
+}

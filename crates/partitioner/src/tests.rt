@@ -1,0 +1,173 @@
+//! Partitions of small designs, beside a slow program of their definition.
+
+ghost use Rattle.std.specs.Prelude.{◌<◌};
+
+mod made;
+mod slow;
+
+use crate::{cost, is_minimal, plain, refine};
+use flat_net::FlatNet;
+use made::{Made, design, made_nodes};
+use slow::{slow_cost, slow_is_minimal, slow_plain, slow_refined};
+use std::alloc::Global;
+use std::process::Abort;
+use std::test::Fail;
+use tmr_base::Parts;
+
+/// Parts as a list, with their cost, and whether they are minimal.
+#[derive(Drop)]
+struct Outcome {
+    of: Vec<u32>,
+    count: u32,
+    cost: u64,
+    minimal: bool,
+}
+
+fn list_of(alloc: Global, parts: &Parts) -> Result<Vec<u32>, Fail> {
+    let mut of = Vec::new(alloc);
+    for i in 0..parts.len() {
+        of.push(parts.of(i))?;
+    }
+    Ok(of)
+}
+
+/// What so many passes make of the plain cut.
+fn found(alloc: Global, n: &FlatNet, size: u32, passes: u32) -> Result<Outcome, Fail>
+    requires { 0 < size }
+{
+    let start = plain(alloc, n, size)?;
+    let parts = refine(alloc, n, start, size, passes)?;
+    Ok(Outcome {
+        of: list_of(alloc, &parts)?,
+        count: parts.count(),
+        cost: cost(alloc, n, &parts)?,
+        minimal: is_minimal(alloc, n, &parts, size)?,
+    })
+}
+
+/// The same by the slow program.
+fn slowly_found(alloc: Global, nodes: &[Made], size: u32, passes: u32) -> Result<Outcome, Fail>
+    requires { 0 < size }
+{
+    let (start, count) = slow_plain(alloc, nodes, size)?;
+    let of = slow_refined(nodes, start, count, size, passes);
+    let cost = slow_cost(nodes, of.as_slice(), count);
+    let (of, minimal) = slow_is_minimal(nodes, of, count, size);
+    Ok(Outcome {
+        of,
+        count,
+        cost,
+        minimal,
+    })
+}
+
+/// The eight buffers of which the fourth is read in the other half.
+fn eight_buffers(alloc: Global) -> Result<Vec<Made>, Fail> {
+    let mut nodes = Vec::new(alloc);
+    for pin in [
+        None,
+        Some(0),
+        Some(1),
+        None,
+        Some(3),
+        Some(4),
+        Some(5),
+        Some(6),
+    ] {
+        let mut pins = Vec::new(alloc);
+        pins.push(pin.unwrap_or(made::INPUT))?;
+        nodes.push(Made {
+            is_register: false,
+            pins,
+        })?;
+    }
+    Ok(nodes)
+}
+
+#[test]
+fn a_buffer_at_the_border(rt: HostRuntime) -> Result<(), Fail> {
+    let alloc = rt.alloc();
+    let nodes = eight_buffers(alloc)?;
+    let n = design(alloc, nodes.as_slice())?;
+    let before = found(alloc, &n, 4, 0)?;
+    assert_eq!(rt; before.of.as_slice(), [0, 0, 0, 0, 1, 1, 1, 1].as_slice());
+    assert_eq!(rt; before.cost, 1);
+    assert_eq!(rt; before.minimal, false);
+    let after = found(alloc, &n, 4, 8)?;
+    assert_eq!(rt; after.of.as_slice(), [0, 0, 0, 1, 1, 1, 1, 1].as_slice());
+    assert_eq!(rt; after.count, 2);
+    assert_eq!(rt; after.cost, 0);
+    assert_eq!(rt; after.minimal, true);
+    Ok(())
+}
+
+#[test]
+fn no_nodes_and_no_room(rt: HostRuntime) -> Result<(), Fail> {
+    let alloc = rt.alloc();
+    let none = found(alloc, &design(alloc, &[])?, 4294967295, 8)?;
+    assert_eq!(rt; none.of.len(), 0);
+    assert_eq!(rt; none.count, 0);
+    assert_eq!(rt; none.cost, 0);
+    assert_eq!(rt; none.minimal, true);
+    let nodes = eight_buffers(alloc)?;
+    let n = design(alloc, nodes.as_slice())?;
+    let single = found(alloc, &n, 1, 8)?;
+    assert_eq!(rt; single.of.as_slice(), [0, 1, 2, 3, 4, 5, 6, 7].as_slice());
+    assert_eq!(rt; single.cost, 6);
+    assert_eq!(rt; single.minimal, true);
+    let whole = found(alloc, &n, 64, 8)?;
+    assert_eq!(rt; whole.count, 1);
+    assert_eq!(rt; whole.cost, 0);
+    Ok(())
+}
+
+/// The fast calls and the slow program agree.
+fn compare(
+    rt: &impl Abort,
+    alloc: Global,
+    nodes: &[Made],
+    size: u32,
+    passes: u32,
+) -> Result<(), Fail>
+    requires { 0 < size }
+{
+    let n = design(alloc, nodes)?;
+    let fast = found(alloc, &n, size, passes)?;
+    let slow = slowly_found(alloc, nodes, size, passes)?;
+    assert!(rt; fast.of.as_slice() == slow.of.as_slice());
+    assert!(rt; fast.count == slow.count);
+    assert!(rt; fast.cost == slow.cost);
+    assert!(rt; fast.minimal == slow.minimal);
+    Ok(())
+}
+
+#[test]
+fn as_the_slow_program(rt: HostRuntime) -> Result<(), Fail> {
+    let alloc = rt.alloc();
+    for seed in 0..30 {
+        let nodes = made_nodes(alloc, seed)?;
+        for size in 1..5 {
+            for passes in [0, 1, 2, 8] {
+                compare(&rt, alloc, nodes.as_slice(), size, passes)?;
+            }
+        }
+    }
+    Ok(())
+}
+
+#[test]
+fn larger_partitions(rt: HostRuntime) -> Result<(), Fail> {
+    let alloc = rt.alloc();
+    for seed in 0..4 {
+        let mut nodes = Vec::new(alloc);
+        for part in 0..2 {
+            for node in made_nodes(alloc, seed * 2 + part)? {
+                nodes.push(node)?;
+            }
+        }
+        for size in [4, 5, 6, 64] {
+            compare(&rt, alloc, nodes.as_slice(), size, 8)?;
+        }
+    }
+    Ok(())
+}
