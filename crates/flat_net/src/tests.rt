@@ -97,7 +97,12 @@ fn push_words(draft: &mut Draft, alloc: Global, words: &[&str]) -> Result<(), Fa
         ["in", input] => draft.push_input(name(alloc, input)?)?,
         ["out", output] => draft.push_output(name(alloc, output)?)?,
         ["latch", out, pin, edge, clock] => {
-            draft.push_latch(name(alloc, pin)?, name(alloc, out)?, control(alloc, edge, clock)?, true)?
+            draft.push_latch(
+                name(alloc, pin)?,
+                name(alloc, out)?,
+                control(alloc, edge, clock)?,
+                true,
+            )?
         }
         ["and", out, pins @ ..] => {
             let mut names = Vec::new(alloc);
@@ -165,7 +170,12 @@ fn net_text(alloc: Global, net: &FlatNet, x: NetId) -> Result<String, Fail>
 
 /// All nets, the nodes in the order in which they can be evaluated.
 fn design_text(alloc: Global, net: &FlatNet) -> Result<String, Fail> {
-    let mut text = format!(in alloc; "{} {} {}", net.register_count(), net.pin_total(), text_of(net.model())?)?;
+    let mut text = format!(in alloc;
+        "{} {} {}",
+        net.register_count(),
+        net.pin_total(),
+        text_of(net.model())?
+    )?;
     for x in 0..net.input_count() {
         text.push('/')?;
         text.push_str(net_text(alloc, net, NetId(x))?.as_str())?;
@@ -205,7 +215,10 @@ fn faults_in_their_order(rt: HostRuntime) -> Result<(), Fail> {
         ("and x/and y/latch y z no no/and x", "double driven y"),
         ("in c/latch c c re c", "double driven c"),
         ("in c/in d/latch q d re c/latch r d no no", "mixed clock r"),
-        ("in c/in d/latch q d no no/latch p d no no/latch r d re c/latch s nowhere fe c", "mixed clock r"),
+        (
+            "in c/in d/latch q d no no/latch p d no no/latch r d re c/latch s nowhere fe c",
+            "mixed clock r",
+        ),
         ("in c/in d/latch q d re c/latch r d fe c", "mixed clock r"),
         ("in c/in d/latch q q re c/latch r q re d", "mixed clock r"),
         ("in c/latch q d re c/and d c", "clock use c"),
@@ -215,7 +228,10 @@ fn faults_in_their_order(rt: HostRuntime) -> Result<(), Fail> {
         ("out y", "undriven y"),
         ("in a/out o/and y a x/latch q p no no/and z z", "undriven x"),
         ("and x x", "loop x"),
-        ("in a/and w a z/and x y/latch q x no no/and y a q z/and z x", "loop x y z"),
+        (
+            "in a/and w a z/and x y/latch q x no no/and y a q z/and z x",
+            "loop x y z",
+        ),
     ] {
         assert_eq!(rt; told(alloc, draft)?.as_str(), answer);
     }
@@ -227,12 +243,18 @@ fn designs_in_an_order(rt: HostRuntime) -> Result<(), Fail> {
     let alloc = rt.alloc();
     for (draft, answer) in [
         ("in d/latch q d no no", "1 1 m/in d/register q true d"),
-        ("in c/in d/latch q d no no", "1 1 m/in c/in d/register q true d"),
+        (
+            "in c/in d/latch q d no no",
+            "1 1 m/in c/in d/register q true d",
+        ),
         (
             "in clk/in en/out q/out en/and $false/and d e q/and e en $false/latch q d re clk",
             "1 5 m/in en/register q true d/table $false 0/table e 2 en $false/table d 2 e q/out q/out en/re clk",
         ),
-        ("and x q/latch q x no no", "1 2 m/register q true x/table x 1 q"),
+        (
+            "and x q/latch q x no no",
+            "1 2 m/register q true x/table x 1 q",
+        ),
     ] {
         assert_eq!(rt; told(alloc, draft)?.as_str(), answer);
     }
@@ -248,7 +270,12 @@ fn chain(alloc: Global, tables: u32, back: u32) -> Result<Draft, Fail> {
         if before < tables {
             pins.push(name(alloc, format!(in alloc; "n{before}")?.as_str())?)?;
         }
-        push_and(&mut chain, alloc, pins, name(alloc, format!(in alloc; "n{i}")?.as_str())?)?;
+        push_and(
+            &mut chain,
+            alloc,
+            pins,
+            name(alloc, format!(in alloc; "n{i}")?.as_str())?,
+        )?;
         before = i;
     }
     Ok(chain)
