@@ -65,212 +65,196 @@ const PARTED_SMALL_DEPTH: &str =
 const PARTED_OTHER_ORDER: &str =
     ".model tog\n.inputs\n.outputs q~0 q~1 q~2\n.names q~0~a d~0\n0 1\n.names q~0~b d~1\n0 1\n.names q~0~c d~2\n0 1\n.names d~0 d~1 d~2 d~1~a\n11- 1\n1-1 1\n-11 1\n.names d~0 d~1 d~2 d~1~b\n11- 1\n1-1 1\n-11 1\n.names d~0 d~1 d~2 d~1~c\n11- 1\n1-1 1\n-11 1\n.latch d~1~a q~0 0\n.latch d~1~b q~1 0\n.latch d~1~c q~2 0\n.names q~0 q~1 q~2 q~0~a\n11- 1\n1-1 1\n-11 1\n.names q~0 q~1 q~2 q~0~b\n11- 1\n1-1 1\n-11 1\n.names q~1 q~0 q~2 q~0~c\n11- 1\n1-1 1\n-11 1\n.end\n";
 
-fn words(alloc: Global, texts: &[&str]) -> Result<Vec<String>, AllocError> {
+const ONE_LINE: &str = "tmr-cert 1\n";
+
+const A_GATE: &str = ".model m\n.gate g a=b\n";
+
+const UNDRIVEN: &str = ".model m\n.outputs y\n";
+
+/// Three texts, and what `validate` answers for them.
+const PAIRS: &str = "AND AND_HARD AND_CERT=0 accepted partitions 1 depth 0 assumed 0 0
+AND AND_HARD AND_SWAPPED_COPIES=1 not accepted: rule 3 at y~0
+AND AND_SWAPPED_OUTPUTS AND_CERT=1 not accepted: rule 8 at output 1
+TOGGLE TOGGLE_HARD TOGGLE_CERT=0 accepted partitions 1 depth 1 assumed 0 0
+TOGGLE TOGGLE_UNVOTED TOGGLE_UNVOTED_CERT=1 not accepted: rule 6 at q~0
+TOGGLE TOGGLE_CROSSED TOGGLE_CERT=1 not accepted: rule 4 at q~0
+TOGGLE PARTED_HARD PARTED_CERT=0 accepted partitions 2 depth 1 assumed 0 0
+TOGGLE PARTED_FOREIGN_COPY PARTED_CERT=1 not accepted: rule 4 at q~0
+TOGGLE PARTED_OTHER_ORDER PARTED_CERT=1 not accepted: rule 5 at q~0~c
+TOGGLE PARTED_HARD PARTED_SMALL_LABEL=1 not accepted: rule 6 at q~0
+TOGGLE PARTED_HARD PARTED_SMALL_DEPTH=1 not accepted: rule 7 at q~0
+TWO TWO_HARD TWO_CERT=0 accepted partitions 2 depth 0 assumed 0 0
+TWO TWO_FEWER_ROWS TWO_CERT=1 not accepted: rule 5 at x~1~a
+AND AND_HARD ONE_LINE=4 refused c: line 2: bad line
+AND A_GATE AND_CERT=4 refused h: line 2: unsupported
+UNDRIVEN AND_HARD AND_CERT=4 refused o: undriven y";
+
+/// Words that are no command, a list in each line.
+const NO_COMMANDS: &str = "
+validate
+validate a h
+validate a h 
+validate a h -c
+validate a h c d
+check a h c";
+
+/// The text of that name. No proof reads the bytes of a text behind a function.
+fn text_of(name: &str) -> &'static str {
+    match name {
+        "AND" => AND,
+        "AND_HARD" => AND_HARD,
+        "AND_CERT" => AND_CERT,
+        "AND_SWAPPED_OUTPUTS" => AND_SWAPPED_OUTPUTS,
+        "AND_SWAPPED_COPIES" => AND_SWAPPED_COPIES,
+        "TOGGLE" => TOGGLE,
+        "TOGGLE_HARD" => TOGGLE_HARD,
+        "TOGGLE_CERT" => TOGGLE_CERT,
+        "TOGGLE_UNVOTED" => TOGGLE_UNVOTED,
+        "TOGGLE_UNVOTED_CERT" => TOGGLE_UNVOTED_CERT,
+        "TOGGLE_CROSSED" => TOGGLE_CROSSED,
+        "TWO" => TWO,
+        "TWO_HARD" => TWO_HARD,
+        "TWO_FEWER_ROWS" => TWO_FEWER_ROWS,
+        "TWO_CERT" => TWO_CERT,
+        "PARTED_HARD" => PARTED_HARD,
+        "PARTED_CERT" => PARTED_CERT,
+        "PARTED_FOREIGN_COPY" => PARTED_FOREIGN_COPY,
+        "PARTED_SMALL_LABEL" => PARTED_SMALL_LABEL,
+        "PARTED_SMALL_DEPTH" => PARTED_SMALL_DEPTH,
+        "PARTED_OTHER_ORDER" => PARTED_OTHER_ORDER,
+        "ONE_LINE" => ONE_LINE,
+        "A_GATE" => A_GATE,
+        "UNDRIVEN" => UNDRIVEN,
+        _ => "",
+    }
+}
+
+fn pairs() -> &'static str {
+    PAIRS
+}
+
+fn no_commands() -> &'static str {
+    NO_COMMANDS
+}
+
+fn words_of(alloc: Global, line: &str) -> Result<Vec<String>, AllocError> {
     let mut words = Vec::new(alloc);
-    for text in texts {
-        words.push(String::from_str(alloc, text)?)?;
+    for word in line.split(' ') {
+        words.push(String::from_str(alloc, word)?)?;
     }
     Ok(words)
 }
 
-/// A run of `validate o h c` over these files, and what it printed.
-fn validate(
-    alloc: Global,
-    original: &str,
-    hardened: &str,
-    certificate: &str,
-) -> Result<(Status, MemSink), Fail> {
+/// Files `o`, `h` and `c` with the texts of these names.
+fn files_of(alloc: Global, names: &str) -> Result<MemFiles, Fail> {
     let mut files = MemFiles::new(alloc);
-    files.hold("o", original.as_bytes())?;
-    files.hold("h", hardened.as_bytes())?;
-    files.hold("c", certificate.as_bytes())?;
-    let mut out = MemSink::new(alloc);
-    let words = words(alloc, &["validate", "o", "h", "c"])?;
-    let status = run(alloc, words.as_slice(), &mut files, &mut out);
-    Ok((status, out))
+    let mut places = "o h c".split(' ');
+    for name in names.split(' ') {
+        if let Some(place) = places.next() {
+            files.hold(place, text_of(name).as_bytes())?;
+        }
+    }
+    Ok(files)
+}
+
+/// The exit code of a run and what it printed.
+fn told(
+    alloc: Global,
+    words: &str,
+    files: &mut MemFiles,
+    out: &mut MemSink,
+) -> Result<String, Fail> {
+    let words = words_of(alloc, words)?;
+    let status = run(alloc, words.as_slice(), files, out);
+    let code = status.code();
+    let printed = str::from_utf8(out.written())?;
+    Ok(format!(in alloc; "{code} {printed}")?)
+}
+
+/// The first line of the table for whose texts `validate` answers something else, with that.
+fn first_other_pair(alloc: Global, table: &str) -> Result<Option<String>, Fail> {
+    for line in table.lines() {
+        if let Some((names, wanted)) = line.split_once('=') {
+            let mut files = files_of(alloc, names)?;
+            let mut out = MemSink::new(alloc);
+            let answer = told(alloc, "validate o h c", &mut files, &mut out)?;
+            if answer.as_str().trim_end() != wanted {
+                return Ok(Some(format!(in alloc; "{names} {answer}")?));
+            }
+        }
+    }
+    Ok(None)
 }
 
 #[test]
-fn pairs(rt: HostRuntime) -> Result<(), Fail> {
-    for (original, hardened, certificate, code, printed) in [
-        (
-            AND,
-            AND_HARD,
-            AND_CERT,
-            0,
-            "accepted partitions 1 depth 0 assumed 0 0\n",
-        ),
-        (
-            AND,
-            AND_HARD,
-            AND_SWAPPED_COPIES,
-            1,
-            "not accepted: rule 3 at y~0\n",
-        ),
-        (
-            AND,
-            AND_SWAPPED_OUTPUTS,
-            AND_CERT,
-            1,
-            "not accepted: rule 8 at output 1\n",
-        ),
-        (
-            TOGGLE,
-            TOGGLE_HARD,
-            TOGGLE_CERT,
-            0,
-            "accepted partitions 1 depth 1 assumed 0 0\n",
-        ),
-        (
-            TOGGLE,
-            TOGGLE_UNVOTED,
-            TOGGLE_UNVOTED_CERT,
-            1,
-            "not accepted: rule 6 at q~0\n",
-        ),
-        (
-            TOGGLE,
-            TOGGLE_CROSSED,
-            TOGGLE_CERT,
-            1,
-            "not accepted: rule 4 at q~0\n",
-        ),
-        (
-            TOGGLE,
-            PARTED_HARD,
-            PARTED_CERT,
-            0,
-            "accepted partitions 2 depth 1 assumed 0 0\n",
-        ),
-        (
-            TOGGLE,
-            PARTED_FOREIGN_COPY,
-            PARTED_CERT,
-            1,
-            "not accepted: rule 4 at q~0\n",
-        ),
-        (
-            TOGGLE,
-            PARTED_OTHER_ORDER,
-            PARTED_CERT,
-            1,
-            "not accepted: rule 5 at q~0~c\n",
-        ),
-        (
-            TOGGLE,
-            PARTED_HARD,
-            PARTED_SMALL_LABEL,
-            1,
-            "not accepted: rule 6 at q~0\n",
-        ),
-        (
-            TOGGLE,
-            PARTED_HARD,
-            PARTED_SMALL_DEPTH,
-            1,
-            "not accepted: rule 7 at q~0\n",
-        ),
-        (
-            TWO,
-            TWO_HARD,
-            TWO_CERT,
-            0,
-            "accepted partitions 2 depth 0 assumed 0 0\n",
-        ),
-        (
-            TWO,
-            TWO_FEWER_ROWS,
-            TWO_CERT,
-            1,
-            "not accepted: rule 5 at x~1~a\n",
-        ),
-        (
-            AND,
-            AND_HARD,
-            "tmr-cert 1\n",
-            4,
-            "refused c: line 2: bad line\n",
-        ),
-        (
-            AND,
-            ".model m\n.gate g a=b\n",
-            AND_CERT,
-            4,
-            "refused h: line 2: unsupported\n",
-        ),
-        (
-            ".model m\n.outputs y\n",
-            AND_HARD,
-            AND_CERT,
-            4,
-            "refused o: undriven y\n",
-        ),
-    ] {
-        let (status, out) = validate(rt.alloc(), original, hardened, certificate)?;
-        assert_eq!(rt; str::from_utf8(out.written())?, printed);
-        assert_eq!(rt; status.code(), code);
+fn pairs_are_judged(rt: HostRuntime) -> Result<(), Fail> {
+    let other = first_other_pair(rt.alloc(), pairs())?;
+    assert_eq!(rt; other, None);
+    Ok(())
+}
+
+/// The first line of the table whose words are answered otherwise than by the usage text.
+fn first_command(alloc: Global, table: &str) -> Result<Option<String>, Fail> {
+    for line in table.lines() {
+        let mut files = MemFiles::new(alloc);
+        let mut out = MemSink::new(alloc);
+        let answer = told(alloc, line, &mut files, &mut out)?;
+        if answer.as_str() != "2 usage: tmr validate ORIG HARD CERT\n" {
+            return Ok(Some(answer));
+        }
     }
+    Ok(None)
+}
+
+#[test]
+fn words_that_are_no_command(rt: HostRuntime) -> Result<(), Fail> {
+    let other = first_command(rt.alloc(), no_commands())?;
+    assert_eq!(rt; other, None);
     Ok(())
 }
 
 #[test]
-fn files_that_cannot_be_loaded(rt: HostRuntime) -> Result<(), Fail> {
+fn a_file_that_is_not_there(rt: HostRuntime) -> Result<(), Fail> {
     let alloc = rt.alloc();
-    let words = words(alloc, &["validate", "o", "h", "c"])?;
     let mut files = MemFiles::new(alloc);
     let mut out = MemSink::new(alloc);
-    let status = run(alloc, words.as_slice(), &mut files, &mut out);
-    assert_eq!(rt; status, Status::Fault);
+    let answer = told(alloc, "validate o h c", &mut files, &mut out)?;
+    assert_eq!(rt; answer.as_str(), "3 fault: load o\n");
+    Ok(())
+}
+
+#[test]
+fn a_file_that_is_too_long(rt: HostRuntime) -> Result<(), Fail> {
+    let alloc = rt.alloc();
+    let mut files = MemFiles::new(alloc);
+    let mut out = MemSink::new(alloc);
     let long = vec![in alloc; b'x'; 8_388_609]?;
     files.hold("o", long.as_slice())?;
-    let status = run(alloc, words.as_slice(), &mut files, &mut out);
-    assert_eq!(rt; status, Status::Refused);
-    assert_eq!(rt;
-        str::from_utf8(out.written())?,
-        "fault: load o\nrefused o: too long\n"
-    );
+    files.hold("h", [].as_slice())?;
+    files.hold("c", [].as_slice())?;
+    let answer = told(alloc, "validate o h c", &mut files, &mut out)?;
+    assert_eq!(rt; answer.as_str(), "4 refused o: too long\n");
     Ok(())
 }
 
 #[test]
 fn a_put_that_fails(rt: HostRuntime) -> Result<(), Fail> {
     let alloc = rt.alloc();
-    let words = words(alloc, &["validate", "o", "h", "c"])?;
-    let mut files = MemFiles::new(alloc);
-    files.hold("o", AND.as_bytes())?;
-    files.hold("h", AND_HARD.as_bytes())?;
-    files.hold("c", AND_CERT.as_bytes())?;
+    let mut files = files_of(alloc, "AND AND_HARD AND_CERT")?;
     let mut out = MemSink::new(alloc);
     out.fail_at(0, 3)?;
-    let status = run(alloc, words.as_slice(), &mut files, &mut out);
-    assert_eq!(rt; status, Status::Fault);
-    assert_eq!(rt; out.written(), b"acc".as_slice());
-    files.hold("h", AND_SWAPPED_OUTPUTS.as_bytes())?;
-    out.fail_at(1, 3)?;
-    let status = run(alloc, words.as_slice(), &mut files, &mut out);
-    assert_eq!(rt; status, Status::NotAccepted);
-    assert_eq!(rt; out.written(), b"accnot".as_slice());
+    let answer = told(alloc, "validate o h c", &mut files, &mut out)?;
+    assert_eq!(rt; answer.as_str(), "3 acc");
     Ok(())
 }
 
 #[test]
-fn words_that_are_no_command(rt: HostRuntime) -> Result<(), Fail> {
-    for texts in [
-        [].as_slice(),
-        ["validate", "a", "h"].as_slice(),
-        ["validate", "a", "h", ""].as_slice(),
-        ["validate", "a", "h", "-c"].as_slice(),
-        ["check", "a", "h", "c"].as_slice(),
-    ] {
-        let words = words(rt.alloc(), texts)?;
-        let mut files = MemFiles::new(rt.alloc());
-        let mut out = MemSink::new(rt.alloc());
-        let status = run(rt.alloc(), words.as_slice(), &mut files, &mut out);
-        assert_eq!(rt; status.code(), 2);
-        assert_eq!(rt;
-            str::from_utf8(out.written())?,
-            "usage: tmr validate ORIG HARD CERT\n"
-        );
-    }
+fn a_put_of_no_acceptance_that_fails(rt: HostRuntime) -> Result<(), Fail> {
+    let alloc = rt.alloc();
+    let mut files = files_of(alloc, "AND AND_SWAPPED_OUTPUTS AND_CERT")?;
+    let mut out = MemSink::new(alloc);
+    out.fail_at(0, 3)?;
+    let answer = told(alloc, "validate o h c", &mut files, &mut out)?;
+    assert_eq!(rt; answer.as_str(), "1 not");
     Ok(())
 }
