@@ -1,0 +1,4 @@
+pub mod NameSets
+pub mod Items
+pub mod GraphLaws
+pub mod Reaching

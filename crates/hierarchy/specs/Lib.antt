@@ -1,0 +1,6 @@
+pub mod Graph
+pub mod Ports
+pub mod Faults
+pub mod Library
+pub mod Rows
+pub mod Growth

@@ -1,0 +1,14 @@
+//! Flattens a library: the models that the main model places, and those that they place, become one
+//! flat design.
+#![tactic(auto)]
+
+mod fault;
+mod graph;
+mod model_names;
+mod placing;
+mod ports;
+mod reach;
+
+use fault::LibraryFault;
+use graph::Graph;
+use ports::Ports;
