@@ -36,7 +36,11 @@ graph library = map (placed_of (names_of library)) library
 abbrev pub row : List (List ℕ) → ℕ → List ℕ
 row rows x = slice_index_or rows x []
 
+-- model x places model y
+abbrev pub Places : List (List ℕ) → ℕ → ℕ → Type 0
+Places rows x y = Contains (row rows x) y
+
 -- the main model is reached, and so is each model that a reached model places
 pub data Reached (rows : List (List ℕ)) : ℕ → Type 0 where
   main : Reached rows 0
-  placed : (x y : ℕ) → Reached rows x → Contains (row rows x) y → Reached rows y
+  placed : (x y : ℕ) → Reached rows x → Places rows x y → Reached rows y

@@ -4,3 +4,5 @@ pub mod Faults
 pub mod Library
 pub mod Rows
 pub mod Growth
+pub mod Turned
+pub mod Found

@@ -1,8 +1,9 @@
 -- The first fault of a library.
-use Rattle.std.specs.Prelude.{◌≡◌, ◌≢◌, ℕ, suc, ◌-◌, ◌<◌, ◌≤◌, List, map, length, Option, Some, None, slice_get, slice_index, Contains}
+use Rattle.std.specs.Prelude.{◌≡◌, ◌≢◌, ℕ, suc, ◌-◌, ◌<◌, ◌≤◌, List, map, length, [], Option, Some, None, slice_get, slice_index, slice_index_or}
 use Rattle.blif_text.specs.Models.{PlainModel}
 use Rattle.hierarchy.specs.declared.fault.LibraryFault.{LibraryFault}
-use Rattle.hierarchy.specs.Graph.{graph, row, Reached}
+use Rattle.hierarchy.specs.declared.fault.LibraryFault.TheVariants.{UnknownModel, UnboundInput, UnknownFormal, DuplicateFormal, BothWays, Recursive}
+use Rattle.hierarchy.specs.Graph.{graph, names_of, Places, Reached}
 use Rattle.hierarchy.specs.Faults.{model_fault}
 
 -- no statement of the reached models before this one has a fault
@@ -22,7 +23,29 @@ pub record IsFirstFault (library : List PlainModel) (fault : LibraryFault) : Typ
 pub record IsLoop (rows : List (List ℕ)) (models : List ℕ) : Type 0 where
   pub some : 0 < length models
   pub reached : (k : ℕ) → k < length models → Reached rows (slice_index models k)
-  pub next : (k : ℕ) → suc k < length models → Contains (row rows (slice_index models k)) (slice_index models (suc k))
-  pub closed : Contains (row rows (slice_index models (length models - 1))) (slice_index models 0)
+  pub next : (k : ℕ) → suc k < length models → Places rows (slice_index models k) (slice_index models (suc k))
+  pub closed : Places rows (slice_index models (length models - 1)) (slice_index models 0)
   pub once : (j k : ℕ) → j < k → k < length models → slice_index models j ≢ slice_index models k
   pub least : (k : ℕ) → k < length models → slice_index models 0 ≤ slice_index models k
+
+-- no statement of a reached model has a fault
+abbrev pub IsPlaceable : List PlainModel → Type 0
+IsPlaceable library = AreFaultless library (length library)
+
+-- the first fault of the statements, where there is one
+abbrev pub IsStatementFault : List PlainModel → Option LibraryFault → Type 0
+IsStatementFault library None = IsPlaceable library
+IsStatementFault library (Some fault) = IsFirstFault library fault
+
+-- the names of these models
+abbrev pub names_at : List PlainModel → List ℕ → List (List ℕ)
+names_at library models = map (λ x. slice_index_or (names_of library) x []) models
+
+-- models that place each other in a loop, given that no statement has a fault
+abbrev pub IsRecursive : List PlainModel → List (List ℕ) → Type 0
+IsRecursive library names = IsPlaceable library × ((models : List ℕ) × IsLoop (graph library) models × (names ≡ names_at library models))
+
+-- the fault is there, and none before it
+abbrev pub IsLibraryFault : List PlainModel → LibraryFault → Type 0
+IsLibraryFault library (Recursive names) = IsRecursive library names.items
+IsLibraryFault library fault = IsFirstFault library fault

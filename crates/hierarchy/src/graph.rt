@@ -30,7 +30,8 @@ impl Model for Graph {
 impl Graph {
     /// How many models there are.
     pub(crate) fn count(&self) -> usize
-        ensures { result ≡ length self.now }
+        ensures count { result ≡ length self.now }
+        ensures within { AreWithin self.now }
     {
         self.rows.len()
     }

@@ -4,7 +4,9 @@
 
 mod fault;
 mod graph;
+mod library;
 mod model_names;
+mod order;
 mod placing;
 mod ports;
 mod reach;
