@@ -1,6 +1,6 @@
 -- What a graph of models keeps.
-use Rattle.std.proofs.Common.{◌≡◌, ℕ, ◌<◌, List, [], ◌∷◌, length, get_or, map, drop, ◌++◌, ◌≤◌, append-nil, sym, refl, ap, ◌∙◌, subst, arith, Option, Some, None, cond, Bool, true, false, nat_lt}
-use Rattle.std.specs.Prelude.{All, position, option_to_list}
+use Rattle.std.proofs.Common.{◌≡◌, ℕ, ◌<◌, List, [], ◌∷◌, length, map, drop, ◌++◌, ◌≤◌, append-nil, sym, refl, ◌∙◌, subst, arith, Option, Some, None, cond, Bool, true, false, nat_lt}
+use Rattle.std.specs.Prelude.{All, option_to_list}
 use Rattle.std.specs.Str.{bytes_eq}
 use Rattle.std.specs.List.{position_or_len}
 use Rattle.std.proofs.lemmas.Grind.{common_steps}

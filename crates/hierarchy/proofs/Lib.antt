@@ -6,3 +6,5 @@ pub mod Searching
 pub mod Moves
 pub mod Turning
 pub mod Walking
+pub mod FirstFaults
+pub mod Loops

@@ -1,31 +1,30 @@
 -- The three moves of the search: a new vertex is opened, a vertex that is done is passed, and a vertex all of whose reads are passed is done.
-use Rattle.std.proofs.Common.{◌≡◌, ◌≢◌, ℕ, zero, suc, ◌+◌, ◌-◌, ◌<◌, ◌≤◌, ◌⊎◌, List, [], ◌∷◌, ◌++◌, length, get_or, set, refl, sym, ap, ◌∙◌, subst, inl, inr, arith}
+use Rattle.std.proofs.Common.{◌≡◌, ◌≢◌, ℕ, suc, ◌+◌, ◌<◌, ◌≤◌, ◌⊎◌, List, [], ◌∷◌, ◌++◌, length, get_or, set, refl, sym, ap, ◌∙◌, inl, inr, arith}
 use Rattle.std.proofs.lemmas.List.{get_or-set_same, get_or-set_other, get_or_append_left, get_or_push, length-set, length_push}
-use Rattle.std.proofs.lemmas.Bool.{cases_eq, cases_lt}
+use Rattle.std.proofs.lemmas.Bool.{cases_eq}
 use Rattle.hierarchy.specs.declared.order.Mark.{Mark}
 use Rattle.hierarchy.specs.declared.order.Mark.TheVariants.{New, Open, Done}
-use Rattle.hierarchy.proofs.Searching.{Stands, IsOnce, mark_at, IsSearch, mark_within, set_marks, stands_push, stands_last, push_cases, once_push}
+use Rattle.hierarchy.proofs.Searching.{Stands, mark_at, IsSearch, mark_within, set_marks, stands_push, stands_last, push_cases, once_push}
 
 module _ (IsSought : ℕ → Type 0) (reads : ℕ → List ℕ) where
-
   -- a new vertex goes on the path
   pub opened : (marks : List Mark) (passed path order : List ℕ) (x : ℕ) → IsSearch IsSought reads marks passed path order → mark_at marks x ≡ New → ((k : ℕ) → suc k ≡ length path → Stands (reads (get_or path k 0)) x) → IsSearch IsSought reads (set marks x Open) passed (path ++ x ∷ []) order
   opened marks passed path order x s new read = record {
-      lengths = s.lengths ∙ sym (length-set marks x Open);
-      new_sought = λ z h. new_sought z h (step z);
-      new_fresh = λ z h. new_fresh z h (step z);
-      open_on_path = λ z h. open_on_path z h (step z);
-      path_open = λ k h. path_open k (push_cases path x k h);
-      path_sought = λ k h. path_sought k (push_cases path x k h);
-      path_once = once_push path x s.path_once (λ k h e. let o = s.path_open k h in cc);
-      chain = λ k h. chain k h (push_cases path x (suc k) h);
-      passed_within = λ z h. passed_within z h (step z);
-      passed_done = λ z i h l. passed_done z i h l (step z);
-      order_done = λ k h. order_done k h (step (get_or order k 0));
-      order_once = s.order_once;
-      in_order = λ z t h. in_order z t h (step z);
-      after = s.after;
-    }
+    lengths = s.lengths ∙ sym (length-set marks x Open);
+    new_sought = λ z h. new_sought z h (step z);
+    new_fresh = λ z h. new_fresh z h (step z);
+    open_on_path = λ z h. open_on_path z h (step z);
+    path_open = λ k h. path_open k (push_cases path x k h);
+    path_sought = λ k h. path_sought k (push_cases path x k h);
+    path_once = once_push path x s.path_once (λ k h e. let o = s.path_open k h in cc);
+    chain = λ k h. chain k h (push_cases path x (suc k) h);
+    passed_within = λ z h. passed_within z h (step z);
+    passed_done = λ z i h l. passed_done z i h l (step z);
+    order_done = λ k h. order_done k h (step (get_or order k 0));
+    order_once = s.order_once;
+    in_order = λ z t h. in_order z t h (step z);
+    after = s.after;
+  }
     where
       at : x < length marks
       at = mark_within marks x (λ e. (cc))
@@ -84,21 +83,21 @@ module _ (IsSought : ℕ → Type 0) (reads : ℕ → List ℕ) where
   -- what a vertex on the path reads next is done
   pub passed_by : (marks : List Mark) (passed path order : List ℕ) (x i : ℕ) → IsSearch IsSought reads marks passed path order → mark_at marks x ≡ Open → get_or passed x 0 ≡ i → i < length (reads x) → mark_at marks (get_or (reads x) i 0) ≡ Done → IsSearch IsSought reads marks (set passed x (i + 1)) path order
   passed_by marks passed path order x i s is_open is l done = record {
-      lengths = length-set passed x (i + 1) ∙ s.lengths;
-      new_sought = s.new_sought;
-      new_fresh = λ z h. new_fresh z h (step z);
-      open_on_path = s.open_on_path;
-      path_open = s.path_open;
-      path_sought = s.path_sought;
-      path_once = s.path_once;
-      chain = s.chain;
-      passed_within = λ z h. passed_within z h (step z);
-      passed_done = λ z j h below. passed_done z j h below (step z);
-      order_done = s.order_done;
-      order_once = s.order_once;
-      in_order = s.in_order;
-      after = s.after;
-    }
+    lengths = length-set passed x (i + 1) ∙ s.lengths;
+    new_sought = s.new_sought;
+    new_fresh = λ z h. new_fresh z h (step z);
+    open_on_path = s.open_on_path;
+    path_open = s.path_open;
+    path_sought = s.path_sought;
+    path_once = s.path_once;
+    chain = s.chain;
+    passed_within = λ z h. passed_within z h (step z);
+    passed_done = λ z j h below. passed_done z j h below (step z);
+    order_done = s.order_done;
+    order_once = s.order_once;
+    in_order = s.in_order;
+    after = s.after;
+  }
     where
       step : (z : ℕ) → ((z ≡ x) × (get_or (set passed x (i + 1)) z 0 ≡ i + 1)) ⊎ ((z ≢ x) × (get_or (set passed x (i + 1)) z 0 ≡ get_or passed z 0))
       step z = go (cases_eq z x)
@@ -129,21 +128,21 @@ module _ (IsSought : ℕ → Type 0) (reads : ℕ → List ℕ) where
   -- the top of the path is done, and goes into the order
   pub finished : (marks : List Mark) (passed path order : List ℕ) (x : ℕ) → IsSearch IsSought reads marks passed (path ++ x ∷ []) order → length (reads x) ≤ get_or passed x 0 → IsSearch IsSought reads (set marks x Done) passed path (order ++ x ∷ [])
   finished marks passed path order x s all = record {
-      lengths = s.lengths ∙ sym (length-set marks x Done);
-      new_sought = λ z h. new_sought z h (step z);
-      new_fresh = λ z h. new_fresh z h (step z);
-      open_on_path = λ z h. open_on_path z h (step z);
-      path_open = λ k h. path_open k h (step (get_or path k 0));
-      path_sought = λ k h. rw (inner k h) at (s.path_sought k (longer k h));
-      path_once = record { apart = λ j k jk h. path_once j k jk h };
-      chain = λ k h. rw (inner k (omega arith), inner (suc k) h) at (s.chain k (omega (arith, length_push path x)));
-      passed_within = λ z h. passed_within z h (step z);
-      passed_done = λ z i h l. passed_done z i h l (step z);
-      order_done = λ k h. order_done k (push_cases order x k h);
-      order_once = once_push order x s.order_once (λ k h e. let d = s.order_done k h in (cc (d, is_open)));
-      in_order = λ z t h. in_order z t h (step z);
-      after = λ k i h. after k i (push_cases order x k h);
-    }
+    lengths = s.lengths ∙ sym (length-set marks x Done);
+    new_sought = λ z h. new_sought z h (step z);
+    new_fresh = λ z h. new_fresh z h (step z);
+    open_on_path = λ z h. open_on_path z h (step z);
+    path_open = λ k h. path_open k h (step (get_or path k 0));
+    path_sought = λ k h. rw (inner k h) at (s.path_sought k (longer k h));
+    path_once = record { apart = λ j k jk h. path_once j k jk h };
+    chain = λ k h. rw (inner k (omega arith), inner (suc k) h) at (s.chain k (omega (arith, length_push path x)));
+    passed_within = λ z h. passed_within z h (step z);
+    passed_done = λ z i h l. passed_done z i h l (step z);
+    order_done = λ k h. order_done k (push_cases order x k h);
+    order_once = once_push order x s.order_once (λ k h e. let d = s.order_done k h in (cc (d, is_open)));
+    in_order = λ z t h. in_order z t h (step z);
+    after = λ k i h. after k i (push_cases order x k h);
+  }
     where
       top : get_or (path ++ x ∷ []) (length path) 0 ≡ x
       top = get_or_push path x 0 (length path) refl

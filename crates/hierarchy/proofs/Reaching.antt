@@ -1,6 +1,6 @@
 -- What a list of reached models keeps while it grows.
-use Rattle.std.proofs.Common.{◌≡◌, ◌≢◌, ℕ, zero, suc, ◌+◌, ◌<◌, ◌≤◌, ◌⊎◌, ◌↔◌, Bool, true, false, cond, List, [], ◌∷◌, ◌++◌, length, take, get_or, refl, sym, ap, subst, ◌∙◌, inl, inr, arith, nat_eq, eqb}
-use Rattle.std.specs.Prelude.{Contains, All}
+use Rattle.std.proofs.Common.{◌≡◌, ℕ, zero, suc, ◌+◌, ◌<◌, ◌≤◌, ◌⊎◌, ◌↔◌, Bool, true, false, cond, List, [], ◌∷◌, ◌++◌, length, take, get_or, refl, sym, subst, ◌∙◌, inl, inr, arith, nat_eq, eqb}
+use Rattle.std.specs.Prelude.{Contains}
 use Rattle.std.specs.List.{list_any, IsDistinct}
 use Rattle.std.proofs.lemmas.Map.Steps.{length-le_from_distinct_below}
 use Rattle.std.proofs.lemmas.Bool.{cases_lt, eqb-true, eq-eqb}
@@ -34,32 +34,32 @@ one_has x = (zero, omega arith, refl)
 
 pub gains_none : (old : List ℕ) → Gains old [] old
 gains_none old = record {
-    longer = omega arith;
-    stays = λ k h. refl;
-    has = λ x c. absurd (let below : c.0 < 0 = c.1 in omega arith);
-    only = λ k low high. absurd (omega arith);
-  }
+  longer = omega arith;
+  stays = λ k h. refl;
+  has = λ x c. absurd (let below : c.0 < 0 = c.1 in omega arith);
+  only = λ k low high. absurd (omega arith);
+}
 
 pub gains_one : (old seen keys : List ℕ) (x : ℕ) → Gains old seen keys → Gains old (seen ++ x ∷ []) (insert_key nat_eq keys x)
 gains_one old seen keys x g = go (list_any (nat_eq x) keys) refl
   where
     go : (b : Bool) → list_any (nat_eq x) keys ≡ b → Gains old (seen ++ x ∷ []) (cond b keys (keys ++ x ∷ []))
     go true e = record {
-        longer = g.longer;
-        stays = g.stays;
-        has = λ y c. old_or_new y (Contains-append_cases seen (x ∷ []) y c);
-        only = λ k low high. Contains-append_left seen (x ∷ []) _ (g.only k low high);
-      }
+      longer = g.longer;
+      stays = g.stays;
+      has = λ y c. old_or_new y (Contains-append_cases seen (x ∷ []) y c);
+      only = λ k low high. Contains-append_left seen (x ∷ []) _ (g.only k low high);
+    }
       where
         old_or_new : (y : ℕ) → Contains seen y ⊎ Contains (x ∷ []) y → Contains keys y
         old_or_new y (inl c) = g.has y c
         old_or_new y (inr c) = subst (Contains keys) (sym (one_is x y c)) (listed keys x e)
     go false e = record {
-        longer = let l = g.longer in omega (arith, length_push keys x);
-        stays = λ k h. get_or_append_left keys (x ∷ []) 0 k (let l = g.longer in omega arith) ∙ g.stays k h;
-        has = λ y c. old_or_new y (Contains-append_cases seen (x ∷ []) y c);
-        only = λ k low high. only k low (cases_lt k (length keys)) high;
-      }
+      longer = let l = g.longer in omega (arith, length_push keys x);
+      stays = λ k h. get_or_append_left keys (x ∷ []) 0 k (let l = g.longer in omega arith) ∙ g.stays k h;
+      has = λ y c. old_or_new y (Contains-append_cases seen (x ∷ []) y c);
+      only = λ k low high. only k low (cases_lt k (length keys)) high;
+    }
       where
         old_or_new : (y : ℕ) → Contains seen y ⊎ Contains (x ∷ []) y → Contains (keys ++ x ∷ []) y
         old_or_new y (inl c) = Contains-append_left keys (x ∷ []) y (g.has y c)
@@ -87,12 +87,12 @@ pub record IsReaching (graph : List (List ℕ)) (at : ℕ) (keys : List ℕ) : T
 
 pub reaching_first : (graph : List (List ℕ)) → 0 < length graph → IsReaching graph 0 (0 ∷ [])
 reaching_first graph some = record {
-    first = one_has 0;
-    order = omega arith;
-    sound = λ k h. sound k h;
-    within = λ k h. within k h;
-    closed = λ k y h c. absurd (omega arith);
-  }
+  first = one_has 0;
+  order = omega arith;
+  sound = λ k h. sound k h;
+  within = λ k h. within k h;
+  closed = λ k y h c. absurd (omega arith);
+}
   where
     sound : (k : ℕ) → k < 1 → Reached graph (get_or (0 ∷ []) k 0)
     sound zero h = main
@@ -104,12 +104,12 @@ reaching_first graph some = record {
 
 pub reaching_more : (graph : List (List ℕ)) (at x : ℕ) (keys new : List ℕ) → AreWithin graph → at < length keys → x ≡ get_or keys at 0 → IsReaching graph at keys → Gains keys (row graph x) new → IsReaching graph (at + 1) new
 reaching_more graph at x keys new fits below is r g = record {
-    first = kept 0 r.first;
-    order = let l = g.longer in omega arith;
-    sound = λ k h. sound k (cases_lt k (length keys)) h;
-    within = λ k h. within k (cases_lt k (length keys)) h;
-    closed = λ k y h c. closed k y (cases_lt k at) h c;
-  }
+  first = kept 0 r.first;
+  order = let l = g.longer in omega arith;
+  sound = λ k h. sound k (cases_lt k (length keys)) h;
+  within = λ k h. within k (cases_lt k (length keys)) h;
+  closed = λ k y h c. closed k y (cases_lt k at) h c;
+}
   where
     here : get_or keys at 0 ≡ x
     here = sym is

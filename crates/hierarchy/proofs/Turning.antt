@@ -1,8 +1,8 @@
 -- The loop at the end of a path, turned so that it begins with its least number.
-use Rattle.std.proofs.Common.{◌≡◌, ◌≢◌, ℕ, zero, suc, ◌+◌, ◌-◌, ◌<◌, ◌≤◌, ◌⊎◌, List, [], ◌∷◌, ◌++◌, length, map, get_or, set, take, drop, refl, sym, ap, subst, ◌∙◌, inl, inr, arith}
+use Rattle.std.proofs.Common.{◌≡◌, ◌≢◌, ℕ, suc, ◌+◌, ◌-◌, ◌<◌, ◌≤◌, ◌⊎◌, List, ◌++◌, length, get_or, drop, sym, subst, ◌∙◌, inl, inr, arith}
 use Rattle.std.specs.Prelude.{slice_range, Contains}
 use Rattle.std.proofs.lemmas.Bool.{cases_eq, cases_lt, cases_order}
-use Rattle.std.proofs.lemmas.List.{length-map, length-append, length-drop, length-take, get_or_append_left, get_or-append_right, get_or-drop, get_or-take, drop-map, take-map, map-append, get_or_default}
+use Rattle.std.proofs.lemmas.List.{length-append, length-drop, length-take, get_or_append_left, get_or-append_right, get_or-drop, get_or-take, get_or_default}
 use Rattle.hierarchy.proofs.Searching.{Stands, IsOnce}
 use Rattle.hierarchy.specs.Turned.{IsTurned}
 use Rattle.hierarchy.specs.Library.{IsLoop}

@@ -2,7 +2,7 @@
 use Rattle.std.proofs.Common.{◌≡◌, ◌≢◌, ℕ, zero, suc, ◌+◌, ◌-◌, ◌*◌, ◌<◌, ◌≤◌, ◌⊎◌, List, [], ◌∷◌, ◌++◌, length, get_or, set, replicate, refl, sym, ap, ◌∙◌, subst, inl, inr, arith}
 use Rattle.std.specs.Prelude.{Contains}
 use Rattle.std.specs.List.{sum_by}
-use Rattle.std.proofs.lemmas.Bool.{cases_eq, cases_lt}
+use Rattle.std.proofs.lemmas.Bool.{cases_lt}
 use Rattle.std.proofs.lemmas.List.{length-set, length-replicate, length_push, get_or_push, get_or-set_same, get_or-replicate, get_or_past, get_or_default}
 use Rattle.std.proofs.lemmas.List.Sums.{sum_by-set, get_or-le-sum_by}
 use Rattle.hierarchy.specs.declared.order.Mark.{Mark}
@@ -12,9 +12,9 @@ use Rattle.hierarchy.specs.Rows.{AreWithin}
 use Rattle.hierarchy.specs.Library.{IsLoop}
 use Rattle.hierarchy.specs.Found.{IsOrder}
 use Rattle.hierarchy.specs.Turned.{IsLast, IsTurned}
-use Rattle.hierarchy.proofs.Searching.{Stands, IsOnce, IsSearch, mark_at, push_cases, set_marks, mark_within}
+use Rattle.hierarchy.proofs.Searching.{Stands, IsSearch, mark_at, push_cases, set_marks, mark_within}
 use Rattle.hierarchy.proofs.Moves.{opened, passed_by, finished}
-use Rattle.hierarchy.proofs.Turning.{is_loop, stands_contains, contains_stands}
+use Rattle.hierarchy.proofs.Turning.{is_loop, stands_contains}
 
 -- all models may be walked to
 abbrev pub IsModelOf : List (List ℕ) → ℕ → Type 0
@@ -89,13 +89,13 @@ module _ (rows : List (List ℕ)) (marks : List Mark) (passed path order : List 
   -- what the top places next is new
   pub opens : (marks' : List Mark) (passed' path' order' : List ℕ) (x y : ℕ) → IsLast path x → (get_or passed x 0 < length (row rows x)) × (get_or (row rows x) (get_or passed x 0) 0 ≡ y) → mark_at marks y ≡ New → marks' ≡ set marks y Open → passed' ≡ passed → path' ≡ path ++ y ∷ [] → order' ≡ order → IsWalk rows marks' passed' path' order'
   opens marks' passed' path' order' x y l next new m p q o = rw (m, p, q, o) (record {
-      search = opened (IsModelOf rows) (row rows) marks passed path order y s.search new read;
-      fit = length-set marks y Open ∙ s.fit;
-      begun = begun_set marks y Open (new_within y new) (λ e. (cc)) s.begun;
-      on_path = λ k h. on_path k (push_cases path y k h);
-      in_order = s.in_order;
-      orders_within = s.orders_within;
-    })
+    search = opened (IsModelOf rows) (row rows) marks passed path order y s.search new read;
+    fit = length-set marks y Open ∙ s.fit;
+    begun = begun_set marks y Open (new_within y new) (λ e. (cc)) s.begun;
+    on_path = λ k h. on_path k (push_cases path y k h);
+    in_order = s.in_order;
+    orders_within = s.orders_within;
+  })
     where
       placing : Stands (row rows x) y
       placing = record { at = get_or passed x 0; below = next.0; is = next.1 }
@@ -109,13 +109,13 @@ module _ (rows : List (List ℕ)) (marks : List Mark) (passed path order : List 
 
   pub passes : (marks' : List Mark) (passed' path' order' : List ℕ) (x y : ℕ) → IsLast path x → (get_or passed x 0 < length (row rows x)) × (get_or (row rows x) (get_or passed x 0) 0 ≡ y) → mark_at marks y ≡ Done → marks' ≡ marks → passed' ≡ set passed x (get_or passed x 0 + 1) → path' ≡ path → order' ≡ order → IsWalk rows marks' passed' path' order'
   passes marks' passed' path' order' x y l next done m p q o = rw (m, p, q, o) (record {
-      search = passed_by (IsModelOf rows) (row rows) marks passed path order x (get_or passed x 0) s.search (top_open x l) refl next.0 (rw next.1 done);
-      fit = s.fit;
-      begun = s.begun;
-      on_path = s.on_path;
-      in_order = s.in_order;
-      orders_within = s.orders_within;
-    })
+    search = passed_by (IsModelOf rows) (row rows) marks passed path order x (get_or passed x 0) s.search (top_open x l) refl next.0 (rw next.1 done);
+    fit = s.fit;
+    begun = s.begun;
+    on_path = s.on_path;
+    in_order = s.in_order;
+    orders_within = s.orders_within;
+  })
 
   pub loops : (turned : List ℕ) (x y : ℕ) → IsLast path x → (get_or passed x 0 < length (row rows x)) × (get_or (row rows x) (get_or passed x 0) 0 ≡ y) → IsTurned path y turned → IsLoop rows turned
   loops turned x y l next t = is_loop rows path turned y s.on_path s.search.chain (subst (λ v. Stands (row rows v) y) (sym l.is) (record { at = get_or passed x 0; below = next.0; is = next.1 })) s.search.path_once t
@@ -136,13 +136,13 @@ module _ (rows : List (List ℕ)) (marks : List Mark) (passed path order : List 
 module _ (rows : List (List ℕ)) (marks : List Mark) (passed path order : List ℕ) where
   finished_here : (x : ℕ) → IsWalk rows marks passed (path ++ x ∷ []) order → length (row rows x) ≤ get_or passed x 0 → IsWalk rows (set marks x Done) passed path (order ++ x ∷ [])
   finished_here x s all = record {
-      search = finished (IsModelOf rows) (row rows) marks passed path order x s.search all;
-      fit = length-set marks x Done ∙ s.fit;
-      begun = begun_set marks x Done below (λ e. (cc)) s.begun;
-      on_path = λ k h. on_path k h;
-      in_order = λ k h. in_order k (push_cases order x k h);
-      orders_within = λ k h. orders_within k (push_cases order x k h);
-    }
+    search = finished (IsModelOf rows) (row rows) marks passed path order x s.search all;
+    fit = length-set marks x Done ∙ s.fit;
+    begun = begun_set marks x Done below (λ e. (cc)) s.begun;
+    on_path = λ k h. on_path k h;
+    in_order = λ k h. in_order k (push_cases order x k h);
+    orders_within = λ k h. orders_within k (push_cases order x k h);
+  }
     where
       top : get_or (path ++ x ∷ []) (length path) 0 ≡ x
       top = get_or_push path x 0 (length path) refl
@@ -194,21 +194,21 @@ never_open n x e = go (fresh_mark n x)
 
 nothing : (rows : List (List ℕ)) → IsSearch (IsModelOf rows) (row rows) (replicate (length rows) New) (replicate (length rows) 0) [] []
 nothing rows = record {
-    lengths = length-replicate {A = ℕ} (length rows) 0 ∙ sym (length-replicate (length rows) New);
-    new_sought = λ x e. sought x e (fresh_mark (length rows) x);
-    new_fresh = λ x _. fresh x (cases_lt x (length rows));
-    open_on_path = λ x e. absurd (never_open (length rows) x e);
-    path_open = λ k h. absurd (omega arith);
-    path_sought = λ k h. absurd (omega arith);
-    path_once = record { apart = λ j k _ h. absurd (omega arith) };
-    chain = λ k h. absurd (omega arith);
-    passed_within = λ x e. absurd (never_open (length rows) x e);
-    passed_done = λ x i e _. absurd (never_open (length rows) x e);
-    order_done = λ k h. absurd (omega arith);
-    order_once = record { apart = λ j k jk h. absurd (omega arith) };
-    in_order = λ x l e. not_done x l e (fresh_mark (length rows) x);
-    after = λ k i h l t. absurd (omega arith);
-  }
+  lengths = length-replicate {A = ℕ} (length rows) 0 ∙ sym (length-replicate (length rows) New);
+  new_sought = λ x e. sought x e (fresh_mark (length rows) x);
+  new_fresh = λ x _. fresh x (cases_lt x (length rows));
+  open_on_path = λ x e. absurd (never_open (length rows) x e);
+  path_open = λ k h. absurd (omega arith);
+  path_sought = λ k h. absurd (omega arith);
+  path_once = record { apart = λ j k _ h. absurd (omega arith) };
+  chain = λ k h. absurd (omega arith);
+  passed_within = λ x e. absurd (never_open (length rows) x e);
+  passed_done = λ x i e _. absurd (never_open (length rows) x e);
+  order_done = λ k h. absurd (omega arith);
+  order_once = record { apart = λ j k jk h. absurd (omega arith) };
+  in_order = λ x l e. not_done x l e (fresh_mark (length rows) x);
+  after = λ k i h l t. absurd (omega arith);
+}
   where
     sought : (x : ℕ) → mark_at (replicate (length rows) New) x ≡ New → ((x < length rows) × (mark_at (replicate (length rows) New) x ≡ New)) ⊎ ((length rows ≤ x) × (mark_at (replicate (length rows) New) x ≡ Done)) → x < length rows
     sought x e (inl f) = f.0
@@ -225,13 +225,13 @@ nothing rows = record {
 -- the main model is open
 pub begins : (rows : List (List ℕ)) (marks : List Mark) (passed path order : List ℕ) → 0 < length rows → marks ≡ set (replicate (length rows) New) 0 Open → passed ≡ replicate (length rows) 0 → path ≡ 0 ∷ [] → order ≡ [] → IsWalk rows marks passed path order
 begins rows marks passed path order some m p q o = rw (m, p, q, o) (record {
-    search = opened (IsModelOf rows) (row rows) (replicate (length rows) New) (replicate (length rows) 0) [] [] 0 (nothing rows) new (λ k e. absurd (omega arith));
-    fit = length-set (replicate (length rows) New) 0 Open ∙ length-replicate (length rows) New;
-    begun = λ e. (let is = get_or-set_same (replicate (length rows) New) 0 Open Done (omega (arith, length-replicate (length rows) New)) in cc);
-    on_path = λ k h. on_path k h;
-    in_order = λ k h. absurd (omega arith);
-    orders_within = λ k h. absurd (omega arith);
-  })
+  search = opened (IsModelOf rows) (row rows) (replicate (length rows) New) (replicate (length rows) 0) [] [] 0 (nothing rows) new (λ k e. absurd (omega arith));
+  fit = length-set (replicate (length rows) New) 0 Open ∙ length-replicate (length rows) New;
+  begun = λ e. (let is = get_or-set_same (replicate (length rows) New) 0 Open Done (omega (arith, length-replicate (length rows) New)) in cc);
+  on_path = λ k h. on_path k h;
+  in_order = λ k h. absurd (omega arith);
+  orders_within = λ k h. absurd (omega arith);
+})
   where
     new : mark_at (replicate (length rows) New) 0 ≡ New
     new = get_or-replicate (length rows) 0 New Done some
@@ -247,12 +247,12 @@ reached_within rows within some _ (placed z y d (i, below, is)) = rw is at (with
 -- nothing is left
 pub ends : (rows : List (List ℕ)) (marks : List Mark) (passed path order : List ℕ) → AreWithin rows → 0 < length rows → IsWalk rows marks passed path order → path ≡ [] → IsOrder rows order
 ends rows marks passed path order within some s none = record {
-    within = s.orders_within;
-    reached = s.in_order;
-    complete = λ x r. stands_contains order x (s.search.in_order x (reached_within rows within some x r) (all_done x r));
-    once = s.search.order_once.apart;
-    after = λ k i h l. s.search.after k i h l (within (get_or order k 0) [] (s.orders_within k h) i 0 l);
-  }
+  within = s.orders_within;
+  reached = s.in_order;
+  complete = λ x r. stands_contains order x (s.search.in_order x (reached_within rows within some x r) (all_done x r));
+  once = s.search.order_once.apart;
+  after = λ k i h l. s.search.after k i h l (within (get_or order k 0) [] (s.orders_within k h) i 0 l);
+}
   where
     is_done : (x : ℕ) → mark_at marks x ≢ New → (m : Mark) → mark_at marks x ≡ m → mark_at marks x ≡ Done
     is_done x begun New e = absurd (begun e)

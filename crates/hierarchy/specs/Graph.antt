@@ -1,5 +1,5 @@
 -- Which model places which, by number, and which models the main model reaches.
-use Rattle.std.specs.Prelude.{◌≡◌, ℕ, List, [], ◌∷◌, length, map, flat_map, Option, Some, None, option_to_list, option_and_then, position, slice_get, slice_index_or, Contains}
+use Rattle.std.specs.Prelude.{ℕ, List, [], map, flat_map, Option, option_to_list, option_and_then, position, slice_get, slice_index_or, Contains}
 use Rattle.std.specs.Str.{bytes_eq}
 use Rattle.blif_text.specs.Library.{name_of}
 use Rattle.blif_text.specs.Models.{PlainElement, Table, Register, Instance, PlainModel}

@@ -1,5 +1,5 @@
 -- Lists of numbers that grow.
-use Rattle.std.specs.Prelude.{◌≡◌, ℕ, ◌<◌, ◌≤◌, ◌⊎◌, List, length, slice_index, Contains}
+use Rattle.std.specs.Prelude.{◌≡◌, ℕ, ◌<◌, ◌≤◌, List, length, slice_index, Contains}
 
 -- the numbers that were there stay at their places, and behind them stand those of the row that were not there
 pub record Gains (old row new : List ℕ) : Type 0 where

@@ -6,3 +6,4 @@ pub mod Rows
 pub mod Growth
 pub mod Turned
 pub mod Found
+pub mod Survey

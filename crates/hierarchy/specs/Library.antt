@@ -1,8 +1,7 @@
 -- The first fault of a library.
 use Rattle.std.specs.Prelude.{◌≡◌, ◌≢◌, ℕ, suc, ◌-◌, ◌<◌, ◌≤◌, List, map, length, [], Option, Some, None, slice_get, slice_index, slice_index_or}
 use Rattle.blif_text.specs.Models.{PlainModel}
-use Rattle.hierarchy.specs.declared.fault.LibraryFault.{LibraryFault}
-use Rattle.hierarchy.specs.declared.fault.LibraryFault.TheVariants.{UnknownModel, UnboundInput, UnknownFormal, DuplicateFormal, BothWays, Recursive}
+use Rattle.hierarchy.specs.declared.fault.PlacingFault.{PlacingFault}
 use Rattle.hierarchy.specs.Graph.{graph, names_of, Places, Reached}
 use Rattle.hierarchy.specs.Faults.{model_fault}
 
@@ -11,7 +10,7 @@ abbrev pub AreFaultless : List PlainModel → ℕ → Type 0
 AreFaultless library place = (k : ℕ) (m : PlainModel) → k < place → slice_get library k ≡ Some m → Reached (graph library) k → model_fault library m ≡ None
 
 -- the first fault of the statements of the reached models, which are taken in the order of the file
-pub record IsFirstFault (library : List PlainModel) (fault : LibraryFault) : Type 0 where
+pub record IsFirstFault (library : List PlainModel) (fault : PlacingFault) : Type 0 where
   pub place : ℕ
   pub model : PlainModel
   pub is : slice_get library place ≡ Some model
@@ -33,19 +32,14 @@ abbrev pub IsPlaceable : List PlainModel → Type 0
 IsPlaceable library = AreFaultless library (length library)
 
 -- the first fault of the statements, where there is one
-abbrev pub IsStatementFault : List PlainModel → Option LibraryFault → Type 0
+abbrev pub IsStatementFault : List PlainModel → Option PlacingFault → Type 0
 IsStatementFault library None = IsPlaceable library
 IsStatementFault library (Some fault) = IsFirstFault library fault
 
--- the names of these models
-abbrev pub names_at : List PlainModel → List ℕ → List (List ℕ)
-names_at library models = map (λ x. slice_index_or (names_of library) x []) models
+-- the names with these numbers
+unfoldable pub picked : List (List ℕ) → List ℕ → List (List ℕ)
+picked names models = map (λ x. slice_index_or names x []) models
 
 -- models that place each other in a loop, given that no statement has a fault
 abbrev pub IsRecursive : List PlainModel → List (List ℕ) → Type 0
-IsRecursive library names = IsPlaceable library × ((models : List ℕ) × IsLoop (graph library) models × (names ≡ names_at library models))
-
--- the fault is there, and none before it
-abbrev pub IsLibraryFault : List PlainModel → LibraryFault → Type 0
-IsLibraryFault library (Recursive names) = IsRecursive library names.items
-IsLibraryFault library fault = IsFirstFault library fault
+IsRecursive library names = IsPlaceable library × ((models : List ℕ) × IsLoop (graph library) models × (names ≡ picked (names_of library) models))

@@ -1,6 +1,5 @@
 -- Lists of numbers, each within the list of lists.
-use Rattle.std.specs.Prelude.{ℕ, ◌<◌, List, length, All, map}
-use Rattle.std.specs.Prelude.{Vec}
+use Rattle.std.specs.Prelude.{ℕ, ◌<◌, List, length, All}
 
 -- each number of each row is the number of a row
 abbrev pub AreWithin : List (List ℕ) → Type 0

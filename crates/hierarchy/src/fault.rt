@@ -1,13 +1,12 @@
-//! What is wrong with a library.
+//! What is wrong with a placed model.
 
 use tmr_base::Name;
 
-/// The first fault of the models that the main model reaches. Each but the last is of one `.subckt`
-/// statement, and they are tried in this order of statements: the model that it places is unknown; it
-/// has an input that is also an output; a binding names no input or output of it, or one that an earlier
-/// binding names; one of its inputs has no binding.
+/// The first fault of a `.subckt` statement. They are tried in this order: the model that it places is
+/// unknown; it has an input that is also an output; a binding names no input or output of it, or one
+/// that an earlier binding names; one of its inputs has no binding.
 #[derive(Debug, Drop)]
-pub enum LibraryFault {
+pub enum PlacingFault {
     /// No model has this name.
     UnknownModel(Name),
     /// The placed model has this input, which no binding names.
@@ -18,6 +17,4 @@ pub enum LibraryFault {
     DuplicateFormal(Name),
     /// It is an input of the placed model, and an output of it.
     BothWays(Name),
-    /// Models of which each places the next, and the last the first.
-    Recursive(Vec<Name>),
 }

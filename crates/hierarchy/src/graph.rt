@@ -48,7 +48,11 @@ impl Graph {
 
 /// The numbers of the models that these statements place, where the library has them.
 #[tactic(auto, unfolding(crate::specs::Graph::placed_in, crate::specs::Graph::number_named))]
-fn placed_models(alloc: Global, names: &IndexSet<Name>, elements: &[Element]) -> Result<Vec<usize>, OutOfMemory>
+fn placed_models(
+    alloc: Global,
+    names: &IndexSet<Name>,
+    elements: &[Element],
+) -> Result<Vec<usize>, OutOfMemory>
     ensures { IfOk result (λ row. row.items ≡ placed_in names.now.keys (map plain_element elements.now)) }
 {
     let mut row = Vec::new(alloc);
@@ -63,7 +67,11 @@ fn placed_models(alloc: Global, names: &IndexSet<Name>, elements: &[Element]) ->
 }
 
 /// Which model places which.
-pub(crate) fn graph_of(alloc: Global, names: &IndexSet<Name>, models: &[BlifModel]) -> Result<Graph, OutOfMemory>
+pub(crate) fn graph_of(
+    alloc: Global,
+    names: &IndexSet<Name>,
+    models: &[BlifModel],
+) -> Result<Graph, OutOfMemory>
     requires { names.now.keys ≡ names_of (map plain_model models.now) }
     ensures { IfOk result (λ g. g ≡ graph (map plain_model models.now)) }
 {

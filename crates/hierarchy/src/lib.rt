@@ -11,6 +11,6 @@ mod placing;
 mod ports;
 mod reach;
 
-use fault::LibraryFault;
+use fault::PlacingFault;
 use graph::Graph;
 use ports::Ports;

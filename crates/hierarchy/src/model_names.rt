@@ -11,7 +11,10 @@ use tmr_base::{Name, OutOfMemory};
 
 #[tactic(auto, using(crate::proofs::NameSets::model_laws))]
 /// The names of all models: a model's number is the place of its name.
-pub(crate) fn model_names(alloc: Global, models: &[BlifModel]) -> Result<IndexSet<Name>, OutOfMemory>
+pub(crate) fn model_names(
+    alloc: Global,
+    models: &[BlifModel],
+) -> Result<IndexSet<Name>, OutOfMemory>
     requires { Differ (names_of (map plain_model models.now)) }
     ensures { IfOk result (λ names. names.keys ≡ names_of (map plain_model models.now)) }
 {

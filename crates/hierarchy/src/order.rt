@@ -105,7 +105,11 @@ fn next_placed(graph: &Graph, passed: &[usize], top: usize) -> Option<usize>
 {
     let row = graph.row(top);
     let next = passed[top];
-    if next < row.len() { Some(row[next]) } else { None }
+    if next < row.len() {
+        Some(row[next])
+    } else {
+        None
+    }
 }
 
 /// The first place of y.

@@ -4,7 +4,7 @@ ghost use Rattle.blif_text.specs.Kind.{is_among};
 ghost use Rattle.blif_text.specs.Views.{plain_element};
 ghost use Rattle.hierarchy.specs.Faults.{both_ways, formal_fault, formals_fault, unbound_input, known_fault as known, placing_fault, ports_named, elements_fault, formal_of};
 
-use crate::{LibraryFault, Ports};
+use crate::{PlacingFault, Ports};
 use blif_text::Element;
 use indexmap::IndexSet;
 use std::alloc::Global;
@@ -25,37 +25,46 @@ fn first_unbound<'a>(ports: &'a Ports, bound: &IndexSet<Name>) -> Option<&'a Nam
 }
 
 #[tactic(auto, unfolding(crate::specs::Faults::both_ways))]
-fn both_ways_fault(alloc: Global, ports: &Ports) -> Result<Option<LibraryFault>, OutOfMemory>
+fn both_ways_fault(alloc: Global, ports: &Ports) -> Result<Option<PlacingFault>, OutOfMemory>
     ensures { IfOk result (λ fault. fault ≡ both_ways ports.now) }
 {
     match first_both_ways(ports) {
-        Some(input) => Ok(Some(LibraryFault::BothWays(input.copy(alloc)?))),
+        Some(input) => Ok(Some(PlacingFault::BothWays(input.copy(alloc)?))),
         None => Ok(None),
     }
 }
 
 #[tactic(auto, unfolding(crate::specs::Faults::unbound_input))]
-fn unbound_fault(alloc: Global, ports: &Ports, bound: &IndexSet<Name>) -> Result<Option<LibraryFault>, OutOfMemory>
+fn unbound_fault(
+    alloc: Global,
+    ports: &Ports,
+    bound: &IndexSet<Name>,
+) -> Result<Option<PlacingFault>, OutOfMemory>
     ensures { IfOk result (λ fault. fault ≡ unbound_input ports.now bound.now.keys) }
 {
     match first_unbound(ports, bound) {
-        Some(input) => Ok(Some(LibraryFault::UnboundInput(input.copy(alloc)?))),
+        Some(input) => Ok(Some(PlacingFault::UnboundInput(input.copy(alloc)?))),
         None => Ok(None),
     }
 }
 
 /// Binds one formal more, or answers its fault.
 #[tactic(auto, unfolding(crate::specs::Faults::formal_fault))]
-fn bind(alloc: Global, ports: &Ports, bound: &mut IndexSet<Name>, formal: &Name) -> Result<Option<LibraryFault>, OutOfMemory>
+fn bind(
+    alloc: Global,
+    ports: &Ports,
+    bound: &mut IndexSet<Name>,
+    formal: &Name,
+) -> Result<Option<PlacingFault>, OutOfMemory>
     ensures fault { IfOk result (λ fault. fault ≡ formal_fault ports.now bound.old.keys formal.now) }
     ensures bound { IfOk result (λ fault. fault ≡ None → bound.new.keys ≡ bound.old.keys ++ formal.now ∷ []) }
 {
     let name = formal.copy(alloc)?;
     if !ports.has(formal) {
-        return Ok(Some(LibraryFault::UnknownFormal(name)));
+        return Ok(Some(PlacingFault::UnknownFormal(name)));
     }
     if bound.contains(formal) {
-        return Ok(Some(LibraryFault::DuplicateFormal(name)));
+        return Ok(Some(PlacingFault::DuplicateFormal(name)));
     }
     bound.insert(name)?;
     Ok(None)
@@ -63,7 +72,12 @@ fn bind(alloc: Global, ports: &Ports, bound: &mut IndexSet<Name>, formal: &Name)
 
 /// Binds all formals, up to the first that has a fault.
 #[tactic(auto, unfolding(crate::specs::Faults::formals_fault))]
-fn bind_all(alloc: Global, ports: &Ports, bound: &mut IndexSet<Name>, bindings: &[(Name, Name)]) -> Result<Option<LibraryFault>, OutOfMemory>
+fn bind_all(
+    alloc: Global,
+    ports: &Ports,
+    bound: &mut IndexSet<Name>,
+    bindings: &[(Name, Name)],
+) -> Result<Option<PlacingFault>, OutOfMemory>
     ensures fault { IfOk result (λ fault. fault ≡ formals_fault ports.now bound.old.keys (map formal_of bindings.now)) }
     ensures bound { IfOk result (λ fault. fault ≡ None → bound.new.keys ≡ bound.old.keys ++ map formal_of bindings.now) }
 {
@@ -77,7 +91,11 @@ fn bind_all(alloc: Global, ports: &Ports, bound: &mut IndexSet<Name>, bindings: 
 
 /// The first fault of a statement that places a model with these inputs and outputs.
 #[tactic(auto, unfolding(crate::specs::Faults::known_fault))]
-fn known_fault(alloc: Global, ports: &Ports, bindings: &[(Name, Name)]) -> Result<Option<LibraryFault>, OutOfMemory>
+fn known_fault(
+    alloc: Global,
+    ports: &Ports,
+    bindings: &[(Name, Name)],
+) -> Result<Option<PlacingFault>, OutOfMemory>
     ensures { IfOk result (λ fault. fault ≡ known ports.now (map formal_of bindings.now)) }
 {
     if let Some(fault) = both_ways_fault(alloc, ports)? {
@@ -100,18 +118,29 @@ fn find_ports<'a>(names: &IndexSet<Name>, ports: &'a [Ports], model: &Name) -> O
 }
 
 /// The first fault of a `.subckt` statement.
-fn instance_fault(alloc: Global, names: &IndexSet<Name>, ports: &[Ports], model: &Name, bindings: &[(Name, Name)]) -> Result<Option<LibraryFault>, OutOfMemory>
+fn instance_fault(
+    alloc: Global,
+    names: &IndexSet<Name>,
+    ports: &[Ports],
+    model: &Name,
+    bindings: &[(Name, Name)],
+) -> Result<Option<PlacingFault>, OutOfMemory>
     ensures { IfOk result (λ fault. fault ≡ placing_fault model.now (ports_named names.now.keys ports.now model.now) (map formal_of bindings.now)) }
 {
     match find_ports(names, ports, model) {
         Some(placed) => known_fault(alloc, placed, bindings),
-        None => Ok(Some(LibraryFault::UnknownModel(model.copy(alloc)?))),
+        None => Ok(Some(PlacingFault::UnknownModel(model.copy(alloc)?))),
     }
 }
 
 /// The first fault of a model's statements.
 #[tactic(auto, unfolding(crate::specs::Faults::elements_fault))]
-pub(crate) fn statement_fault(alloc: Global, names: &IndexSet<Name>, ports: &[Ports], elements: &[Element]) -> Result<Option<LibraryFault>, OutOfMemory>
+pub(crate) fn statement_fault(
+    alloc: Global,
+    names: &IndexSet<Name>,
+    ports: &[Ports],
+    elements: &[Element],
+) -> Result<Option<PlacingFault>, OutOfMemory>
     ensures { IfOk result (λ fault. fault ≡ elements_fault names.now.keys ports.now (map plain_element elements.now)) }
 {
     for element in elements {

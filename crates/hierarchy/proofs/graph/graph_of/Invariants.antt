@@ -1,7 +1,7 @@
 use Rattle.std.proofs.Common.{◌≡◌, ◌++◌, drop, map}
 use Rattle.std.specs.Prelude.{vec_items}
 use Rattle.blif_text.specs.Views.{plain_model}
-use Rattle.hierarchy.specs.Graph.{placed_in, placed_of}
+use Rattle.hierarchy.specs.Graph.{placed_of}
 use Rattle.hierarchy.proofs.graph.graph_of.Given as goal
 
 abbrev pub invariant-loop-model : goal.invariant-loop-model

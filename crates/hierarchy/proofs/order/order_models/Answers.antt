@@ -1,9 +1,9 @@
-use Rattle.std.proofs.Common.{◌≡◌, ◌≢◌, ◌<◌, ◌+◌, [], ◌∷◌, ◌++◌, length, get_or, rules, arith, ◌∙◌, ap, sym, refl, set}
+use Rattle.std.proofs.Common.{◌≡◌, ◌<◌, [], length, get_or, rules, refl}
 use Rattle.hierarchy.specs.Graph.{row}
 use Rattle.hierarchy.specs.Turned.{IsLast, IsTurned}
-use Rattle.hierarchy.specs.declared.order.Mark.TheVariants.{New, Open, Done}
+use Rattle.hierarchy.specs.declared.order.Mark.TheVariants.{New, Done}
 use Rattle.hierarchy.proofs.Searching.{mark_at}
-use Rattle.hierarchy.proofs.Walking.{IsWalk, work, top_open, top_model, top_passed, opens, passes, finishes, loops, open_stands, opens_less, passes_less, finishes_less, ends, begins}
+use Rattle.hierarchy.proofs.Walking.{work, top_open, opens, passes, finishes, loops, opens_less, passes_less, finishes_less, ends, begins}
 use Rattle.hierarchy.proofs.order.order_models.Goals as goal
 
 pub moves-init : goal.moves-init

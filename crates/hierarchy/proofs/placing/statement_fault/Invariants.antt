@@ -1,4 +1,4 @@
-use Rattle.std.proofs.Common.{◌≡◌, ◌++◌, drop, map}
+use Rattle.std.proofs.Common.{◌≡◌, drop, map}
 use Rattle.blif_text.specs.Views.{plain_element}
 use Rattle.hierarchy.specs.Faults.{elements_fault}
 use Rattle.hierarchy.proofs.placing.statement_fault.Given as goal
