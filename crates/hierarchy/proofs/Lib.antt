@@ -8,3 +8,4 @@ pub mod Turning
 pub mod Walking
 pub mod FirstFaults
 pub mod Loops
+pub mod Capped

@@ -7,3 +7,5 @@ pub mod Growth
 pub mod Turned
 pub mod Found
 pub mod Survey
+pub mod FlatText
+pub mod Drafted

@@ -2,7 +2,9 @@
 //! flat design.
 #![tactic(auto)]
 
+mod drafted;
 mod fault;
+mod flat_text;
 mod graph;
 mod library;
 mod model_names;
@@ -14,3 +16,6 @@ mod reach;
 use fault::PlacingFault;
 use graph::Graph;
 use ports::Ports;
+
+pub use drafted::{assumed, draft_of};
+pub use flat_text::text_length;
