@@ -9,3 +9,5 @@ pub mod Walking
 pub mod FirstFaults
 pub mod Loops
 pub mod Capped
+pub mod Binding
+pub mod Linking

@@ -9,3 +9,7 @@ pub mod Found
 pub mod Survey
 pub mod FlatText
 pub mod Drafted
+pub mod Flat
+pub mod Clash
+pub mod Links
+pub mod Walk

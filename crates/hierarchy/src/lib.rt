@@ -7,11 +7,13 @@ mod fault;
 mod flat_text;
 mod graph;
 mod library;
+mod links;
 mod model_names;
 mod order;
 mod placing;
 mod ports;
 mod reach;
+mod walk;
 
 use fault::PlacingFault;
 use graph::Graph;
