@@ -11,3 +11,4 @@ pub mod Loops
 pub mod Capped
 pub mod Binding
 pub mod Linking
+pub mod Stacks

@@ -1,11 +1,13 @@
 -- What a walk has still to come.
-use Rattle.std.specs.Prelude.{◌≡◌, ℕ, zero, suc, ◌+◌, ◌-◌, ◌<◌, ◌≤◌, List, [], ◌∷◌, ◌++◌, length, map, take, drop, reverse, Option, Some, None, slice_index_or}
+use Rattle.std.specs.Prelude.{◌≡◌, ℕ, Bool, true, false, zero, suc, ◌+◌, ◌-◌, ◌<◌, ◌≤◌, List, [], ◌∷◌, ◌++◌, length, map, take, drop, reverse, Option, Some, None, slice_index_or}
 use Rattle.std.specs.Option.{option_map_or}
 use Rattle.blif_text.specs.Models.{PlainElement, Table, Register, Instance, PlainModel}
 use Rattle.hierarchy.specs.declared.walk.Frame.{Frame}
 use Rattle.hierarchy.specs.declared.walk.Walk.{Walk}
-use Rattle.hierarchy.specs.Flat.{Level, NetElement, no_model, elements_with, elements_to}
-use Rattle.hierarchy.specs.Links.{bindings_of}
+use Rattle.hierarchy.specs.Graph.{names_of, model_named}
+use Rattle.hierarchy.specs.Flat.{Level, NetElement, NetTable, NetRegister, no_model, resolve, resolved_control, elements_with, elements_to}
+use Rattle.hierarchy.specs.declared.links.Row.{Row}
+use Rattle.hierarchy.specs.Links.{bindings_of, AreRows, IsBare}
 
 abbrev pub model_at : List PlainModel → ℕ → PlainModel
 model_at library x = slice_index_or library x no_model
@@ -51,8 +53,44 @@ IsPlacing library (Some (x, i)) = (x < length library) × (i < length (model_at 
 -- paths become shorter outwards
 abbrev pub AreFrames : List PlainModel → ℕ → List Frame → Type 0
 AreFrames library bound [] = Unit {0}
-AreFrames library bound (f ∷ frames) = (f.path_end ≤ bound) × (f.model < length library) × IsPlacing library f.placing × AreFrames library f.path_end frames
+AreFrames library bound (f ∷ frames) = (f.path_end ≤ bound) × (f.number ≤ f.next) × (f.model < length library) × IsPlacing library f.placing × AreFrames library f.path_end frames
 
 -- what a walk keeps
 abbrev pub IsWalking : List PlainModel → Walk → Type 0
 IsWalking library w = AreFrames library (length w.path.items) (innermost_first w)
+
+-- the element is a `.subckt` statement
+abbrev pub IsInstance : PlainElement → Type 0
+IsInstance (Table pins out cover) = ⊥
+IsInstance (Register pin out control init) = ⊥
+IsInstance (Instance model bindings) = Unit {0}
+
+-- the flat element of a table or a register at these levels
+abbrev pub placed_element : List Level → PlainElement → List NetElement
+placed_element levels (Table pins out cover) = NetTable (map (resolve levels) pins) (resolve levels out) cover ∷ []
+placed_element levels (Register pin out control init) = NetRegister (resolve levels pin) (resolve levels out) (resolved_control levels control) init ∷ []
+placed_element levels (Instance model bindings) = []
+
+-- how many moves the walk of a model takes: one for each element, those of the models that it places, and one to leave it
+unfoldable pub moves_with : (List ℕ → ℕ) → List PlainElement → ℕ
+moves_with inner [] = 1
+moves_with inner (Table pins out cover ∷ elements) = suc (moves_with inner elements)
+moves_with inner (Register pin out control init ∷ elements) = suc (moves_with inner elements)
+moves_with inner (Instance model bindings ∷ elements) = suc (inner model + moves_with inner elements)
+
+unfoldable pub moves_to : List PlainModel → ℕ → List ℕ → ℕ
+moves_to library zero name = 0
+moves_to library (suc depth) name = option_map_or (λ m. moves_with (moves_to library depth) m.elements) (model_named library name) 0
+
+unfoldable pub moves_from : List PlainModel → List Frame → ℕ
+moves_from library [] = 0
+moves_from library (f ∷ frames) = moves_with (moves_to library (length library - length frames)) (drop f.next (model_at library f.model).elements) + moves_from library frames
+
+abbrev pub moves : List PlainModel → Walk → ℕ
+moves library w = moves_from library (innermost_first w)
+
+-- the links are those of the library, and a model is only left out where it is bare
+pub record IsReady (library : List PlainModel) (rows : List Row) : Type 0 where
+  pub holds : List Bool
+  pub links : AreRows (names_of library) holds rows library
+  pub bare : (x : ℕ) → slice_index_or holds x true ≡ false → IsBare library (model_at library x).elements

@@ -1,7 +1,12 @@
 //! A walk over the flat elements of a library, one after the other, by a stack of the placed models.
-ghost use Rattle.std.specs.Prelude.{◌≡◌, ◌<◌, ◌≤◌, ◌∷◌, [], ℕ, map, length, IfOk, IfSome, IsNone, Some, slice_get, slice_index_or, reverse};
+ghost use Rattle.std.specs.Prelude.{◌≡◌, ◌<◌, ◌≤◌, ◌∷◌, ◌++◌, [], length, take, IfOk, OnOk, IfSome, IsNone, Some, string_bytes, slice_get};
 
-use blif_text::{BlifModel, Element};
+ghost use Rattle.hierarchy.specs.Flat.{step};
+ghost use Rattle.hierarchy.specs.declared.links.Row.{Row};
+ghost use Rattle.hierarchy.specs.Walk.{innermost_first};
+
+use crate::links::{Link, Row};
+
 use std::alloc::{AllocError, Global};
 
 /// A placed model, and how far its elements are walked: the model's number, the element and the number
@@ -21,4 +26,62 @@ pub struct Frame {
 pub struct Walk {
     pub(crate) frames: Vec<Frame>,
     pub(crate) path: Vec<u8>,
+}
+
+/// Takes the innermost placed model off.
+#[tactic(auto, using(crate::proofs::Stacks::stack_laws))]
+fn pop_frame(walk: &mut Walk) -> Option<Frame>
+    ensures none { IsNone result → innermost_first walk.old ≡ [] }
+    ensures some { IfSome result (λ top. innermost_first walk.old ≡ top ∷ innermost_first walk.new) }
+    ensures path { walk.new.path.items ≡ walk.old.path.items }
+{
+    walk.frames.pop()
+}
+
+/// Puts a placed model on as the innermost.
+#[tactic(auto, using(crate::proofs::Stacks::stack_laws))]
+fn push_frame(walk: &mut Walk, frame: Frame) -> Result<(), AllocError>
+    ensures frames { OnOk result (innermost_first walk.new ≡ frame ∷ innermost_first walk.old) }
+    ensures path { OnOk result (walk.new.path.items ≡ walk.old.path.items) }
+{
+    walk.frames.push(frame)?;
+    Ok(())
+}
+
+/// `u`, the number and `/`.
+#[tactic(auto, unfolding(crate::specs::Flat::step))]
+fn step_text(alloc: Global, number: usize) -> Result<String, AllocError>
+    ensures { IfOk result (λ text. string_bytes text ≡ step number) }
+{
+    format!(in alloc; "u{number}/")
+}
+
+/// Goes into the model that the statement places which comes next in `top`.
+fn enter(alloc: Global, walk: &mut Walk, top: Frame, target: usize) -> Result<(), AllocError>
+    ensures frames { OnOk result (innermost_first walk.new ≡ record { model = target; next = 0; number = 0; placing = Some (top.model, top.next); path_end = length walk.new.path.items } ∷ innermost_first walk.old) }
+    ensures path { OnOk result (walk.new.path.items ≡ take top.path_end walk.old.path.items ++ step top.number) }
+{
+    let text = step_text(alloc, top.number)?;
+    walk.path.truncate(top.path_end);
+    walk.path.extend_from_slice(text.as_bytes())?;
+    let path_end = walk.path.len();
+    push_frame(
+        walk,
+        Frame {
+            model: target,
+            next: 0,
+            number: 0,
+            placing: Some((top.model, top.next)),
+            path_end,
+        },
+    )
+}
+
+/// The link of an element.
+fn link_at(rows: &[Row], x: usize, i: usize) -> &Link
+    requires row { x < length rows.now }
+    requires link { (row : Row) → slice_get rows.now x ≡ Some row → i < length row.links.items }
+    ensures { (row : Row) → slice_get rows.now x ≡ Some row → slice_get row.links.items i ≡ Some result.now }
+{
+    &rows[x].links[i]
 }
