@@ -15,7 +15,7 @@ use Rattle.hierarchy.specs.Graph.{names_of, number_named, placed_by, placed_in, 
 use Rattle.hierarchy.specs.Rows.{AreWithin}
 use Rattle.hierarchy.proofs.Items.{all_map}
 
-number_within : (names : List (List ℕ)) (name : List ℕ) (x : ℕ) → number_named names name ≡ Some x → x < length names
+pub number_within : (names : List (List ℕ)) (name : List ℕ) (x : ℕ) → number_named names name ≡ Some x → x < length names
 unfolding number_named
 number_within names name x e = go (nat_lt (position_or_len (bytes_eq name) names) (length names)) refl e
   where

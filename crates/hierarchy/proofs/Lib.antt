@@ -12,3 +12,6 @@ pub mod Capped
 pub mod Binding
 pub mod Linking
 pub mod Stacks
+pub mod Coming
+pub mod Linked
+pub mod Moved

@@ -1,5 +1,5 @@
 -- Links made one by one.
-use Rattle.std.proofs.Common.{◌≡◌, ℕ, ◌+◌, ◌<◌, Bool, List, [], ◌∷◌, ◌++◌, length, get_or, take, map, refl, sym, ap, ◌∙◌, subst, arith}
+use Rattle.std.proofs.Common.{◌≡◌, ℕ, ◌+◌, ◌<◌, Bool, List, [], ◌∷◌, ◌++◌, length, get_or, take, map}
 use Rattle.std.proofs.lemmas.List.{take_more, map-append}
 use Rattle.blif_text.specs.Models.{PlainElement, PlainModel}
 use Rattle.blif_text.specs.declared.library.BlifModel.{BlifModel}

@@ -1,11 +1,11 @@
 -- Statements made ready to be followed.
-use Rattle.std.specs.Prelude.{◌≡◌, ℕ, Bool, true, false, not, ◌&&◌, List, [], ◌∷◌, Option, Some, None, slice_index_or, if◌then◌else◌}
+use Rattle.std.specs.Prelude.{◌≡◌, ℕ, Bool, true, List, [], ◌∷◌, Option, Some, None, slice_index_or, if◌then◌else◌}
 use Rattle.std.specs.Str.{bytes_eq}
 use Rattle.std.specs.HashMap.{get}
 use Rattle.blif_text.specs.Models.{PlainElement, Table, Register, Instance, PlainModel}
 use Rattle.hierarchy.specs.declared.links.Link.{Link}
 use Rattle.hierarchy.specs.Graph.{number_named}
-use Rattle.hierarchy.specs.Flat.{Level, NetElement, elements_with, elements_to, actual_of}
+use Rattle.hierarchy.specs.Flat.{Level, elements_with, elements_to, actual_of}
 use Rattle.hierarchy.specs.declared.links.Row.{Row}
 
 -- no element stands in or below the model, wherever it is placed

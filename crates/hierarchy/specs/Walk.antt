@@ -94,3 +94,22 @@ pub record IsReady (library : List PlainModel) (rows : List Row) : Type 0 where
   pub holds : List Bool
   pub links : AreRows (names_of library) holds rows library
   pub bare : (x : ℕ) → slice_index_or holds x true ≡ false → IsBare library (model_at library x).elements
+
+-- the walk stands where one move from these placed models leads: the same is to come, and fewer moves are left
+pub record IsMoved (library : List PlainModel) (path : List ℕ) (frames : List Frame) (w : Walk) : Type 0 where
+  pub same : coming library w ≡ coming_from library path frames
+  pub walking : IsWalking library w
+  pub fewer : moves library w < moves_from library frames
+
+-- the walk has passed this table or register, which came next
+pub record IsNextElement (library : List PlainModel) (old : Walk) (x i : ℕ) (new : Walk) : Type 0 where
+  pub model : x < length library
+  pub element : i < length (model_at library x).elements
+  pub plain : ¬ IsInstance (element_at library x i)
+  pub walking : IsWalking library new
+  pub comes : coming library old ≡ placed_element (levels_of library new) (element_at library x i) ++ coming library new
+
+-- the next element, where one is still to come
+abbrev pub IsNext : List PlainModel → Walk → Option (ℕ × ℕ) → Walk → Type 0
+IsNext library old None new = coming library old ≡ []
+IsNext library old (Some (x, i)) new = IsNextElement library old x i new

@@ -22,7 +22,10 @@ fn copy_names(alloc: Global, names: &[Name]) -> Result<Vec<Name>, OutOfMemory>
 }
 
 /// The same control once more.
-fn copy_control(alloc: Global, control: &Option<(Edge, Name)>) -> Result<Option<(Edge, Name)>, OutOfMemory>
+fn copy_control(
+    alloc: Global,
+    control: &Option<(Edge, Name)>,
+) -> Result<Option<(Edge, Name)>, OutOfMemory>
     ensures { IfOk result (λ copy. copy ≡ control.now) }
 {
     match control {

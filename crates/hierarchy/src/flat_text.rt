@@ -62,7 +62,10 @@ fn element_length(element: &Element) -> u64
             .saturating_add(rows_length(cover))
             .saturating_add(7),
         Element::Latch {
-            pin, out, control, ..
+            pin,
+            out,
+            control,
+            ..
         } => spaced_name(pin)
             .saturating_add(spaced_name(out))
             .saturating_add(control_length(control))

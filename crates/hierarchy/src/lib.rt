@@ -15,9 +15,8 @@ mod ports;
 mod reach;
 mod walk;
 
+pub use drafted::{assumed, draft_of};
 use fault::PlacingFault;
+pub use flat_text::text_length;
 use graph::Graph;
 use ports::Ports;
-
-pub use drafted::{assumed, draft_of};
-pub use flat_text::text_length;

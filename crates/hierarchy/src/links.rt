@@ -28,7 +28,12 @@ pub struct Row {
 }
 
 /// Binds a formal, unless it is bound.
-fn bind_one(alloc: Global, actuals: &mut IndexMap<Name, Name>, formal: &Name, actual: &Name) -> Result<(), OutOfMemory>
+fn bind_one(
+    alloc: Global,
+    actuals: &mut IndexMap<Name, Name>,
+    formal: &Name,
+    actual: &Name,
+) -> Result<(), OutOfMemory>
     ensures { OnOk result ((name : List ℕ) → get bytes_eq actuals.new name ≡ option_or (get bytes_eq actuals.old name) (if bytes_eq name formal.now then Some actual.now else None)) }
 {
     if actuals.contains_key(formal) {
@@ -41,7 +46,10 @@ fn bind_one(alloc: Global, actuals: &mut IndexMap<Name, Name>, formal: &Name, ac
 }
 
 /// The actual of each formal.
-fn bind_actuals(alloc: Global, bindings: &[(Name, Name)]) -> Result<IndexMap<Name, Name>, OutOfMemory>
+fn bind_actuals(
+    alloc: Global,
+    bindings: &[(Name, Name)],
+) -> Result<IndexMap<Name, Name>, OutOfMemory>
     ensures { IfOk result (λ actuals. (name : List ℕ) → get bytes_eq actuals name ≡ actual_of bindings.now name) }
 {
     let mut actuals = IndexMap::new(alloc);
@@ -63,7 +71,12 @@ fn filled_target(names: &IndexSet<Name>, holds: &[bool], model: &Name) -> Option
     }
 }
 
-fn link_of(alloc: Global, names: &IndexSet<Name>, holds: &[bool], element: &Element) -> Result<Link, OutOfMemory>
+fn link_of(
+    alloc: Global,
+    names: &IndexSet<Name>,
+    holds: &[bool],
+    element: &Element,
+) -> Result<Link, OutOfMemory>
     ensures { IfOk result (λ link. IsLink names.now.keys holds.now link (plain_element element.now)) }
 {
     match element {
@@ -79,7 +92,12 @@ fn link_of(alloc: Global, names: &IndexSet<Name>, holds: &[bool], element: &Elem
 }
 
 #[tactic(auto, using(crate::proofs::Linking::linking_laws))]
-fn links_of(alloc: Global, names: &IndexSet<Name>, holds: &[bool], elements: &[Element]) -> Result<Vec<Link>, OutOfMemory>
+fn links_of(
+    alloc: Global,
+    names: &IndexSet<Name>,
+    holds: &[bool],
+    elements: &[Element],
+) -> Result<Vec<Link>, OutOfMemory>
     ensures { IfOk result (λ links. AreLinks names.now.keys holds.now links.items (map plain_element elements.now)) }
 {
     let mut links = Vec::new(alloc);
@@ -91,7 +109,12 @@ fn links_of(alloc: Global, names: &IndexSet<Name>, holds: &[bool], elements: &[E
 
 /// The links of all models.
 #[tactic(auto, using(crate::proofs::Linking::linking_laws))]
-pub(crate) fn all_links(alloc: Global, names: &IndexSet<Name>, holds: &[bool], models: &[BlifModel]) -> Result<Vec<Row>, OutOfMemory>
+pub(crate) fn all_links(
+    alloc: Global,
+    names: &IndexSet<Name>,
+    holds: &[bool],
+    models: &[BlifModel],
+) -> Result<Vec<Row>, OutOfMemory>
     ensures { IfOk result (λ rows. AreRows names.now.keys holds.now rows.items (map plain_model models.now)) }
 {
     let mut rows = Vec::new(alloc);

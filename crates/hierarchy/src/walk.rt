@@ -1,12 +1,12 @@
 //! A walk over the flat elements of a library, one after the other, by a stack of the placed models.
-ghost use Rattle.std.specs.Prelude.{◌≡◌, ◌<◌, ◌≤◌, ◌∷◌, ◌++◌, [], length, take, IfOk, OnOk, IfSome, IsNone, Some, string_bytes, slice_get};
-
+ghost use Rattle.std.specs.Prelude.{◌≡◌, ◌<◌, ◌≤◌, ◌∷◌, ◌++◌, [], map, length, take, IfOk, OnOk, IfSome, IsNone, Some, None, true, false, string_bytes, slice_get};
 ghost use Rattle.hierarchy.specs.Flat.{step};
 ghost use Rattle.hierarchy.specs.declared.links.Row.{Row};
-ghost use Rattle.hierarchy.specs.Walk.{innermost_first};
+ghost use Rattle.hierarchy.specs.Walk.{innermost_first, element_at, model_at, AreFrames, IsInstance, IsReady, IsMoved, IsNext, IsWalking};
+ghost use Rattle.blif_text.specs.Views.{plain_model, plain_element};
 
 use crate::links::{Link, Row};
-
+use blif_text::{BlifModel, Element};
 use std::alloc::{AllocError, Global};
 
 /// A placed model, and how far its elements are walked: the model's number, the element and the number
@@ -84,4 +84,101 @@ fn link_at(rows: &[Row], x: usize, i: usize) -> &Link
     ensures { (row : Row) → slice_get rows.now x ≡ Some row → slice_get row.links.items i ≡ Some result.now }
 {
     &rows[x].links[i]
+}
+
+/// Passes a `.subckt` statement, and goes into the model that it places where an element stands there.
+fn place(
+    alloc: Global,
+    walk: &mut Walk,
+    models: &[BlifModel],
+    rows: &[Row],
+    top: Frame,
+) -> Result<(), AllocError>
+    requires ready { IsReady (map plain_model models.now) rows.now }
+    requires walking { AreFrames (map plain_model models.now) (length walk.old.path.items) (top ∷ innermost_first walk.old) }
+    requires next { top.next < length (model_at (map plain_model models.now) top.model).elements }
+    requires room { top.next < 18446744073709551615 }
+    requires instance { IsInstance (element_at (map plain_model models.now) top.model top.next) }
+    ensures { OnOk result (IsMoved (map plain_model models.now) walk.old.path.items (top ∷ innermost_first walk.old) walk.new) }
+{
+    let passed = Frame {
+        model: top.model,
+        next: top.next + 1,
+        number: top.number + 1,
+        placing: top.placing,
+        path_end: top.path_end,
+    };
+    push_frame(walk, passed)?;
+    if let Some(target) = link_at(rows, top.model, top.next).target {
+        if walk.frames.len() <= models.len() {
+            enter(alloc, walk, top, target)?;
+        }
+    }
+    Ok(())
+}
+
+/// The element is a `.subckt` statement.
+fn is_instance(element: &Element) -> bool
+    ensures yes { result ≡ true → IsInstance (plain_element element.now) }
+    ensures no { result ≡ false → ¬ IsInstance (plain_element element.now) }
+{
+    match element {
+        Element::Instance { .. } => true,
+        Element::Table { .. } | Element::Latch { .. } => false,
+    }
+}
+
+/// The walk before its first element.
+pub(crate) fn begin_walk(alloc: Global) -> Result<Walk, AllocError>
+    ensures frames { IfOk result (λ walk. innermost_first walk ≡ record { model = 0; next = 0; number = 0; placing = None; path_end = 0 } ∷ []) }
+    ensures path { IfOk result (λ walk. walk.path.items ≡ []) }
+{
+    let mut walk = Walk {
+        frames: Vec::new(alloc),
+        path: Vec::new(alloc),
+    };
+    let main = Frame {
+        model: 0,
+        next: 0,
+        number: 0,
+        placing: None,
+        path_end: 0,
+    };
+    push_frame(&mut walk, main)?;
+    Ok(walk)
+}
+
+/// Goes on to the next flat element, which is this element of this model, placed at the walk's frames.
+pub(crate) fn next_element(
+    alloc: Global,
+    walk: &mut Walk,
+    models: &[BlifModel],
+    rows: &[Row],
+) -> Result<Option<(usize, usize)>, AllocError>
+    requires ready { IsReady (map plain_model models.now) rows.now }
+    requires walking { IsWalking (map plain_model models.now) walk.old }
+    ensures { IfOk result (λ found. IsNext (map plain_model models.now) walk.old found walk.new) }
+{
+    'moves: loop {
+        let Some(top) = pop_frame(walk) else {
+            return Ok(None);
+        };
+        let elements = &models[top.model].elements;
+        if top.next >= elements.len() {
+            continue;
+        }
+        if is_instance(&elements[top.next]) {
+            place(alloc, walk, models, rows, top)?;
+            continue;
+        }
+        let passed = Frame {
+            model: top.model,
+            next: top.next + 1,
+            number: top.number,
+            placing: top.placing,
+            path_end: top.path_end,
+        };
+        push_frame(walk, passed)?;
+        return Ok(Some((top.model, top.next)));
+    }
 }

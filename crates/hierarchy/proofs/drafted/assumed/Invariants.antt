@@ -1,4 +1,4 @@
-use Rattle.std.proofs.Common.{◌≡◌, ◌≤◌, ◌+◌, take, map}
+use Rattle.std.proofs.Common.{◌≡◌, take, map}
 use Rattle.std.specs.Prelude.{count_by}
 use Rattle.blif_text.specs.Views.{plain_element}
 use Rattle.hierarchy.specs.Drafted.{is_assumed}
