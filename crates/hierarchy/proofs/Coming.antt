@@ -90,7 +90,7 @@ placed_name (Table pins out cover) = []
 placed_name (Register pin out control init) = []
 placed_name (Instance model bindings) = model
 
-instance_first : (inner : List Level → List ℕ → List NetElement) (levels : List Level) (number : ℕ) (e : PlainElement) (rest : List PlainElement) → IsInstance e → elements_with inner levels number (e ∷ rest) ≡ inner (record { path = path_of levels ++ step number; bindings = bindings_of e } ∷ levels) (placed_name e) ++ elements_with inner levels (number + 1) rest
+pub instance_first : (inner : List Level → List ℕ → List NetElement) (levels : List Level) (number : ℕ) (e : PlainElement) (rest : List PlainElement) → IsInstance e → elements_with inner levels number (e ∷ rest) ≡ inner (record { path = path_of levels ++ step number; bindings = bindings_of e } ∷ levels) (placed_name e) ++ elements_with inner levels (number + 1) rest
 unfolding elements_with placed_name
 instance_first inner levels number (Table pins out cover) rest i = absurd i
 instance_first inner levels number (Register pin out control init) rest i = absurd i

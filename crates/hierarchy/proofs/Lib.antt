@@ -15,3 +15,6 @@ pub mod Stacks
 pub mod Coming
 pub mod Linked
 pub mod Moved
+pub mod BareLaws
+pub mod Resolving
+pub mod Lengths

@@ -14,7 +14,10 @@ use Rattle.hierarchy.specs.declared.links.Row.{Row}
 use Rattle.hierarchy.specs.declared.links.Link.{Link}
 use Rattle.hierarchy.specs.Graph.{names_of, model_named}
 use Rattle.hierarchy.specs.Flat.{Level, step, elements_to}
-use Rattle.hierarchy.specs.Links.{target_of, IsBare}
+use Rattle.hierarchy.specs.Links.{target_of, bindings_of, IsBare}
+use Rattle.hierarchy.specs.Flat.{actual_of}
+use Rattle.std.specs.HashMap.{get}
+use Rattle.std.specs.Str.{bytes_eq}
 use Rattle.hierarchy.specs.Walk.{model_at, element_at, innermost_first, AreFrames, IsInstance, IsReady, IsMoved, IsNext, IsWalking, coming, coming_from, levels_of, level_of, placed_element, moves}
 use Rattle.hierarchy.proofs.Coming.{placed_name, no_target, target_is, skipped, skipped_frames, passed_fewer, left, left_fewer, frames_weaken, passed, entered, entered_frames, entered_fewer}
 use Rattle.hierarchy.proofs.Linked.{link_of, some_row}
@@ -48,6 +51,13 @@ target_at library rows r x i link below at = go (some_row library (names_of libr
   where
     go : (row : Row) × (slice_get rows x ≡ Some row) → link.target ≡ target_of (names_of library) r.holds (element_at library x i)
     go (row, e) = (link_of library (names_of library) r.holds rows r.links x i row link e (at row e)).target
+
+-- what the link of an element says that it binds
+pub actuals_at : (library : List PlainModel) (rows : List Row) (r : IsReady library rows) (x i : ℕ) (link : Link) (name : List ℕ) → x < length library → ((row : Row) → slice_get rows x ≡ Some row → slice_get row.links.items i ≡ Some link) → get bytes_eq link.actuals name ≡ actual_of (bindings_of (element_at library x i)) name
+actuals_at library rows r x i link name below at = go (some_row library (names_of library) r.holds rows r.links x below)
+  where
+    go : (row : Row) × (slice_get rows x ≡ Some row) → get bytes_eq link.actuals name ≡ actual_of (bindings_of (element_at library x i)) name
+    go (row, e) = (link_of library (names_of library) r.holds rows r.links x i row link e (at row e)).actuals name
 
 pub nothing_there : (library : List PlainModel) (rows : List Row) (r : IsReady library rows) (e : PlainElement) → target_of (names_of library) r.holds e ≡ None → IsInstance e → (depth : ℕ) (levels : List Level) → elements_to library depth levels (placed_name e) ≡ []
 nothing_there library rows r e none i depth levels = no_target library r.holds r.bare e none i depth levels

@@ -30,9 +30,13 @@ element_length (Table pins out cover) = 7 + all_spaced pins + spaced out + rows_
 element_length (Register pin out control init) = 9 + spaced pin + spaced out + control_length control
 element_length (Instance model bindings) = 0
 
--- `.model NAME`, `.inputs INPUTS`, `.outputs OUTPUTS`, the elements, `.end`
+-- `.model NAME`, `.inputs INPUTS`, `.outputs OUTPUTS`, `.end`
+abbrev pub header_length : PlainModel → ℕ
+header_length m = (7 + spaced m.name) + (8 + all_spaced m.inputs) + (9 + all_spaced m.outputs) + 5
+
+-- these lines, and those of the elements
 unfoldable pub text_length : PlainModel → ℕ
-text_length m = (7 + spaced m.name) + (8 + all_spaced m.inputs) + (9 + all_spaced m.outputs) + sum_by element_length m.elements + 5
+text_length m = header_length m + sum_by element_length m.elements
 
 -- a number as far as 64 bits hold it
 abbrev pub capped : ℕ → ℕ

@@ -1,5 +1,6 @@
 -- Statements made ready to be followed.
-use Rattle.std.specs.Prelude.{◌≡◌, ℕ, Bool, true, List, [], ◌∷◌, Option, Some, None, slice_index_or, if◌then◌else◌}
+use Rattle.std.specs.Prelude.{◌≡◌, ℕ, Bool, true, false, List, [], ◌∷◌, Option, Some, None, slice_index_or, if◌then◌else◌}
+use Rattle.std.specs.Option.{is_none}
 use Rattle.std.specs.Str.{bytes_eq}
 use Rattle.std.specs.HashMap.{get}
 use Rattle.blif_text.specs.Models.{PlainElement, Table, Register, Instance, PlainModel}
@@ -22,6 +23,12 @@ abbrev pub target_of : List (List ℕ) → List Bool → PlainElement → Option
 target_of names holds (Table pins out cover) = None
 target_of names holds (Register pin out control init) = None
 target_of names holds (Instance model bindings) = filled holds (number_named names model)
+
+-- a statement that places nothing that holds an element
+abbrev pub is_bare_element : List (List ℕ) → List Bool → PlainElement → Bool
+is_bare_element names holds (Table pins out cover) = false
+is_bare_element names holds (Register pin out control init) = false
+is_bare_element names holds (Instance model bindings) = is_none (filled holds (number_named names model))
 
 -- what a statement binds
 abbrev pub bindings_of : PlainElement → List (List ℕ × List ℕ)

@@ -8,7 +8,7 @@ use table_cover::Cover;
 use tmr_base::{Edge, Name};
 
 /// A blank and the name.
-fn spaced_name(name: &Name) -> u64
+pub(crate) fn spaced_name(name: &Name) -> u64
     ensures { result ≡ capped (spaced name.now) }
 {
     (name.bytes().len() as u64).saturating_add(1)
@@ -16,7 +16,7 @@ fn spaced_name(name: &Name) -> u64
 
 /// The names, a blank before each.
 #[tactic(auto, using(crate::proofs::Capped::capped_laws))]
-fn spaced_names(names: &[Name]) -> u64
+pub(crate) fn spaced_names(names: &[Name]) -> u64
     ensures { result ≡ capped (all_spaced names.now) }
 {
     let mut total: u64 = 0;
@@ -34,7 +34,7 @@ fn row_length(width: u32) -> u64
 }
 
 /// All rows.
-fn rows_length(cover: &Cover) -> u64
+pub(crate) fn rows_length(cover: &Cover) -> u64
     ensures { result ≡ capped (length_of_rows cover.now) }
 {
     (cover.row_count() as u64).saturating_mul(row_length(cover.width()))

@@ -2,6 +2,7 @@
 //! flat design.
 #![tactic(auto)]
 
+mod bare;
 mod drafted;
 mod fault;
 mod flat_text;
@@ -10,9 +11,11 @@ mod library;
 mod links;
 mod model_names;
 mod order;
+mod placed_text;
 mod placing;
 mod ports;
 mod reach;
+mod resolve;
 mod walk;
 
 pub use drafted::{assumed, draft_of};

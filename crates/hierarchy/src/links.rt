@@ -61,7 +61,7 @@ fn bind_actuals(
 
 /// The model of this name, where an element stands in it.
 #[tactic(auto, unfolding(crate::specs::Graph::number_named))]
-fn filled_target(names: &IndexSet<Name>, holds: &[bool], model: &Name) -> Option<usize>
+pub(crate) fn filled_target(names: &IndexSet<Name>, holds: &[bool], model: &Name) -> Option<usize>
     ensures { result ≡ filled holds.now (number_named names.now.keys model.now) }
 {
     let x = names.get_index_of(model)?;

@@ -78,7 +78,7 @@ fn enter(alloc: Global, walk: &mut Walk, top: Frame, target: usize) -> Result<()
 }
 
 /// The link of an element.
-fn link_at(rows: &[Row], x: usize, i: usize) -> &Link
+pub(crate) fn link_at(rows: &[Row], x: usize, i: usize) -> &Link
     requires row { x < length rows.now }
     requires link { (row : Row) → slice_get rows.now x ≡ Some row → i < length row.links.items }
     ensures { (row : Row) → slice_get rows.now x ≡ Some row → slice_get row.links.items i ≡ Some result.now }
