@@ -18,3 +18,6 @@ pub mod Moved
 pub mod BareLaws
 pub mod Resolving
 pub mod Lengths
+pub mod PathTexts
+pub mod Totals
+pub mod NetNames

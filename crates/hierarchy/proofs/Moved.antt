@@ -1,5 +1,5 @@
 -- A move of a walk past a `.subckt` statement, in the words of the moves' contracts.
-use Rattle.std.proofs.Common.{◌≡◌, ℕ, ◌+◌, ◌-◌, ◌<◌, ◌≤◌, Bool, true, false, List, [], ◌∷◌, ◌++◌, length, take, map, get_or, refl, sym, ap, ◌∙◌, arith, Some, None}
+use Rattle.std.proofs.Common.{◌≡◌, ℕ, ◌+◌, ◌-◌, ◌^◌, ◌<◌, ◌≤◌, Bool, true, false, List, [], ◌∷◌, ◌++◌, length, take, map, get_or, refl, sym, ap, subst, ◌∙◌, arith, Some, None}
 use Rattle.std.specs.Prelude.{slice_get, slice_index_or}
 use Rattle.std.proofs.lemmas.List.{get_or-map, length-map}
 use Rattle.blif_text.specs.Models.{PlainElement, PlainModel}
@@ -18,8 +18,9 @@ use Rattle.hierarchy.specs.Links.{target_of, bindings_of, IsBare}
 use Rattle.hierarchy.specs.Flat.{actual_of}
 use Rattle.std.specs.HashMap.{get}
 use Rattle.std.specs.Str.{bytes_eq}
-use Rattle.hierarchy.specs.Walk.{model_at, element_at, innermost_first, AreFrames, IsInstance, IsReady, IsMoved, IsNext, IsWalking, coming, coming_from, levels_of, level_of, placed_element, moves}
+use Rattle.hierarchy.specs.Walk.{model_at, element_at, innermost_first, AreFrames, IsInstance, IsReady, IsMoved, IsNext, IsPathText, IsWalking, coming, coming_from, levels_of, level_of, placed_element, moves}
 use Rattle.hierarchy.proofs.Coming.{placed_name, no_target, target_is, skipped, skipped_frames, passed_fewer, left, left_fewer, frames_weaken, passed, entered, entered_frames, entered_fewer}
+use Rattle.hierarchy.proofs.PathTexts.{path_more}
 use Rattle.hierarchy.proofs.Linked.{link_of, some_row}
 
 pub moved_past : (library : List PlainModel) (path : List ℕ) (f : Frame) (fs : List Frame) (w : Walk) → AreFrames library (length path) (f ∷ fs) → f.next < length (model_at library f.model).elements → IsInstance (element_at library f.model f.next) → innermost_first w ≡ record { model = f.model; next = f.next + 1; number = f.number + 1; placing = f.placing; path_end = f.path_end } ∷ fs → w.path.items ≡ path → ((levels : List Level) → elements_to library (length library - length fs) levels (placed_name (element_at library f.model f.next)) ≡ []) → IsMoved library path (f ∷ fs) w
@@ -27,13 +28,15 @@ moved_past library path f fs w a below i frames kept none = record {
   same = rw (frames, kept) (sym (skipped library path f (record f { next = f.next + 1; number = f.number + 1 }) fs below i refl none));
   walking = rw (frames, kept) (skipped_frames library (length path) f (record f { next = f.next + 1; number = f.number + 1 }) fs a refl);
   fewer = rw frames (passed_fewer library f (record f { next = f.next + 1; number = f.number + 1 }) fs below refl refl);
+  text = λ h. subst IsPathText (sym kept) h;
 }
 
-pub moved_into : (library : List PlainModel) (path : List ℕ) (f : Frame) (fs : List Frame) (middle : List Frame) (w : Walk) (y : ℕ) → AreFrames library (length path) (f ∷ fs) → f.next < length (model_at library f.model).elements → IsInstance (element_at library f.model f.next) → length fs < length library → (holds : List Bool) → ((x : ℕ) → slice_index_or holds x true ≡ false → IsBare library (model_at library x).elements) → target_of (names_of library) holds (element_at library f.model f.next) ≡ Some y → middle ≡ record { model = f.model; next = f.next + 1; number = f.number + 1; placing = f.placing; path_end = f.path_end } ∷ fs → innermost_first w ≡ record { model = y; next = 0; number = 0; placing = Some (f.model, f.next); path_end = length w.path.items } ∷ middle → w.path.items ≡ take f.path_end path ++ step f.number → IsMoved library path (f ∷ fs) w
-moved_into library path f fs middle w y a below i deep holds bare target mid frames longer = record {
+pub moved_into : (library : List PlainModel) (path : List ℕ) (f : Frame) (fs : List Frame) (middle : List Frame) (w : Walk) (y : ℕ) → AreFrames library (length path) (f ∷ fs) → f.next < length (model_at library f.model).elements → IsInstance (element_at library f.model f.next) → length fs < length library → (holds : List Bool) → ((x : ℕ) → slice_index_or holds x true ≡ false → IsBare library (model_at library x).elements) → target_of (names_of library) holds (element_at library f.model f.next) ≡ Some y → middle ≡ record { model = f.model; next = f.next + 1; number = f.number + 1; placing = f.placing; path_end = f.path_end } ∷ fs → innermost_first w ≡ record { model = y; next = 0; number = 0; placing = Some (f.model, f.next); path_end = length w.path.items } ∷ middle → w.path.items ≡ take f.path_end path ++ step f.number → f.number < 2 ^ 64 → IsMoved library path (f ∷ fs) w
+moved_into library path f fs middle w y a below i deep holds bare target mid frames longer small = record {
   same = rw (frames, mid) (sym (entered library path w.path.items f g h fs y a below i deep found.1 refl refl longer));
   walking = rw (frames, mid) (entered_frames library path w.path.items f g h fs y a below found.0 refl refl longer);
   fewer = rw (frames, mid) (entered_fewer library f g h fs y (length w.path.items) below i deep found.1 refl refl);
+  text = λ p. subst IsPathText (sym longer) (path_more path f.path_end f.number small p);
 }
   where
     found : (y < length library) × (model_named library (placed_name (element_at library f.model f.next)) ≡ Some (model_at library y))
@@ -88,6 +91,7 @@ next_found library path f fs old w a kept frames new_frames same below plain = r
   model = walking.2;
   element = below;
   plain = plain;
+  text = λ p. subst IsPathText (kept ∙ sym same) p;
   walking = rw (new_frames, same) ((walking.0, (let n = walking.1 in omega arith), walking.2, walking.3, walking.4));
   comes = come library old path (f ∷ fs) kept frames ∙ (passed library path f (record f { next = f.next + 1 }) fs below plain refl
       ∙ sym (join (ap (λ ls. placed_element ls (element_at library f.model f.next)) (levels library w path (record f { next = f.next + 1 } ∷ fs) same new_frames)) (come library w path (record f { next = f.next + 1 } ∷ fs) same new_frames)));

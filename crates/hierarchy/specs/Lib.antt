@@ -13,3 +13,4 @@ pub mod Flat
 pub mod Clash
 pub mod Links
 pub mod Walk
+pub mod Naming

@@ -1,6 +1,8 @@
 -- What a walk has still to come.
 use Rattle.std.specs.Prelude.{◌≡◌, ℕ, Bool, true, false, zero, suc, ◌+◌, ◌-◌, ◌<◌, ◌≤◌, List, [], ◌∷◌, ◌++◌, length, map, take, drop, reverse, Option, Some, None, slice_index_or}
 use Rattle.std.specs.Option.{option_map_or}
+use Rattle.std.specs.List.{list_all}
+use Rattle.tmr_base.specs.Names.{is_name_byte}
 use Rattle.blif_text.specs.Models.{PlainElement, Table, Register, Instance, PlainModel}
 use Rattle.hierarchy.specs.declared.walk.Frame.{Frame}
 use Rattle.hierarchy.specs.declared.walk.Walk.{Walk}
@@ -95,11 +97,16 @@ pub record IsReady (library : List PlainModel) (rows : List Row) : Type 0 where
   pub links : AreRows (names_of library) holds rows library
   pub bare : (x : ℕ) → slice_index_or holds x true ≡ false → IsBare library (model_at library x).elements
 
+-- the bytes of a path's text may stand in a name
+abbrev pub IsPathText : List ℕ → Type 0
+IsPathText path = list_all is_name_byte path ≡ true
+
 -- the walk stands where one move from these placed models leads: the same is to come, and fewer moves are left
 pub record IsMoved (library : List PlainModel) (path : List ℕ) (frames : List Frame) (w : Walk) : Type 0 where
   pub same : coming library w ≡ coming_from library path frames
   pub walking : IsWalking library w
   pub fewer : moves library w < moves_from library frames
+  pub text : IsPathText path → IsPathText w.path.items
 
 -- the walk has passed this table or register, which came next
 pub record IsNextElement (library : List PlainModel) (old : Walk) (x i : ℕ) (new : Walk) : Type 0 where
@@ -107,6 +114,7 @@ pub record IsNextElement (library : List PlainModel) (old : Walk) (x i : ℕ) (n
   pub element : i < length (model_at library x).elements
   pub plain : ¬ IsInstance (element_at library x i)
   pub walking : IsWalking library new
+  pub text : IsPathText old.path.items → IsPathText new.path.items
   pub comes : coming library old ≡ placed_element (levels_of library new) (element_at library x i) ++ coming library new
 
 -- the next element, where one is still to come

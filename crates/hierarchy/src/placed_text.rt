@@ -1,5 +1,5 @@
 //! The length of the flat text of a library, by a walk that keeps no names.
-ghost use Rattle.std.specs.Prelude.{◌≡◌, ◌≤◌, ◌<◌, ◌+◌, ◌↔◌, ◌^◌, IsTrue, map, length, sum_by, IfOk};
+ghost use Rattle.std.specs.Prelude.{◌≡◌, ◌≤◌, ◌<◌, true, false, map, length, sum_by, IfOk};
 ghost use Rattle.blif_text.specs.Views.{plain_model, plain_element};
 ghost use Rattle.hierarchy.specs.Flat.{resolve as net_of, net_text, named, flat_model, resolved_control, named_control};
 ghost use Rattle.hierarchy.specs.FlatText.{capped, spaced, all_spaced, control_length as length_of_control, element_length as length_of_element, text_length as length_of_text, header_length as length_of_header};
@@ -84,4 +84,24 @@ fn header_length(model: &BlifModel) -> u64
         .saturating_add(spaced_names(&model.inputs))
         .saturating_add(spaced_names(&model.outputs))
         .saturating_add(29)
+}
+
+/// The flat text has at most so many bytes.
+pub(crate) fn fits(alloc: Global, models: &[BlifModel], rows: &[Row], limit: u64) -> Result<bool, AllocError>
+    requires ready { IsReady (map plain_model models.now) rows.now }
+    requires some { 0 < length models.now }
+    requires limit { limit < 18446744073709551615 }
+    ensures yes { IfOk result (λ fit. fit ≡ true → length_of_text (flat_model (map plain_model models.now)) ≤ limit) }
+    ensures no { IfOk result (λ fit. fit ≡ false → limit < length_of_text (flat_model (map plain_model models.now))) }
+{
+    let mut walk = begin_walk(alloc)?;
+    let mut total = header_length(&models[0]);
+    'elements: while total <= limit {
+        let Some((x, i)) = next_element(alloc, &mut walk, models, rows)? else {
+            return Ok(true);
+        };
+        let length = placed_length(models, rows, &walk, &models[x].elements[i]);
+        total = total.saturating_add(length);
+    }
+    Ok(false)
 }

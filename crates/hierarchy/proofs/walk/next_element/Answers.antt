@@ -1,7 +1,7 @@
 use Rattle.std.proofs.Common.{◌≡◌, ◌∙◌, ◌<◌, ◌≤◌, sym, ap, refl, subst, arith, map, get_or, length, vec_len}
 use Rattle.std.proofs.lemmas.List.{length-map}
 use Rattle.blif_text.specs.Views.{plain_model}
-use Rattle.hierarchy.specs.Walk.{innermost_first, model_at, element_at, IsInstance, coming, moves, IsWalking, IsNextElement}
+use Rattle.hierarchy.specs.Walk.{innermost_first, model_at, element_at, IsInstance, coming, moves, IsWalking, IsNextElement, IsPathText}
 use Rattle.hierarchy.proofs.Moved.{next_left, next_found, at_element, none_left, top_in, all_walked, some_left}
 use Rattle.hierarchy.proofs.walk.next_element.Goals as goal
 
@@ -18,7 +18,7 @@ moves-smaller-then-top-len c = (next_left (map plain_model c.args.models.now) c.
     all = all_walked c.args.models.now c.in-Some.top.model c.in-Some.top.next c.index-models-top.result below c.index-models-top.is (let e = c.len.ensures ∙ ap (λ m. vec_len m.elements) (sym c.index-models-top.is) in omega arith)
 
 pub moves-preserved-then-top-len : goal.moves-preserved-then-top-len
-moves-preserved-then-top-len c = record { same = left.0 ∙ c.moves.invariant.same; walking = left.1 }
+moves-preserved-then-top-len c = record { same = left.0 ∙ c.moves.invariant.same; walking = left.1; text = λ p. subst IsPathText (sym c.in-Some.ensures.path) (c.moves.invariant.text p) }
   where
     below : c.in-Some.top.model < length c.args.models.now
     below = omega (arith, top_in (map plain_model c.args.models.now) c.moves.walk c.in-Some.top (innermost_first c.pop_frame.new.walk) c.moves.invariant.walking c.in-Some.ensures.some, length-map c.args.models.now plain_model)
@@ -35,6 +35,7 @@ returns-in-moves c = record {
   element = found.element;
   plain = found.plain;
   walking = found.walking;
+  text = λ p. found.text (c.moves.invariant.text p);
   comes = sym c.moves.invariant.same ∙ found.comes;
 }
   where

@@ -21,7 +21,7 @@ returns-in_ok-enter c =
     (let many = ap length c.in_ok-push_frame.ensures.frames in omega (arith, length-map c.args.models.now plain_model, length-reverse c.push_frame.new.walk.frames.items))
     c.requires.ready.holds c.requires.ready.bare
     (sym (target_at (map plain_model c.args.models.now) c.args.rows.now c.requires.ready c.args.top.model c.args.top.next c.link_at.result.now c.requires.walking.2 c.link_at.ensures) ∙ c.in-Some.is)
-    c.in_ok-push_frame.ensures.frames c.in_ok-enter.ensures.frames (c.in_ok-enter.ensures.path ∙ ap (λ p. take c.args.top.path_end p ++ step c.args.top.number) c.in_ok-push_frame.ensures.path)
+    c.in_ok-push_frame.ensures.frames c.in_ok-enter.ensures.frames (c.in_ok-enter.ensures.path ∙ ap (λ p. take c.args.top.path_end p ++ step c.args.top.number) c.in_ok-push_frame.ensures.path) (let n = c.requires.walking.1 in let r = c.requires.room in omega arith)
 
 pub returns-else-len-models : goal.returns-else-len-models
 returns-else-len-models c =
