@@ -4,12 +4,16 @@ use Rattle.std.specs.Prelude.{find, option_map}
 use Rattle.std.specs.Option.{option_map_or, option_or}
 use Rattle.std.specs.Str.{bytes_eq}
 use Rattle.std.proofs.lemmas.Bool.{eqb-true, eq-eqb, false_from_ne_true}
-use Rattle.std.proofs.lemmas.List.{take-append-le, take_all, length-append}
+use Rattle.std.proofs.lemmas.List.{take-append-le, take_all, length-append, length-take, append-nil, append_assoc}
 use Rattle.std.proofs.lemmas.List.Folds.{find-append}
 use Rattle.std.proofs.lemmas.Slice.Eq.{bytes_eq-Decides}
 use Rattle.hierarchy.specs.Flat.{PlacedNet, net_text}
 use Rattle.hierarchy.specs.Clash.{same_net, has_text, is_taken}
-use Rattle.hierarchy.specs.Naming.{path_length, IsNamed}
+use Rattle.hierarchy.specs.Naming.{path_length, IsNamed, AreNamed, Clashes}
+use Rattle.hierarchy.specs.Clash.{clash_after}
+
+pub taken_long : (path : List ℕ) (end : ℕ) → end ≤ length path → length (take end path) ≡ end
+taken_long path end l = omega (arith, length-take end path)
 
 bytes_same : (a b : List ℕ) → a ≡ b → bytes_eq a b ≡ true
 bytes_same a b e = (bytes_eq-Decides a b).1 e
@@ -36,16 +40,13 @@ same_by_length a b e = go (nat_eq (length a.path) (length b.path)) refl
         rw (bytes_same a.path b.path p, bytes_same a.name b.name n) refl
     go false f = rw (bytes_apart a.path b.path (λ p. (let g : nat_eq (length a.path) (length b.path) ≡ true = eq-eqb _ _ (ap length p) in cc))) refl
 
+first_has : (text : List ℕ) (x other : PlacedNet) (rest : Option PlacedNet) (v : Bool) → has_text text x ≡ v → (rest ≡ Some other → net_text other ≡ text) → cond v (Some x) rest ≡ Some other → net_text other ≡ text
+first_has text x other rest true h later f = let same : x ≡ other = cc in subst (λ n. net_text n ≡ text) same ((bytes_eq-Decides (net_text x) text).0 h)
+first_has text x other rest false h later f = later f
+
 found_has : (text : List ℕ) (seen : List PlacedNet) (other : PlacedNet) → find (has_text text) seen ≡ Some other → net_text other ≡ text
 found_has text [] other e = absurd cc
-found_has text (x ∷ seen) other e = go (has_text text x) refl e
-  where
-    go : (v : Bool) → has_text text x ≡ v → cond v (Some x) (find (has_text text) seen) ≡ Some other → net_text other ≡ text
-    go true h f = let same : x ≡ other = cc in subst (λ n. net_text n ≡ text) same ((bytes_eq-Decides (net_text x) text).0 h)
-    go false h f = rest f
-      where
-        rest : find (has_text text) seen ≡ Some other → net_text other ≡ text
-        rest f = ?
+found_has text (x ∷ seen) other e = first_has text x other (find (has_text text) seen) (has_text text x) refl (λ f. found_has text seen other f) e
 
 module _ (look : List ℕ → Option ℕ) (seen : List PlacedNet) (named : IsNamed look seen) (net : PlacedNet) where
   -- the text has a net, whose path is so long
@@ -97,3 +98,34 @@ module _ (look : List ℕ → Option ℕ) (seen : List PlacedNet) (named : IsNam
           plain : (o : Option ℕ) → option_or o None ≡ o
           plain None = refl
           plain (Some x) = refl
+
+-- ---- nets named one behind another
+
+pub named_nil : (look : List ℕ → Option ℕ) → AreNamed look look []
+named_nil look = record {
+    named = λ seen n. subst (IsNamed look) (sym (append-nil seen)) n;
+    clear = λ seen rest n. ap (λ s. clash_after s rest) (sym (append-nil seen));
+  }
+
+pub named_join : (a b c : List ℕ → Option ℕ) (xs ys : List PlacedNet) → AreNamed a b xs → AreNamed b c ys → AreNamed a c (xs ++ ys)
+named_join a b c xs ys f g = record {
+    named = λ seen n. subst (IsNamed c) (append_assoc seen xs ys) (g.named (seen ++ xs) (f.named seen n));
+    clear = λ seen rest n. ap (clash_after seen) (append_assoc xs ys rest) ∙ (f.clear seen (ys ++ rest) n ∙ (g.clear (seen ++ xs) rest (f.named seen n) ∙ ap (λ s. clash_after s rest) (append_assoc seen xs ys)));
+  }
+
+pub clash_join : (a b : List ℕ → Option ℕ) (xs ys : List PlacedNet) (text : List ℕ) → AreNamed a b xs → Clashes b ys text → Clashes a (xs ++ ys) text
+clash_join a b xs ys text f g = record { clash = λ seen rest n. ap (clash_after seen) (append_assoc xs ys rest) ∙ (f.clear seen (ys ++ rest) n ∙ g.clash (seen ++ xs) rest (f.named seen n)) }
+
+pub clash_more : (a : List ℕ → Option ℕ) (xs ys : List PlacedNet) (text : List ℕ) → Clashes a xs text → Clashes a (xs ++ ys) text
+clash_more a xs ys text f = record { clash = λ seen rest n. ap (clash_after seen) (append_assoc xs ys rest) ∙ f.clash seen (ys ++ rest) n }
+
+pub named_one : (a b : List ℕ → Option ℕ) (net : PlacedNet) → ((seen : List PlacedNet) → IsNamed a seen → false ≡ is_taken seen net) → ((seen : List PlacedNet) → IsNamed a seen → IsNamed b (seen ++ net ∷ [])) → AreNamed a b (net ∷ [])
+unfolding clash_after
+named_one a b net free named = record {
+    named = named;
+    clear = λ seen rest n. rw (← free seen n) refl;
+  }
+
+pub clash_one : (a : List ℕ → Option ℕ) (net : PlacedNet) → ((seen : List PlacedNet) → IsNamed a seen → true ≡ is_taken seen net) → Clashes a (net ∷ []) (net_text net)
+unfolding clash_after
+clash_one a net taken = record { clash = λ seen rest n. rw (← taken seen n) refl }

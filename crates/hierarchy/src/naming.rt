@@ -1,15 +1,54 @@
 //! Names of flat nets, and texts that two nets share.
-ghost use Rattle.std.specs.Prelude.{◌≡◌, ◌≤◌, ◌++◌, ◌∷◌, [], List, false, length, take, IfOk};
+ghost use Rattle.std.specs.Prelude.{◌≡◌, ◌≤◌, ◌++◌, ◌∷◌, [], List, false, length, map, take, IfOk, OnOk, IfErr};
 ghost use Rattle.std.specs.Str.{bytes_eq};
 ghost use Rattle.indexmap.specs.IndexMap.{get};
-ghost use Rattle.hierarchy.specs.Flat.{PlacedNet, net_text};
+ghost use Rattle.hierarchy.specs.Flat.{PlacedNet, net_text, resolve as resolve_name};
 ghost use Rattle.hierarchy.specs.Clash.{is_taken};
-ghost use Rattle.hierarchy.specs.Naming.{IsNamed};
-ghost use Rattle.hierarchy.specs.Walk.{IsPathText};
+ghost use Rattle.hierarchy.specs.Naming.{IsNamed, AreNamed, IsNamingFault};
+ghost use Rattle.hierarchy.specs.Walk.{IsPathText, IsReady, IsWalking, levels_of};
+ghost use Rattle.blif_text.specs.Views.{plain_model};
+ghost use Rattle.hierarchy.specs.declared.naming.NamingFault.TheVariants.{Memory};
 
+use crate::links::Row;
+use crate::resolve::resolve;
+use crate::walk::Walk;
+use blif_text::BlifModel;
 use indexmap::IndexMap;
-use std::alloc::Global;
+use std::alloc::{AllocError, AllocFailed, Global};
 use tmr_base::{Name, NameFault, OutOfMemory};
+
+/// Why nets are not named.
+#[derive(Drop)]
+pub enum NamingFault {
+    /// An earlier different net has this text.
+    Clash(Name),
+    /// There was no memory.
+    Memory,
+}
+
+impl From<OutOfMemory> for NamingFault {
+    ghost from_gives = { λ _ fault. fault ≡ Memory };
+
+    fn from(_error: OutOfMemory) -> NamingFault {
+        NamingFault::Memory
+    }
+}
+
+impl From<AllocError> for NamingFault {
+    ghost from_gives = { λ _ fault. fault ≡ Memory };
+
+    fn from(_error: AllocError) -> NamingFault {
+        NamingFault::Memory
+    }
+}
+
+impl<T: Drop> From<AllocFailed<T>> for NamingFault {
+    ghost from_gives = { λ _ fault. fault ≡ Memory };
+
+    fn from(_error: AllocFailed<T>) -> NamingFault {
+        NamingFault::Memory
+    }
+}
 
 /// The text of a net whose path ends there.
 #[tactic(auto, using(crate::proofs::PathTexts::text_laws))]
@@ -46,4 +85,38 @@ fn add_net(alloc: Global, texts: &mut IndexMap<Name, usize>, path: &[u8], end: u
             Ok((text, false))
         }
     }
+}
+
+/// Names the net of a name in the innermost placed model of the walk.
+pub(crate) fn name_net(alloc: Global, texts: &mut IndexMap<Name, usize>, models: &[BlifModel], rows: &[Row], walk: &Walk, name: &Name) -> Result<Name, NamingFault>
+    requires ready { IsReady (map plain_model models.now) rows.now }
+    requires walking { IsWalking (map plain_model models.now) walk.now }
+    requires text { IsPathText walk.now.path.items }
+    ensures text { IfOk result (λ text. text ≡ net_text (resolve_name (levels_of (map plain_model models.now) walk.now) name.now)) }
+    ensures named { OnOk result (AreNamed (get bytes_eq texts.old) (get bytes_eq texts.new) (resolve_name (levels_of (map plain_model models.now) walk.now) name.now ∷ [])) }
+    ensures fault { IfErr result (λ fault. IsNamingFault (get bytes_eq texts.old) (resolve_name (levels_of (map plain_model models.now) walk.now) name.now ∷ []) fault) }
+{
+    let (end, found) = resolve(models, rows, walk, name);
+    let (text, taken) = add_net(alloc, texts, &walk.path, end, found)?;
+    if taken {
+        return Err(NamingFault::Clash(text));
+    }
+    Ok(text)
+}
+
+/// Names the nets of names.
+pub(crate) fn name_nets(alloc: Global, texts: &mut IndexMap<Name, usize>, models: &[BlifModel], rows: &[Row], walk: &Walk, names: &[Name]) -> Result<Vec<Name>, NamingFault>
+    requires ready { IsReady (map plain_model models.now) rows.now }
+    requires walking { IsWalking (map plain_model models.now) walk.now }
+    requires text { IsPathText walk.now.path.items }
+    ensures text { IfOk result (λ found. found.items ≡ map net_text (map (resolve_name (levels_of (map plain_model models.now) walk.now)) names.now)) }
+    ensures named { OnOk result (AreNamed (get bytes_eq texts.old) (get bytes_eq texts.new) (map (resolve_name (levels_of (map plain_model models.now) walk.now)) names.now)) }
+    ensures fault { IfErr result (λ fault. IsNamingFault (get bytes_eq texts.old) (map (resolve_name (levels_of (map plain_model models.now) walk.now)) names.now) fault) }
+{
+    let mut found = Vec::new(alloc);
+    for name in names {
+        let text = name_net(alloc, texts, models, rows, walk, name)?;
+        found.push(text)?;
+    }
+    Ok(found)
 }
