@@ -1,15 +1,20 @@
 -- Texts given to nets, one more.
-use Rattle.std.proofs.Common.{◌≡◌, ◌≢◌, ℕ, ◌+◌, ◌<◌, ◌≤◌, Bool, true, false, cond, not, ◌&&◌, List, [], ◌∷◌, ◌++◌, length, take, drop, refl, sym, ap, ◌∙◌, subst, arith, Option, Some, None, nat_eq}
-use Rattle.std.specs.Prelude.{find, option_map}
+use Rattle.std.proofs.Common.{◌≡◌, ◌≢◌, ℕ, ◌+◌, ◌<◌, ◌≤◌, Bool, true, false, cond, not, ◌&&◌, List, [], ◌∷◌, ◌++◌, length, map, get_or, take, drop, refl, sym, ap, ◌∙◌, subst, arith, Option, Some, None, nat_eq}
+use Rattle.std.specs.Prelude.{find, option_map, flat_map}
 use Rattle.std.specs.Option.{option_map_or, option_or}
 use Rattle.std.specs.Str.{bytes_eq}
 use Rattle.std.proofs.lemmas.Bool.{eqb-true, eq-eqb, false_from_ne_true}
-use Rattle.std.proofs.lemmas.List.{take-append-le, take_all, length-append, length-take, append-nil, append_assoc}
+use Rattle.std.proofs.lemmas.List.{take-append-le, take_all, length-append, length-take, append-nil, append_assoc, take_more, map-append, take-append-drop}
 use Rattle.std.proofs.lemmas.List.Folds.{find-append}
 use Rattle.std.proofs.lemmas.Slice.Eq.{bytes_eq-Decides}
-use Rattle.hierarchy.specs.Flat.{PlacedNet, net_text}
-use Rattle.hierarchy.specs.Clash.{same_net, has_text, is_taken}
-use Rattle.hierarchy.specs.Naming.{path_length, IsNamed, AreNamed, Clashes}
+use Rattle.tmr_base.specs.declared.ids.Edge.{Edge}
+use Rattle.table_cover.specs.Cover.{PlainCover}
+use Rattle.blif_text.specs.declared.library.Init.{Init}
+use Rattle.hierarchy.specs.Flat.{PlacedNet, net_text, NetElement, NetTable, NetRegister}
+use Rattle.hierarchy.specs.Clash.{same_net, has_text, is_taken, nets_of, control_nets}
+use Rattle.hierarchy.specs.Naming.{path_length, IsNamed, AreNamed, Clashes, IsNamingFault}
+use Rattle.hierarchy.specs.declared.naming.NamingFault.{NamingFault}
+use Rattle.hierarchy.specs.declared.naming.NamingFault.TheVariants.{Clash, Memory}
 use Rattle.hierarchy.specs.Clash.{clash_after}
 
 pub taken_long : (path : List ℕ) (end : ℕ) → end ≤ length path → length (take end path) ≡ end
@@ -129,3 +134,58 @@ named_one a b net free named = record {
 pub clash_one : (a : List ℕ → Option ℕ) (net : PlacedNet) → ((seen : List PlacedNet) → IsNamed a seen → true ≡ is_taken seen net) → Clashes a (net ∷ []) (net_text net)
 unfolding clash_after
 clash_one a net taken = record { clash = λ seen rest n. rw (← taken seen n) refl }
+
+more_nets : {X : Type 0} (f : X → PlacedNet) (names : List X) (i : ℕ) (name : X) → i < length names → name ≡ get_or names i name → map f (take (i + 1) names) ≡ map f (take i names) ++ f name ∷ []
+more_nets f names i name below is = rw (take_more names i name below, map-append, ← is) refl
+
+-- one net more
+pub named_more : {X : Type 0} (a b c : List ℕ → Option ℕ) (f : X → PlacedNet) (names : List X) (i : ℕ) (name : X) → i < length names → name ≡ get_or names i name → AreNamed a b (map f (take i names)) → AreNamed b c (f name ∷ []) → AreNamed a c (map f (take (i + 1) names))
+named_more a b c f names i name below is so_far one = subst (AreNamed a c) (sym (more_nets f names i name below is)) (named_join a b c (map f (take i names)) (f name ∷ []) so_far one)
+
+pub texts_more : {X : Type 0} (f : X → PlacedNet) (names : List X) (i : ℕ) (name : X) (found : List (List ℕ)) (text : List ℕ) → i < length names → name ≡ get_or names i name → found ≡ map net_text (map f (take i names)) → text ≡ net_text (f name) → found ++ text ∷ [] ≡ map net_text (map f (take (i + 1) names))
+texts_more f names i name found text below is so_far one = sym (ap (map net_text) (more_nets f names i name below is) ∙ (map-append net_text (map f (take i names)) (f name ∷ []) ∙ rw (← so_far, ← one) refl))
+
+-- a net that clashes, behind those that are named
+pub fault_more : {X : Type 0} (a b : List ℕ → Option ℕ) (f : X → PlacedNet) (names : List X) (i : ℕ) (name : X) (fault : NamingFault) → i < length names → name ≡ get_or names i name → AreNamed a b (map f (take i names)) → IsNamingFault b (f name ∷ []) fault → IsNamingFault a (map f names) fault
+fault_more a b f names i name Memory below is so_far one = tt
+fault_more a b f names i name (Clash text) below is so_far one =
+    subst (λ nets. Clashes a nets text) whole (clash_more a (map f (take (i + 1) names)) (map f (drop (i + 1) names)) text (subst (λ nets. Clashes a nets text) (sym (more_nets f names i name below is)) (clash_join a b (map f (take i names)) (f name ∷ []) text so_far one)))
+  where
+    whole : map f (take (i + 1) names) ++ map f (drop (i + 1) names) ≡ map f names
+    whole = sym (map-append f (take (i + 1) names) (drop (i + 1) names)) ∙ ap (map f) (take-append-drop (i + 1) names)
+
+-- ---- the nets of one element
+
+nets_one : (net : NetElement) → flat_map nets_of (net ∷ []) ≡ nets_of net
+nets_one net = append-nil (nets_of net)
+
+pub table_named : (a b c : List ℕ → Option ℕ) (pins : List PlacedNet) (out : PlacedNet) (cover : PlainCover) → AreNamed a b pins → AreNamed b c (out ∷ []) → AreNamed a c (flat_map nets_of (NetTable pins out cover ∷ []))
+table_named a b c pins out cover f g = subst (AreNamed a c) (sym (nets_one (NetTable pins out cover))) (named_join a b c pins (out ∷ []) f g)
+
+fault_join : (a b : List ℕ → Option ℕ) (xs ys : List PlacedNet) (fault : NamingFault) → AreNamed a b xs → IsNamingFault b ys fault → IsNamingFault a (xs ++ ys) fault
+fault_join a b xs ys Memory f g = tt
+fault_join a b xs ys (Clash text) f g = clash_join a b xs ys text f g
+
+fault_longer : (a : List ℕ → Option ℕ) (xs ys : List PlacedNet) (fault : NamingFault) → IsNamingFault a xs fault → IsNamingFault a (xs ++ ys) fault
+fault_longer a xs ys Memory f = tt
+fault_longer a xs ys (Clash text) f = clash_more a xs ys text f
+
+pub table_pins_fault : (a : List ℕ → Option ℕ) (pins : List PlacedNet) (out : PlacedNet) (cover : PlainCover) (fault : NamingFault) → IsNamingFault a pins fault → IsNamingFault a (flat_map nets_of (NetTable pins out cover ∷ [])) fault
+table_pins_fault a pins out cover fault f = subst (λ nets. IsNamingFault a nets fault) (sym (nets_one (NetTable pins out cover))) (fault_longer a pins (out ∷ []) fault f)
+
+pub table_out_fault : (a b : List ℕ → Option ℕ) (pins : List PlacedNet) (out : PlacedNet) (cover : PlainCover) (fault : NamingFault) → AreNamed a b pins → IsNamingFault b (out ∷ []) fault → IsNamingFault a (flat_map nets_of (NetTable pins out cover ∷ [])) fault
+table_out_fault a b pins out cover fault f g = subst (λ nets. IsNamingFault a nets fault) (sym (nets_one (NetTable pins out cover))) (fault_join a b pins (out ∷ []) fault f g)
+
+pub latch_named : (a b c d : List ℕ → Option ℕ) (pin out : PlacedNet) (control : Option (Edge × PlacedNet)) (init : Init) → AreNamed a b (pin ∷ []) → AreNamed b c (out ∷ []) → AreNamed c d (control_nets control) → AreNamed a d (flat_map nets_of (NetRegister pin out control init ∷ []))
+latch_named a b c d pin out control init f g h = subst (AreNamed a d) (sym (nets_one (NetRegister pin out control init))) (named_join a b d (pin ∷ []) (out ∷ control_nets control) f (named_join b c d (out ∷ []) (control_nets control) g h))
+
+pub latch_pin_fault : (a : List ℕ → Option ℕ) (pin out : PlacedNet) (control : Option (Edge × PlacedNet)) (init : Init) (fault : NamingFault) → IsNamingFault a (pin ∷ []) fault → IsNamingFault a (flat_map nets_of (NetRegister pin out control init ∷ [])) fault
+latch_pin_fault a pin out control init fault f = subst (λ nets. IsNamingFault a nets fault) (sym (nets_one (NetRegister pin out control init))) (fault_longer a (pin ∷ []) (out ∷ control_nets control) fault f)
+
+pub latch_out_fault : (a b : List ℕ → Option ℕ) (pin out : PlacedNet) (control : Option (Edge × PlacedNet)) (init : Init) (fault : NamingFault) → AreNamed a b (pin ∷ []) → IsNamingFault b (out ∷ []) fault → IsNamingFault a (flat_map nets_of (NetRegister pin out control init ∷ [])) fault
+latch_out_fault a b pin out control init fault f g = subst (λ nets. IsNamingFault a nets fault) (sym (nets_one (NetRegister pin out control init))) (fault_join a b (pin ∷ []) (out ∷ control_nets control) fault f (fault_longer b (out ∷ []) (control_nets control) fault g))
+
+pub latch_control_fault : (a b c : List ℕ → Option ℕ) (pin out : PlacedNet) (control : Option (Edge × PlacedNet)) (init : Init) (fault : NamingFault) → AreNamed a b (pin ∷ []) → AreNamed b c (out ∷ []) → IsNamingFault c (control_nets control) fault → IsNamingFault a (flat_map nets_of (NetRegister pin out control init ∷ [])) fault
+latch_control_fault a b c pin out control init fault f g h = subst (λ nets. IsNamingFault a nets fault) (sym (nets_one (NetRegister pin out control init))) (fault_join a b (pin ∷ []) (out ∷ control_nets control) fault f (fault_join b c (out ∷ []) (control_nets control) fault g h))
+
+pub ruleset naming_laws = (table_named, table_pins_fault, table_out_fault, latch_named, latch_pin_fault, latch_out_fault, latch_control_fault)

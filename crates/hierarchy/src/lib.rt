@@ -10,6 +10,7 @@ mod graph;
 mod library;
 mod links;
 mod model_names;
+mod named_element;
 mod naming;
 mod order;
 mod placed_text;

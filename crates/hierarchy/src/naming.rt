@@ -2,8 +2,8 @@
 ghost use Rattle.std.specs.Prelude.{◌≡◌, ◌≤◌, ◌++◌, ◌∷◌, [], List, false, length, map, take, IfOk, OnOk, IfErr};
 ghost use Rattle.std.specs.Str.{bytes_eq};
 ghost use Rattle.indexmap.specs.IndexMap.{get};
-ghost use Rattle.hierarchy.specs.Flat.{PlacedNet, net_text, resolve as resolve_name};
-ghost use Rattle.hierarchy.specs.Clash.{is_taken};
+ghost use Rattle.hierarchy.specs.Flat.{PlacedNet, net_text, named_control, resolved_control, resolve as resolve_name};
+ghost use Rattle.hierarchy.specs.Clash.{is_taken, control_nets};
 ghost use Rattle.hierarchy.specs.Naming.{IsNamed, AreNamed, IsNamingFault};
 ghost use Rattle.hierarchy.specs.Walk.{IsPathText, IsReady, IsWalking, levels_of};
 ghost use Rattle.blif_text.specs.Views.{plain_model};
@@ -15,7 +15,7 @@ use crate::walk::Walk;
 use blif_text::BlifModel;
 use indexmap::IndexMap;
 use std::alloc::{AllocError, AllocFailed, Global};
-use tmr_base::{Name, NameFault, OutOfMemory};
+use tmr_base::{Edge, Name, NameFault, OutOfMemory};
 
 /// Why nets are not named.
 #[derive(Drop)]
@@ -115,8 +115,29 @@ pub(crate) fn name_nets(alloc: Global, texts: &mut IndexMap<Name, usize>, models
 {
     let mut found = Vec::new(alloc);
     for name in names {
-        let text = name_net(alloc, texts, models, rows, walk, name)?;
-        found.push(text)?;
+        match name_net(alloc, texts, models, rows, walk, name) {
+            Ok(text) => found.push(text)?,
+            Err(fault) => return Err(fault),
+        }
     }
     Ok(found)
+}
+
+/// Names the net of a control.
+#[tactic(auto, using(crate::proofs::NetNames::named_nil))]
+pub(crate) fn name_control(alloc: Global, texts: &mut IndexMap<Name, usize>, models: &[BlifModel], rows: &[Row], walk: &Walk, control: &Option<(Edge, Name)>) -> Result<Option<(Edge, Name)>, NamingFault>
+    requires ready { IsReady (map plain_model models.now) rows.now }
+    requires walking { IsWalking (map plain_model models.now) walk.now }
+    requires text { IsPathText walk.now.path.items }
+    ensures text { IfOk result (λ found. found ≡ named_control (resolved_control (levels_of (map plain_model models.now) walk.now) control.now)) }
+    ensures named { OnOk result (AreNamed (get bytes_eq texts.old) (get bytes_eq texts.new) (control_nets (resolved_control (levels_of (map plain_model models.now) walk.now) control.now))) }
+    ensures fault { IfErr result (λ fault. IsNamingFault (get bytes_eq texts.old) (control_nets (resolved_control (levels_of (map plain_model models.now) walk.now) control.now)) fault) }
+{
+    match control {
+        Some((edge, clock)) => match name_net(alloc, texts, models, rows, walk, clock) {
+            Ok(text) => Ok(Some((*edge, text))),
+            Err(fault) => Err(fault),
+        },
+        None => Ok(None),
+    }
 }

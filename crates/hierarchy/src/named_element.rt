@@ -1,0 +1,71 @@
+//! Flat elements whose nets have their texts as names.
+ghost use Rattle.std.specs.Prelude.{◌≡◌, ◌∷◌, [], map, flat_map, IfOk, OnOk, IfErr};
+ghost use Rattle.std.specs.Str.{bytes_eq};
+ghost use Rattle.indexmap.specs.IndexMap.{get};
+ghost use Rattle.blif_text.specs.Views.{plain_model, plain_element};
+ghost use Rattle.blif_text.specs.Models.{Table, Register};
+ghost use Rattle.hierarchy.specs.Flat.{named};
+ghost use Rattle.hierarchy.specs.Clash.{nets_of};
+ghost use Rattle.hierarchy.specs.Naming.{AreNamed, IsNamingFault};
+ghost use Rattle.hierarchy.specs.Walk.{IsPathText, IsReady, IsWalking, levels_of, placed_element};
+
+use crate::links::Row;
+use crate::naming::{NamingFault, name_control, name_net, name_nets};
+use crate::walk::Walk;
+use blif_text::{Element, BlifModel, Init};
+use indexmap::IndexMap;
+use std::alloc::Global;
+use table_cover::Cover;
+use tmr_base::{Edge, Name};
+
+/// The table with the names of its nets.
+#[tactic(auto, using(crate::proofs::NetNames::naming_laws))]
+fn name_table(alloc: Global, texts: &mut IndexMap<Name, usize>, models: &[BlifModel], rows: &[Row], walk: &Walk, pins: &[Name], out: &Name, cover: &Cover) -> Result<Element, NamingFault>
+    requires ready { IsReady (map plain_model models.now) rows.now }
+    requires walking { IsWalking (map plain_model models.now) walk.now }
+    requires text { IsPathText walk.now.path.items }
+    ensures element { IfOk result (λ found. plain_element found ∷ [] ≡ map named (placed_element (levels_of (map plain_model models.now) walk.now) (Table pins.now out.now cover.now))) }
+    ensures named { OnOk result (AreNamed (get bytes_eq texts.old) (get bytes_eq texts.new) (flat_map nets_of (placed_element (levels_of (map plain_model models.now) walk.now) (Table pins.now out.now cover.now)))) }
+    ensures fault { IfErr result (λ fault. IsNamingFault (get bytes_eq texts.old) (flat_map nets_of (placed_element (levels_of (map plain_model models.now) walk.now) (Table pins.now out.now cover.now))) fault) }
+{
+    let pins = match name_nets(alloc, texts, models, rows, walk, pins) {
+        Ok(pins) => pins,
+        Err(fault) => return Err(fault),
+    };
+    let out = match name_net(alloc, texts, models, rows, walk, out) {
+        Ok(out) => out,
+        Err(fault) => return Err(fault),
+    };
+    let cover = cover.copy(alloc)?;
+    Ok(Element::Table { pins, out, cover })
+}
+
+/// The latch with the names of its nets.
+#[tactic(auto, using(crate::proofs::NetNames::naming_laws))]
+fn name_latch(alloc: Global, texts: &mut IndexMap<Name, usize>, models: &[BlifModel], rows: &[Row], walk: &Walk, pin: &Name, out: &Name, control: &Option<(Edge, Name)>, init: Init) -> Result<Element, NamingFault>
+    requires ready { IsReady (map plain_model models.now) rows.now }
+    requires walking { IsWalking (map plain_model models.now) walk.now }
+    requires text { IsPathText walk.now.path.items }
+    ensures element { IfOk result (λ found. plain_element found ∷ [] ≡ map named (placed_element (levels_of (map plain_model models.now) walk.now) (Register pin.now out.now control.now init))) }
+    ensures named { OnOk result (AreNamed (get bytes_eq texts.old) (get bytes_eq texts.new) (flat_map nets_of (placed_element (levels_of (map plain_model models.now) walk.now) (Register pin.now out.now control.now init)))) }
+    ensures fault { IfErr result (λ fault. IsNamingFault (get bytes_eq texts.old) (flat_map nets_of (placed_element (levels_of (map plain_model models.now) walk.now) (Register pin.now out.now control.now init))) fault) }
+{
+    let pin = match name_net(alloc, texts, models, rows, walk, pin) {
+        Ok(pin) => pin,
+        Err(fault) => return Err(fault),
+    };
+    let out = match name_net(alloc, texts, models, rows, walk, out) {
+        Ok(out) => out,
+        Err(fault) => return Err(fault),
+    };
+    let control = match name_control(alloc, texts, models, rows, walk, control) {
+        Ok(control) => control,
+        Err(fault) => return Err(fault),
+    };
+    Ok(Element::Latch {
+        pin,
+        out,
+        control,
+        init,
+    })
+}
