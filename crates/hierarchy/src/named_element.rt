@@ -7,11 +7,11 @@ ghost use Rattle.blif_text.specs.Models.{Table, Register};
 ghost use Rattle.hierarchy.specs.Flat.{named};
 ghost use Rattle.hierarchy.specs.Clash.{nets_of};
 ghost use Rattle.hierarchy.specs.Naming.{AreNamed, IsNamingFault};
-ghost use Rattle.hierarchy.specs.Walk.{IsPathText, IsReady, IsWalking, levels_of, placed_element};
+ghost use Rattle.hierarchy.specs.Walk.{IsPathText, IsReady, IsWalking, IsInstance, coming, levels_of, placed_element};
 
 use crate::links::Row;
 use crate::naming::{NamingFault, name_control, name_net, name_nets};
-use crate::walk::Walk;
+use crate::walk::{Walk, next_element};
 use blif_text::{Element, BlifModel, Init};
 use indexmap::IndexMap;
 use std::alloc::Global;
@@ -68,4 +68,49 @@ fn name_latch(alloc: Global, texts: &mut IndexMap<Name, usize>, models: &[BlifMo
         control,
         init,
     })
+}
+
+/// The element with the names of its nets.
+fn name_element(alloc: Global, texts: &mut IndexMap<Name, usize>, models: &[BlifModel], rows: &[Row], walk: &Walk, element: &Element) -> Result<Element, NamingFault>
+    requires ready { IsReady (map plain_model models.now) rows.now }
+    requires walking { IsWalking (map plain_model models.now) walk.now }
+    requires text { IsPathText walk.now.path.items }
+    requires plain { ¬ IsInstance (plain_element element.now) }
+    ensures element { IfOk result (λ found. plain_element found ∷ [] ≡ map named (placed_element (levels_of (map plain_model models.now) walk.now) (plain_element element.now))) }
+    ensures named { OnOk result (AreNamed (get bytes_eq texts.old) (get bytes_eq texts.new) (flat_map nets_of (placed_element (levels_of (map plain_model models.now) walk.now) (plain_element element.now)))) }
+    ensures fault { IfErr result (λ fault. IsNamingFault (get bytes_eq texts.old) (flat_map nets_of (placed_element (levels_of (map plain_model models.now) walk.now) (plain_element element.now))) fault) }
+{
+    match element {
+        Element::Table { pins, out, cover } => {
+            name_table(alloc, texts, models, rows, walk, pins, out, cover)
+        }
+        Element::Latch {
+            pin,
+            out,
+            control,
+            init,
+        } => name_latch(alloc, texts, models, rows, walk, pin, out, control, *init),
+        Element::Instance { .. } => unreachable!(),
+    }
+}
+
+/// All elements that are still to come, with the names of their nets.
+pub(crate) fn name_elements(alloc: Global, texts: &mut IndexMap<Name, usize>, models: &[BlifModel], rows: &[Row], walk: &mut Walk) -> Result<Vec<Element>, NamingFault>
+    requires ready { IsReady (map plain_model models.now) rows.now }
+    requires walking { IsWalking (map plain_model models.now) walk.old }
+    requires text { IsPathText walk.old.path.items }
+    ensures elements { IfOk result (λ found. map plain_element found.items ≡ map named (coming (map plain_model models.now) walk.old)) }
+    ensures named { OnOk result (AreNamed (get bytes_eq texts.old) (get bytes_eq texts.new) (flat_map nets_of (coming (map plain_model models.now) walk.old))) }
+    ensures fault { IfErr result (λ fault. IsNamingFault (get bytes_eq texts.old) (flat_map nets_of (coming (map plain_model models.now) walk.old)) fault) }
+{
+    let mut elements = Vec::new(alloc);
+    'elements: loop {
+        let Some((x, i)) = next_element(alloc, walk, models, rows)? else {
+            return Ok(elements);
+        };
+        match name_element(alloc, texts, models, rows, walk, &models[x].elements[i]) {
+            Ok(element) => elements.push(element)?,
+            Err(fault) => return Err(fault),
+        }
+    }
 }
