@@ -21,3 +21,5 @@ pub mod Lengths
 pub mod PathTexts
 pub mod Totals
 pub mod NetNames
+pub mod Passing
+pub mod WholeModel

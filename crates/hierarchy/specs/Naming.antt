@@ -1,7 +1,8 @@
 -- Texts that are given to nets.
 use Rattle.std.specs.Prelude.{◌≡◌, ℕ, List, ◌++◌, length, find, Option, Some, option_map}
 use Rattle.hierarchy.specs.Flat.{PlacedNet}
-use Rattle.hierarchy.specs.Clash.{has_text, clash_after}
+use Rattle.hierarchy.specs.Clash.{has_text, clash_after, name_clash}
+use Rattle.blif_text.specs.Models.{PlainModel}
 use Rattle.hierarchy.specs.declared.naming.NamingFault.{NamingFault}
 use Rattle.hierarchy.specs.declared.naming.NamingFault.TheVariants.{Clash, Memory}
 
@@ -24,3 +25,8 @@ pub record Clashes (old : List ℕ → Option ℕ) (nets : List PlacedNet) (text
 abbrev pub IsNamingFault : (List ℕ → Option ℕ) → List PlacedNet → NamingFault → Type 0
 IsNamingFault old nets (Clash text) = Clashes old nets text
 IsNamingFault old nets Memory = Unit {0}
+
+-- the first text that an earlier different net has
+abbrev pub IsClash : List PlainModel → NamingFault → Type 0
+IsClash library (Clash text) = name_clash library ≡ Some text
+IsClash library Memory = Unit {0}

@@ -11,6 +11,7 @@ mod library;
 mod links;
 mod model_names;
 mod named_element;
+mod named_model;
 mod naming;
 mod order;
 mod placed_text;
