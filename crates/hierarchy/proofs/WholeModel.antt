@@ -43,7 +43,7 @@ pub all_named : (library : List PlainModel) (a b c d : List ℕ → Option ℕ) 
 unfolding walked clash_after
 all_named library a b c d none f g h =
     let all : AreNamed a d ((map main_net (main_of library).inputs ++ flat_map nets_of (flat_elements library)) ++ map main_net (main_of library).outputs) = named_join a c d (map main_net (main_of library).inputs ++ flat_map nets_of (flat_elements library)) (map main_net (main_of library).outputs) (named_join a b c (map main_net (main_of library).inputs) (flat_map nets_of (flat_elements library)) f g) h in
-    ap (clash_after []) (sym (append-nil _)) ∙ all.clear [] [] none
+    ap (clash_after []) (sym (append-nil ((map main_net (main_of library).inputs ++ flat_map nets_of (flat_elements library)) ++ map main_net (main_of library).outputs))) ∙ all.clear [] [] none
 
 module _ (library : List PlainModel) (a b c : List ℕ → Option ℕ) (none : IsNamed a []) where
   pub input_fault : (fault : NamingFault) → IsNamingFault a (map main_net (main_of library).inputs) fault → IsClash library fault
@@ -59,8 +59,23 @@ module _ (library : List PlainModel) (a b c : List ℕ → Option ℕ) (none : I
   pub output_fault : (fault : NamingFault) → AreNamed a b (map main_net (main_of library).inputs) → AreNamed b c (flat_map nets_of (flat_elements library)) → IsNamingFault c (map main_net (main_of library).outputs) fault → IsClash library fault
   unfolding walked
   output_fault Memory f g h = tt
-  output_fault (Clash text) f g h = ap (clash_after []) (sym (append-nil _)) ∙ (clash_join a c (map main_net (main_of library).inputs ++ flat_map nets_of (flat_elements library)) (map main_net (main_of library).outputs) text (named_join a b c (map main_net (main_of library).inputs) (flat_map nets_of (flat_elements library)) f g) h).clash [] [] none
+  output_fault (Clash text) f g h = ap (clash_after []) (sym (append-nil ((map main_net (main_of library).inputs ++ flat_map nets_of (flat_elements library)) ++ map main_net (main_of library).outputs))) ∙ (clash_join a c (map main_net (main_of library).inputs ++ flat_map nets_of (flat_elements library)) (map main_net (main_of library).outputs) text (named_join a b c (map main_net (main_of library).inputs) (flat_map nets_of (flat_elements library)) f g) h).clash [] [] none
 
 pub whole_model : (library : List PlainModel) (name : List ℕ) (inputs outputs : List (List ℕ)) (elements : List PlainElement) → name ≡ (main_of library).name → inputs ≡ (main_of library).inputs → outputs ≡ (main_of library).outputs → elements ≡ map named (flat_elements library) → record { name = name; inputs = inputs; outputs = outputs; elements = elements } ≡ flat_model library
 unfolding flat_model
 whole_model library name inputs outputs elements a b c d = rw (a, b, c, d) refl
+
+-- ports, in the words of the walk's contract
+pub ports_named : (library : List PlainModel) (w : Walk) (a b : List ℕ → Option ℕ) (names : List (List ℕ)) → innermost_first w ≡ record { model = 0; next = 0; number = 0; placing = None; path_end = 0 } ∷ [] → AreNamed a b (map (resolve (levels_of library w)) names) → AreNamed a b (map main_net names)
+ports_named library w a b names e n = subst (AreNamed a b) (main_nets (levels_of library w) names (main_levels library w e)) n
+
+pub ports_fault : (library : List PlainModel) (w : Walk) (a : List ℕ → Option ℕ) (names : List (List ℕ)) (fault : NamingFault) → innermost_first w ≡ record { model = 0; next = 0; number = 0; placing = None; path_end = 0 } ∷ [] → IsNamingFault a (map (resolve (levels_of library w)) names) fault → IsNamingFault a (map main_net names) fault
+ports_fault library w a names fault e n = subst (λ nets. IsNamingFault a nets fault) (main_nets (levels_of library w) names (main_levels library w e)) n
+
+pub ports_texts : (library : List PlainModel) (w : Walk) (names : List (List ℕ)) (found : List (List ℕ)) → innermost_first w ≡ record { model = 0; next = 0; number = 0; placing = None; path_end = 0 } ∷ [] → found ≡ map net_text (map (resolve (levels_of library w)) names) → found ≡ names
+ports_texts library w names found e n = n ∙ main_texts (levels_of library w) names (main_levels library w e)
+
+pub ruleset port_laws = (ports_named, ports_fault, ports_texts)
+
+pub none_at_first : (entries : List (List ℕ × ℕ)) → entries ≡ [] → IsNamed (λ text. lookup (bytes_eq text) entries) []
+none_at_first entries e text = ap (λ es. lookup (bytes_eq text) es) e

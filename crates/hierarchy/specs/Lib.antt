@@ -14,3 +14,4 @@ pub mod Clash
 pub mod Links
 pub mod Walk
 pub mod Naming
+pub mod Flatten

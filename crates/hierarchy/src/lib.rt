@@ -5,7 +5,9 @@
 mod bare;
 mod drafted;
 mod fault;
+mod flat_fault;
 mod flat_text;
+mod flatten;
 mod graph;
 mod library;
 mod links;
