@@ -23,3 +23,4 @@ pub mod Totals
 pub mod NetNames
 pub mod Passing
 pub mod WholeModel
+pub mod FlatKeeps

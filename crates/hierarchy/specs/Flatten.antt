@@ -47,6 +47,19 @@ IsSoundFault library Memory = Unit {0}
 abbrev pub Fits : List PlainModel → ℕ → Type 0
 Fits library limit = text_length (flat_model library) ≤ limit
 
+-- a fault of the flat text of a sound library
+abbrev pub IsTextFault : List PlainModel → ℕ → FlatFault → Type 0
+IsTextFault library limit TooLarge = limit < text_length (flat_model library)
+IsTextFault library limit (NameClash name) = Fits library limit × (name_clash library ≡ Some name)
+IsTextFault library limit (UnknownModel name) = ⊥
+IsTextFault library limit (UnboundInput name) = ⊥
+IsTextFault library limit (UnknownFormal name) = ⊥
+IsTextFault library limit (DuplicateFormal name) = ⊥
+IsTextFault library limit (BothWays name) = ⊥
+IsTextFault library limit (Recursive names) = ⊥
+IsTextFault library limit (NetOf fault) = ⊥
+IsTextFault library limit Memory = Unit {0}
+
 -- the fault is there, and none of those before it
 abbrev pub IsFlatFault : List PlainModel → ℕ → FlatFault → Type 0
 IsFlatFault library limit TooLarge = IsSound library × (limit < text_length (flat_model library))

@@ -7,7 +7,9 @@ ghost use Rattle.hierarchy.specs.Flat.{flat_model};
 ghost use Rattle.hierarchy.specs.FlatText.{text_length};
 ghost use Rattle.hierarchy.specs.Clash.{name_clash};
 ghost use Rattle.hierarchy.specs.Walk.{IsReady};
-ghost use Rattle.hierarchy.specs.Flatten.{IsSound, IsSoundFault, flat_fault_of};
+ghost use Rattle.hierarchy.specs.Flatten.{IsSound, IsSoundFault, IsTextFault, Fits, flat_fault_of};
+ghost use Rattle.hierarchy.specs.Drafted.{draft_of as draft_of_model};
+ghost use Rattle.flat_net.specs.Faults.{net_of_draft, IsFaultless, IsFaultOf};
 
 use crate::bare::filled_models;
 use crate::flat_fault::FlatFault;
@@ -62,5 +64,42 @@ fn sound_rows(alloc: Global, models: &[BlifModel]) -> Result<Vec<Row>, FlatFault
         Survey::Sound(names, order) => Ok(ready_rows(alloc, models, &names, &order)?),
         Survey::Misplaced(fault) => Err(placing_fault(fault)),
         Survey::Recursive(names) => Err(FlatFault::Recursive(names)),
+    }
+}
+
+/// The main model with the flat elements, where its text keeps the limit and no two nets share a text.
+fn flat_within(alloc: Global, models: &[BlifModel], rows: &[Row], limit: u64) -> Result<BlifModel, FlatFault>
+    requires ready { IsReady (map plain_model models.now) rows.now }
+    requires some { 0 < length models.now }
+    requires limit { limit ≤ 1073741824 }
+    ensures model { IfOk result (λ flat. plain_model flat ≡ flat_model (map plain_model models.now)) }
+    ensures fits { OnOk result (Fits (map plain_model models.now) limit) }
+    ensures clear { OnOk result (name_clash (map plain_model models.now) ≡ None) }
+    ensures fault { IfErr result (λ fault. IsTextFault (map plain_model models.now) limit fault) }
+{
+    if !fits(alloc, models, rows, limit)? {
+        return Err(FlatFault::TooLarge);
+    }
+    match named_model(alloc, models, rows) {
+        Ok(flat) => Ok(flat),
+        Err(NamingFault::Clash(text)) => Err(FlatFault::NameClash(text)),
+        Err(NamingFault::Memory) => Err(FlatFault::Memory),
+    }
+}
+
+/// The design of a flat model.
+#[tactic(auto, using(crate::proofs::FlatKeeps::draft_laws))]
+fn design_of(alloc: Global, flat: &BlifModel) -> Result<FlatNet, NetFault>
+    requires pins { All FitsPins (plain_model flat.now).elements }
+    requires inputs { Differ (plain_model flat.now).inputs }
+    requires outputs { Differ (plain_model flat.now).outputs }
+    requires short { text_length (plain_model flat.now) ≤ 1073741824 }
+    ensures ok { IfOk result (λ net. net.net ≡ net_of_draft (draft_of_model (plain_model flat.now))) }
+    ensures faultless { OnOk result (IsFaultless (draft_of_model (plain_model flat.now))) }
+    ensures fault { IfErr result (λ fault. IsFaultOf (draft_of_model (plain_model flat.now)) fault) }
+{
+    match draft_of(alloc, flat) {
+        Ok(draft) => build(alloc, draft),
+        Err(_) => Err(NetFault::Memory),
     }
 }
