@@ -1,19 +1,19 @@
 -- Models in which no element stands.
-use Rattle.std.proofs.Common.{◌≡◌, ◌≢◌, ℕ, zero, suc, ◌+◌, ◌<◌, ◌≤◌, ◌⊎◌, Bool, true, false, cond, ◌&&◌, List, [], ◌∷◌, ◌++◌, length, get_or, set, replicate, map, refl, sym, ap, ◌∙◌, subst, inl, inr, arith, Option, Some, None}
+use Rattle.std.proofs.Common.{◌≡◌, ℕ, ◌+◌, ◌<◌, ◌≤◌, ◌⊎◌, Bool, true, false, ◌&&◌, List, [], ◌∷◌, length, get_or, set, replicate, map, refl, sym, ap, ◌∙◌, subst, inl, inr, arith, Option, Some, None}
 use Rattle.std.specs.Prelude.{slice_index_or}
 use Rattle.std.specs.List.{list_all}
 use Rattle.std.specs.Option.{is_none}
 use Rattle.std.proofs.lemmas.Bool.{cases_eq, cases_lt}
-use Rattle.std.proofs.lemmas.List.{get_or-set_same, get_or-set_other, get_or-replicate, get_or_past, length-replicate}
+use Rattle.std.proofs.lemmas.List.{get_or-set_other, get_or-replicate, get_or_past, length-replicate}
 use Rattle.blif_text.specs.Models.{PlainElement, Table, Register, Instance, PlainModel}
-use Rattle.hierarchy.specs.Graph.{names_of, number_named}
-use Rattle.hierarchy.specs.Flat.{Level, NetElement, elements_with, elements_to}
-use Rattle.hierarchy.specs.Links.{IsBare, filled, target_of, is_bare_element}
+use Rattle.hierarchy.specs.Graph.{names_of}
+use Rattle.hierarchy.specs.Flat.{elements_with, elements_to}
+use Rattle.hierarchy.specs.Links.{IsBare, target_of, is_bare_element}
 use Rattle.hierarchy.specs.Walk.{model_at, IsInstance}
 use Rattle.blif_text.specs.declared.library.BlifModel.{BlifModel}
 use Rattle.blif_text.specs.Views.{plain_model, plain_element}
 use Rattle.hierarchy.proofs.Moved.{at_model}
-use Rattle.hierarchy.proofs.Coming.{placed_name, no_target, instance_first}
+use Rattle.hierarchy.proofs.Coming.{no_target, instance_first}
 
 both : (a b : Bool) → (a && b) ≡ true → (a ≡ true) × (b ≡ true)
 both true b e = (refl, e)
@@ -56,8 +56,8 @@ none_bare library n y off = go (cases_lt y n)
 pub marked : (models : List BlifModel) (names : List (List ℕ)) (holds : List Bool) (x : ℕ) (item : BlifModel) → names ≡ names_of (map plain_model models) → x < length models → item ≡ get_or models x item → ((y : ℕ) → slice_index_or holds y true ≡ false → IsBare (map plain_model models) (model_at (map plain_model models) y).elements) → list_all (is_bare_element names holds) (map plain_element item.elements.items) ≡ true → (y : ℕ) → slice_index_or (set holds x false) y true ≡ false → IsBare (map plain_model models) (model_at (map plain_model models) y).elements
 marked models names holds x item named below is bare all y off =
     one_bare (map plain_model models) holds bare x
-        (ap (λ m. list_all (is_bare_element (names_of (map plain_model models)) holds) m.elements) (at_model models x item below is)
-        ∙ (ap (λ ns. list_all (is_bare_element ns holds) (map plain_element item.elements.items)) (sym named) ∙ all))
-        y off
+    (ap (λ m. list_all (is_bare_element (names_of (map plain_model models)) holds) m.elements) (at_model models x item below is)
+    ∙ (ap (λ ns. list_all (is_bare_element ns holds) (map plain_element item.elements.items)) (sym named) ∙ all))
+    y off
 
 pub ruleset bare_laws = (marked)

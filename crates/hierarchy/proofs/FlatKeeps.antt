@@ -1,5 +1,5 @@
 -- What the flat model keeps.
-use Rattle.std.proofs.Common.{◌≡◌, ◌≢◌, ℕ, zero, suc, ◌+◌, ◌<◌, ◌≤◌, List, [], ◌∷◌, ◌++◌, length, map, get_or, refl, sym, ap, subst, ◌∙◌, arith, Option, None, Some}
+use Rattle.std.proofs.Common.{◌≡◌, ℕ, zero, suc, ◌+◌, ◌^◌, ◌<◌, ◌≤◌, List, [], ◌∷◌, length, map, refl, sym, ap, subst, ◌∙◌, arith, Option, None, Some}
 use Rattle.std.specs.Prelude.{All, slice_get, slice_index_or, flat_map, option_and_then}
 use Rattle.std.specs.Option.{option_map_or}
 use Rattle.std.specs.List.{sum_by}
@@ -13,9 +13,12 @@ use Rattle.blif_text.specs.Library.{FitsPins, IsModel, IsLibrary, Differ}
 use Rattle.flat_net.specs.Draft.{AreDistinct, reads_of}
 use Rattle.flat_net.specs.Faults.{draft_reads}
 use Rattle.hierarchy.specs.Graph.{names_of, number_named, model_named}
-use Rattle.hierarchy.specs.Flat.{Level, NetElement, PlacedNet, net_text, resolve, named, main_of, main_level, no_model, elements_with, elements_to, flat_elements, flat_model}
+use Rattle.hierarchy.specs.Flat.{Level, NetElement, NetTable, NetRegister, net_text, resolve, named, main_of, main_level, no_model, elements_with, elements_to, flat_elements, flat_model}
 use Rattle.hierarchy.specs.FlatText.{spaced, all_spaced, element_length, text_length}
 use Rattle.hierarchy.specs.Drafted.{drafted, draft_of}
+use Rattle.hierarchy.specs.declared.flat_fault.FlatFault.{FlatFault}
+use Rattle.hierarchy.specs.declared.flat_fault.FlatFault.TheVariants.{UnknownModel, UnboundInput, UnknownFormal, DuplicateFormal, BothWays, Recursive, TooLarge, NameClash, Net, Memory}
+use Rattle.hierarchy.specs.Flatten.{IsSound, IsSoundFault, IsTextFault, IsFlatFault}
 
 as_many : (levels : List Level) (pins : List (List ℕ)) → length (map net_text (map (resolve levels) pins)) ≡ length pins
 as_many levels pins = length-map (map (resolve levels) pins) net_text ∙ length-map pins (resolve levels)
@@ -88,9 +91,14 @@ pub few_reads : (m : PlainModel) → text_length m ≤ 1073741824 → length (dr
 unfolding text_length draft_of
 few_reads m short = omega (arith, all_cost m.elements)
 
-pub few_elements : (m : PlainModel) → text_length m ≤ 1073741824 → length m.elements < 4294967295
-unfolding text_length
-few_elements m short = ?
+named_long : (es : List NetElement) → length (map named es) ≤ sum_by element_length (map named es)
+named_long [] = omega arith
+named_long (NetTable pins out cover ∷ es) = omega (arith, sum_by-cons element_length (named (NetTable pins out cover)) (map named es), named_long es)
+named_long (NetRegister pin out control init ∷ es) = omega (arith, sum_by-cons element_length (named (NetRegister pin out control init)) (map named es), named_long es)
+
+pub few_elements : (library : List PlainModel) → text_length (flat_model library) ≤ 1073741824 → length (flat_model library).elements < 2 ^ 32
+unfolding text_length flat_model
+few_elements library short = omega (arith, named_long (flat_elements library))
 
 pub distinct : (names : List (List ℕ)) → Differ names → AreDistinct names
 distinct names d j k jk kl = d j k [] jk kl
@@ -104,3 +112,29 @@ unfolding draft_of
 draft_outputs m d = distinct m.outputs d
 
 pub ruleset draft_laws = (few_nets, few_reads, draft_inputs, draft_outputs)
+
+-- ---- faults, in the words of the whole
+
+pub sound_fault : (library : List PlainModel) (limit : ℕ) (fault : FlatFault) → IsSoundFault library fault → IsFlatFault library limit fault
+sound_fault library limit (UnknownModel name) f = f
+sound_fault library limit (UnboundInput name) f = f
+sound_fault library limit (UnknownFormal name) f = f
+sound_fault library limit (DuplicateFormal name) f = f
+sound_fault library limit (BothWays name) f = f
+sound_fault library limit (Recursive names) f = f
+sound_fault library limit TooLarge f = absurd f
+sound_fault library limit (NameClash name) f = absurd f
+sound_fault library limit (Net fault) f = absurd f
+sound_fault library limit Memory f = tt
+
+pub text_fault : (library : List PlainModel) (limit : ℕ) (fault : FlatFault) → IsSound library → IsTextFault library limit fault → IsFlatFault library limit fault
+text_fault library limit (UnknownModel name) s f = absurd f
+text_fault library limit (UnboundInput name) s f = absurd f
+text_fault library limit (UnknownFormal name) s f = absurd f
+text_fault library limit (DuplicateFormal name) s f = absurd f
+text_fault library limit (BothWays name) s f = absurd f
+text_fault library limit (Recursive names) s f = absurd f
+text_fault library limit TooLarge s f = (s, f)
+text_fault library limit (NameClash name) s f = (s, f.0, f.1)
+text_fault library limit (Net fault) s f = absurd f
+text_fault library limit Memory s f = tt

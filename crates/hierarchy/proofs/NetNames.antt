@@ -1,10 +1,10 @@
 -- Texts given to nets, one more.
-use Rattle.std.proofs.Common.{◌≡◌, ◌≢◌, ℕ, ◌+◌, ◌<◌, ◌≤◌, Bool, true, false, cond, not, ◌&&◌, List, [], ◌∷◌, ◌++◌, length, map, get_or, take, drop, refl, sym, ap, ◌∙◌, subst, arith, Option, Some, None, nat_eq}
+use Rattle.std.proofs.Common.{◌≡◌, ◌≢◌, ℕ, ◌+◌, ◌<◌, ◌≤◌, Bool, true, false, cond, not, List, [], ◌∷◌, ◌++◌, length, map, get_or, take, drop, refl, sym, ap, ◌∙◌, subst, arith, Option, Some, None, nat_eq}
 use Rattle.std.specs.Prelude.{find, option_map, flat_map}
-use Rattle.std.specs.Option.{option_map_or, option_or}
+use Rattle.std.specs.Option.{option_or}
 use Rattle.std.specs.Str.{bytes_eq}
 use Rattle.std.proofs.lemmas.Bool.{eqb-true, eq-eqb, false_from_ne_true}
-use Rattle.std.proofs.lemmas.List.{take-append-le, take_all, length-append, length-take, append-nil, append_assoc, take_more, map-append, take-append-drop}
+use Rattle.std.proofs.lemmas.List.{take-append-le, take_all, length-take, append-nil, append_assoc, take_more, map-append, take-append-drop}
 use Rattle.std.proofs.lemmas.List.Folds.{find-append}
 use Rattle.std.proofs.lemmas.Slice.Eq.{bytes_eq-Decides}
 use Rattle.tmr_base.specs.declared.ids.Edge.{Edge}
@@ -108,15 +108,15 @@ module _ (look : List ℕ → Option ℕ) (seen : List PlacedNet) (named : IsNam
 
 pub named_nil : (look : List ℕ → Option ℕ) → AreNamed look look []
 named_nil look = record {
-    named = λ seen n. subst (IsNamed look) (sym (append-nil seen)) n;
-    clear = λ seen rest n. ap (λ s. clash_after s rest) (sym (append-nil seen));
-  }
+  named = λ seen n. subst (IsNamed look) (sym (append-nil seen)) n;
+  clear = λ seen rest n. ap (λ s. clash_after s rest) (sym (append-nil seen));
+}
 
 pub named_join : (a b c : List ℕ → Option ℕ) (xs ys : List PlacedNet) → AreNamed a b xs → AreNamed b c ys → AreNamed a c (xs ++ ys)
 named_join a b c xs ys f g = record {
-    named = λ seen n. subst (IsNamed c) (append_assoc seen xs ys) (g.named (seen ++ xs) (f.named seen n));
-    clear = λ seen rest n. ap (clash_after seen) (append_assoc xs ys rest) ∙ (f.clear seen (ys ++ rest) n ∙ (g.clear (seen ++ xs) rest (f.named seen n) ∙ ap (λ s. clash_after s rest) (append_assoc seen xs ys)));
-  }
+  named = λ seen n. subst (IsNamed c) (append_assoc seen xs ys) (g.named (seen ++ xs) (f.named seen n));
+  clear = λ seen rest n. ap (clash_after seen) (append_assoc xs ys rest) ∙ (f.clear seen (ys ++ rest) n ∙ (g.clear (seen ++ xs) rest (f.named seen n) ∙ ap (λ s. clash_after s rest) (append_assoc seen xs ys)));
+}
 
 pub clash_join : (a b : List ℕ → Option ℕ) (xs ys : List PlacedNet) (text : List ℕ) → AreNamed a b xs → Clashes b ys text → Clashes a (xs ++ ys) text
 clash_join a b xs ys text f g = record { clash = λ seen rest n. ap (clash_after seen) (append_assoc xs ys rest) ∙ (f.clear seen (ys ++ rest) n ∙ g.clash (seen ++ xs) rest (f.named seen n)) }
@@ -127,9 +127,9 @@ clash_more a xs ys text f = record { clash = λ seen rest n. ap (clash_after see
 pub named_one : (a b : List ℕ → Option ℕ) (net : PlacedNet) → ((seen : List PlacedNet) → IsNamed a seen → false ≡ is_taken seen net) → ((seen : List PlacedNet) → IsNamed a seen → IsNamed b (seen ++ net ∷ [])) → AreNamed a b (net ∷ [])
 unfolding clash_after
 named_one a b net free named = record {
-    named = named;
-    clear = λ seen rest n. rw (← free seen n) refl;
-  }
+  named = named;
+  clear = λ seen rest n. rw (← free seen n) refl;
+}
 
 pub clash_one : (a : List ℕ → Option ℕ) (net : PlacedNet) → ((seen : List PlacedNet) → IsNamed a seen → true ≡ is_taken seen net) → Clashes a (net ∷ []) (net_text net)
 unfolding clash_after

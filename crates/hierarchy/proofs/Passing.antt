@@ -1,14 +1,13 @@
 -- Elements that are passed one by one.
-use Rattle.std.proofs.Common.{◌≡◌, ℕ, List, [], ◌∷◌, ◌++◌, map, refl, sym, ap, ◌∙◌, subst, append_assoc, append-nil, Option, None, Some}
-use Rattle.std.specs.Prelude.{flat_map, find}
+use Rattle.std.proofs.Common.{◌≡◌, ℕ, List, [], ◌∷◌, ◌++◌, map, sym, ap, ◌∙◌, subst, append_assoc, Option}
+use Rattle.std.specs.Prelude.{flat_map}
 use Rattle.std.proofs.lemmas.List.{map-append}
 use Rattle.std.proofs.lemmas.Grind.{flat_map-append}
-use Rattle.blif_text.specs.Models.{PlainElement}
 use Rattle.blif_text.specs.declared.library.Element.{Element}
 use Rattle.blif_text.specs.Views.{plain_element}
 use Rattle.hierarchy.specs.declared.naming.NamingFault.{NamingFault}
 use Rattle.hierarchy.specs.declared.naming.NamingFault.TheVariants.{Clash, Memory}
-use Rattle.hierarchy.specs.Flat.{PlacedNet, NetElement, named}
+use Rattle.hierarchy.specs.Flat.{NetElement, named}
 use Rattle.hierarchy.specs.Clash.{nets_of}
 use Rattle.hierarchy.specs.Naming.{AreNamed, Clashes, IsNamingFault}
 use Rattle.hierarchy.proofs.NetNames.{named_join, clash_join, clash_more}

@@ -1,11 +1,11 @@
 -- The text of a path may begin a name.
-use Rattle.std.proofs.Common.{◌≡◌, ℕ, zero, suc, ◌+◌, ◌-◌, ◌^◌, ◌<◌, Bool, true, false, List, [], ◌∷◌, ◌++◌, take, length, refl, sym, ap, ◌∙◌, arith, ◌&&◌}
+use Rattle.std.proofs.Common.{◌≡◌, ℕ, zero, suc, ◌-◌, ◌^◌, ◌<◌, Bool, true, false, List, [], ◌∷◌, ◌++◌, take, length, refl, sym, ap, ◌∙◌, arith, ◌&&◌}
 use Rattle.std.specs.Prelude.{◌==◌, not, slice_get, Option}
 use Rattle.std.specs.Option.{option_map_or}
 use Rattle.std.specs.List.{list_all}
 use Rattle.std.specs.Fmt.{decimal}
 use Rattle.tmr_base.specs.Names.{is_name, is_name_byte}
-use Rattle.tmr_base.proofs.NameLaws.{list_all-append, name_append, name_behind}
+use Rattle.tmr_base.proofs.NameLaws.{list_all-append, name_behind}
 use Rattle.std.proofs.lemmas.List.Folds.{list_all-append as all_append}
 use Rattle.hierarchy.specs.Flat.{step}
 use Rattle.hierarchy.specs.Walk.{IsPathText}

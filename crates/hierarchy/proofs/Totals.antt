@@ -1,16 +1,14 @@
 -- The length of what a walk has passed, and of what is still to come.
-use Rattle.std.proofs.Common.{◌≡◌, ℕ, suc, ◌+◌, ◌-◌, ◌<◌, ◌≤◌, List, [], ◌∷◌, ◌++◌, length, map, take, get_or, min, refl, sym, ap, subst, ◌∙◌, arith, append-nil, Option, None}
+use Rattle.std.proofs.Common.{◌≡◌, ℕ, ◌+◌, ◌-◌, ◌<◌, ◌≤◌, List, [], ◌∷◌, ◌++◌, length, map, min, refl, ap, ◌∙◌, arith, append-nil, None}
 use Rattle.std.specs.List.{sum_by}
 use Rattle.std.proofs.lemmas.List.{length-append, map-append}
 use Rattle.std.proofs.lemmas.List.Sums.{sum_by-append}
 use Rattle.blif_text.specs.Models.{PlainElement, Table, Register, Instance, PlainModel}
-use Rattle.blif_text.specs.declared.library.BlifModel.{BlifModel}
-use Rattle.blif_text.specs.Views.{plain_model}
 use Rattle.hierarchy.specs.declared.walk.Walk.{Walk}
 use Rattle.hierarchy.specs.declared.walk.Frame.{Frame}
-use Rattle.hierarchy.specs.Flat.{Level, NetElement, no_model, main_of, main_level, elements_with, elements_to, flat_elements, flat_model, named}
+use Rattle.hierarchy.specs.Flat.{Level, main_of, main_level, elements_with, elements_to, flat_elements, flat_model, named}
 use Rattle.hierarchy.specs.FlatText.{capped, element_length, text_length, header_length}
-use Rattle.hierarchy.specs.Walk.{model_at, element_at, coming, coming_from, innermost_first, rest_of, level_of, levels_of, placed_element, IsWalking, AreFrames, IsInstance, IsNextElement}
+use Rattle.hierarchy.specs.Walk.{model_at, element_at, coming, coming_from, innermost_first, levels_of, placed_element, IsWalking, IsInstance, IsNextElement}
 
 -- before the first element all elements are still to come
 root : Frame

@@ -1,17 +1,17 @@
 -- The flat model put together.
-use Rattle.std.proofs.Common.{◌≡◌, ℕ, ◌<◌, List, [], ◌∷◌, ◌++◌, map, length, refl, sym, ap, ◌∙◌, subst, append_assoc, append-nil, Option, None, Some}
-use Rattle.std.specs.Prelude.{flat_map, find}
+use Rattle.std.proofs.Common.{◌≡◌, ℕ, List, [], ◌∷◌, ◌++◌, map, refl, sym, ap, ◌∙◌, subst, append_assoc, append-nil, Option, None}
+use Rattle.std.specs.Prelude.{flat_map}
 use Rattle.std.specs.Str.{bytes_eq}
 use Rattle.std.specs.Map.{lookup}
 use Rattle.blif_text.specs.Models.{PlainElement, PlainModel}
 use Rattle.hierarchy.specs.declared.naming.NamingFault.{NamingFault}
 use Rattle.hierarchy.specs.declared.naming.NamingFault.TheVariants.{Clash, Memory}
 use Rattle.hierarchy.specs.declared.walk.Walk.{Walk}
-use Rattle.hierarchy.specs.Flat.{PlacedNet, NetElement, Level, named, net_text, resolve, actual_of, main_level, main_of, flat_elements, flat_model}
+use Rattle.hierarchy.specs.Flat.{Level, named, net_text, resolve, actual_of, main_level, main_of, flat_elements, flat_model}
 use Rattle.hierarchy.specs.Clash.{nets_of, main_net, walked, clash_after, name_clash}
-use Rattle.hierarchy.specs.Naming.{AreNamed, Clashes, IsNamingFault, IsNamed, IsClash}
-use Rattle.hierarchy.specs.Walk.{coming, levels_of, level_of, innermost_first}
-use Rattle.hierarchy.proofs.NetNames.{named_join, clash_join, clash_more}
+use Rattle.hierarchy.specs.Naming.{AreNamed, IsNamingFault, IsNamed, IsClash}
+use Rattle.hierarchy.specs.Walk.{levels_of, level_of, innermost_first}
+use Rattle.hierarchy.proofs.NetNames.{named_join, clash_join}
 
 -- names of the main model are nets of their own
 main_resolved : (name : List ℕ) → resolve (main_level ∷ []) name ≡ main_net name

@@ -48,7 +48,12 @@ fn mark_bare(names: &IndexSet<Name>, models: &[BlifModel], holds: &mut [bool], x
 
 /// Whether an element stands in each model or below it. A model that is not in the order counts as one
 /// that holds some.
-pub(crate) fn filled_models(alloc: Global, names: &IndexSet<Name>, models: &[BlifModel], order: &[usize]) -> Result<Vec<bool>, AllocError>
+pub(crate) fn filled_models(
+    alloc: Global,
+    names: &IndexSet<Name>,
+    models: &[BlifModel],
+    order: &[usize],
+) -> Result<Vec<bool>, AllocError>
     requires { names.now.keys ≡ names_of (map plain_model models.now) }
     ensures { IfOk result (λ holds. (x : ℕ) → slice_index_or holds.items x true ≡ false → IsBare (map plain_model models.now) (model_at (map plain_model models.now) x).elements) }
 {

@@ -7,7 +7,7 @@ ghost use Rattle.hierarchy.specs.Flat.{flat_model};
 ghost use Rattle.hierarchy.specs.FlatText.{text_length};
 ghost use Rattle.hierarchy.specs.Clash.{name_clash};
 ghost use Rattle.hierarchy.specs.Walk.{IsReady};
-ghost use Rattle.hierarchy.specs.Flatten.{IsSound, IsSoundFault, IsTextFault, Fits, flat_fault_of};
+ghost use Rattle.hierarchy.specs.Flatten.{IsSound, IsSoundFault, IsTextFault, IsFlatFault, IsFlat, Fits, flat_fault_of};
 ghost use Rattle.hierarchy.specs.Drafted.{draft_of as draft_of_model};
 ghost use Rattle.flat_net.specs.Faults.{net_of_draft, IsFaultless, IsFaultOf};
 
@@ -45,7 +45,12 @@ fn placing_fault(fault: PlacingFault) -> FlatFault
 }
 
 /// The statements of a library made ready to be followed.
-fn ready_rows(alloc: Global, models: &[BlifModel], names: &IndexSet<Name>, order: &[usize]) -> Result<Vec<Row>, OutOfMemory>
+fn ready_rows(
+    alloc: Global,
+    models: &[BlifModel],
+    names: &IndexSet<Name>,
+    order: &[usize],
+) -> Result<Vec<Row>, OutOfMemory>
     requires { names.now.keys ≡ names_of (map plain_model models.now) }
     ensures { IfOk result (λ rows. IsReady (map plain_model models.now) rows.items) }
 {
@@ -68,7 +73,12 @@ fn sound_rows(alloc: Global, models: &[BlifModel]) -> Result<Vec<Row>, FlatFault
 }
 
 /// The main model with the flat elements, where its text keeps the limit and no two nets share a text.
-fn flat_within(alloc: Global, models: &[BlifModel], rows: &[Row], limit: u64) -> Result<BlifModel, FlatFault>
+fn flat_within(
+    alloc: Global,
+    models: &[BlifModel],
+    rows: &[Row],
+    limit: u64,
+) -> Result<BlifModel, FlatFault>
     requires ready { IsReady (map plain_model models.now) rows.now }
     requires some { 0 < length models.now }
     requires limit { limit ≤ 1073741824 }
@@ -101,5 +111,31 @@ fn design_of(alloc: Global, flat: &BlifModel) -> Result<FlatNet, NetFault>
     match draft_of(alloc, flat) {
         Ok(draft) => build(alloc, draft),
         Err(_) => Err(NetFault::Memory),
+    }
+}
+
+/// The flat design of the library, where its flat text has at most `limit` bytes, and the number of its
+/// registers whose initial value is left open.
+///
+/// Each fault but `Memory` comes exactly where it is the first. The library is not changed.
+pub fn flatten(alloc: Global, lib: &Library, limit: u64) -> Result<Flat, FlatFault>
+    requires { limit ≤ 1073741824 }
+    ensures ok { IfOk result (λ flat. IsFlat lib.now limit flat.net.net flat.assumed) }
+    ensures fault { IfErr result (λ fault. IsFlatFault lib.now limit fault) }
+{
+    let models = lib.models();
+    let rows = match sound_rows(alloc, models) {
+        Ok(rows) => rows,
+        Err(fault) => return Err(fault),
+    };
+    let flat = match flat_within(alloc, models, &rows, limit) {
+        Ok(flat) => flat,
+        Err(fault) => return Err(fault),
+    };
+    let assumed = assumed(&flat);
+    match design_of(alloc, &flat) {
+        Ok(net) => Ok(Flat { net, assumed }),
+        Err(NetFault::Memory) => Err(FlatFault::Memory),
+        Err(fault) => Err(FlatFault::Net(fault)),
     }
 }

@@ -1,5 +1,9 @@
 //! Flattens a library: the models that the main model places, and those that they place, become one
 //! flat design.
+//!
+//! The layers above may rely on `IsFlat` and `IsFlatFault` of `specs/Flatten.antt`: what the flat elements
+//! of a library are, by which texts their nets go, and which fault is the first, are definitions over the
+//! library alone. Nothing here recurses over the hierarchy: it is walked by a stack.
 #![tactic(auto)]
 
 mod bare;

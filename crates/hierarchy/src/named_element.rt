@@ -12,7 +12,7 @@ ghost use Rattle.hierarchy.specs.Walk.{IsPathText, IsReady, IsWalking, IsInstanc
 use crate::links::Row;
 use crate::naming::{NamingFault, name_control, name_net, name_nets};
 use crate::walk::{Walk, next_element};
-use blif_text::{Element, BlifModel, Init};
+use blif_text::{BlifModel, Element, Init};
 use indexmap::IndexMap;
 use std::alloc::Global;
 use table_cover::Cover;
@@ -20,7 +20,16 @@ use tmr_base::{Edge, Name};
 
 /// The table with the names of its nets.
 #[tactic(auto, using(crate::proofs::NetNames::naming_laws))]
-fn name_table(alloc: Global, texts: &mut IndexMap<Name, usize>, models: &[BlifModel], rows: &[Row], walk: &Walk, pins: &[Name], out: &Name, cover: &Cover) -> Result<Element, NamingFault>
+fn name_table(
+    alloc: Global,
+    texts: &mut IndexMap<Name, usize>,
+    models: &[BlifModel],
+    rows: &[Row],
+    walk: &Walk,
+    pins: &[Name],
+    out: &Name,
+    cover: &Cover,
+) -> Result<Element, NamingFault>
     requires ready { IsReady (map plain_model models.now) rows.now }
     requires walking { IsWalking (map plain_model models.now) walk.now }
     requires text { IsPathText walk.now.path.items }
@@ -42,7 +51,17 @@ fn name_table(alloc: Global, texts: &mut IndexMap<Name, usize>, models: &[BlifMo
 
 /// The latch with the names of its nets.
 #[tactic(auto, using(crate::proofs::NetNames::naming_laws))]
-fn name_latch(alloc: Global, texts: &mut IndexMap<Name, usize>, models: &[BlifModel], rows: &[Row], walk: &Walk, pin: &Name, out: &Name, control: &Option<(Edge, Name)>, init: Init) -> Result<Element, NamingFault>
+fn name_latch(
+    alloc: Global,
+    texts: &mut IndexMap<Name, usize>,
+    models: &[BlifModel],
+    rows: &[Row],
+    walk: &Walk,
+    pin: &Name,
+    out: &Name,
+    control: &Option<(Edge, Name)>,
+    init: Init,
+) -> Result<Element, NamingFault>
     requires ready { IsReady (map plain_model models.now) rows.now }
     requires walking { IsWalking (map plain_model models.now) walk.now }
     requires text { IsPathText walk.now.path.items }
@@ -71,7 +90,14 @@ fn name_latch(alloc: Global, texts: &mut IndexMap<Name, usize>, models: &[BlifMo
 }
 
 /// The element with the names of its nets.
-fn name_element(alloc: Global, texts: &mut IndexMap<Name, usize>, models: &[BlifModel], rows: &[Row], walk: &Walk, element: &Element) -> Result<Element, NamingFault>
+fn name_element(
+    alloc: Global,
+    texts: &mut IndexMap<Name, usize>,
+    models: &[BlifModel],
+    rows: &[Row],
+    walk: &Walk,
+    element: &Element,
+) -> Result<Element, NamingFault>
     requires ready { IsReady (map plain_model models.now) rows.now }
     requires walking { IsWalking (map plain_model models.now) walk.now }
     requires text { IsPathText walk.now.path.items }
@@ -95,7 +121,13 @@ fn name_element(alloc: Global, texts: &mut IndexMap<Name, usize>, models: &[Blif
 }
 
 /// All elements that are still to come, with the names of their nets.
-pub(crate) fn name_elements(alloc: Global, texts: &mut IndexMap<Name, usize>, models: &[BlifModel], rows: &[Row], walk: &mut Walk) -> Result<Vec<Element>, NamingFault>
+pub(crate) fn name_elements(
+    alloc: Global,
+    texts: &mut IndexMap<Name, usize>,
+    models: &[BlifModel],
+    rows: &[Row],
+    walk: &mut Walk,
+) -> Result<Vec<Element>, NamingFault>
     requires ready { IsReady (map plain_model models.now) rows.now }
     requires walking { IsWalking (map plain_model models.now) walk.old }
     requires text { IsPathText walk.old.path.items }

@@ -19,7 +19,13 @@ use tmr_base::Name;
 
 /// Names ports of the main model, which keep their names.
 #[tactic(auto, using(crate::proofs::WholeModel::port_laws))]
-fn name_ports(alloc: Global, texts: &mut IndexMap<Name, usize>, models: &[BlifModel], rows: &[Row], names: &[Name]) -> Result<Vec<Name>, NamingFault>
+fn name_ports(
+    alloc: Global,
+    texts: &mut IndexMap<Name, usize>,
+    models: &[BlifModel],
+    rows: &[Row],
+    names: &[Name],
+) -> Result<Vec<Name>, NamingFault>
     requires ready { IsReady (map plain_model models.now) rows.now }
     requires some { 0 < length models.now }
     ensures text { IfOk result (λ found. found.items ≡ names.now) }
@@ -31,7 +37,12 @@ fn name_ports(alloc: Global, texts: &mut IndexMap<Name, usize>, models: &[BlifMo
 }
 
 /// Names all flat elements.
-fn name_flat(alloc: Global, texts: &mut IndexMap<Name, usize>, models: &[BlifModel], rows: &[Row]) -> Result<Vec<Element>, NamingFault>
+fn name_flat(
+    alloc: Global,
+    texts: &mut IndexMap<Name, usize>,
+    models: &[BlifModel],
+    rows: &[Row],
+) -> Result<Vec<Element>, NamingFault>
     requires ready { IsReady (map plain_model models.now) rows.now }
     requires some { 0 < length models.now }
     ensures elements { IfOk result (λ found. map plain_element found.items ≡ map named (flat_elements (map plain_model models.now))) }
@@ -44,7 +55,11 @@ fn name_flat(alloc: Global, texts: &mut IndexMap<Name, usize>, models: &[BlifMod
 
 /// The main model with the flat elements, whose nets have their texts as names, unless two nets share a
 /// text.
-pub(crate) fn named_model(alloc: Global, models: &[BlifModel], rows: &[Row]) -> Result<BlifModel, NamingFault>
+pub(crate) fn named_model(
+    alloc: Global,
+    models: &[BlifModel],
+    rows: &[Row],
+) -> Result<BlifModel, NamingFault>
     requires ready { IsReady (map plain_model models.now) rows.now }
     requires some { 0 < length models.now }
     ensures model { IfOk result (λ flat. plain_model flat ≡ flat_model (map plain_model models.now)) }

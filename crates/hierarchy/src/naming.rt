@@ -69,7 +69,13 @@ fn net_name(alloc: Global, path: &[u8], end: usize, name: &Name) -> Result<Name,
 }
 
 /// Names a net, and tells whether another net has its text.
-fn add_net(alloc: Global, texts: &mut IndexMap<Name, usize>, path: &[u8], end: usize, name: &Name) -> Result<(Name, bool), OutOfMemory>
+fn add_net(
+    alloc: Global,
+    texts: &mut IndexMap<Name, usize>,
+    path: &[u8],
+    end: usize,
+    name: &Name,
+) -> Result<(Name, bool), OutOfMemory>
     requires end { end ≤ length path.now }
     requires text { IsPathText path.now }
     ensures text { IfOk result (λ found. found.0 ≡ take end path.now ++ name.now) }
@@ -88,7 +94,14 @@ fn add_net(alloc: Global, texts: &mut IndexMap<Name, usize>, path: &[u8], end: u
 }
 
 /// Names the net of a name in the innermost placed model of the walk.
-pub(crate) fn name_net(alloc: Global, texts: &mut IndexMap<Name, usize>, models: &[BlifModel], rows: &[Row], walk: &Walk, name: &Name) -> Result<Name, NamingFault>
+pub(crate) fn name_net(
+    alloc: Global,
+    texts: &mut IndexMap<Name, usize>,
+    models: &[BlifModel],
+    rows: &[Row],
+    walk: &Walk,
+    name: &Name,
+) -> Result<Name, NamingFault>
     requires ready { IsReady (map plain_model models.now) rows.now }
     requires walking { IsWalking (map plain_model models.now) walk.now }
     requires text { IsPathText walk.now.path.items }
@@ -105,7 +118,14 @@ pub(crate) fn name_net(alloc: Global, texts: &mut IndexMap<Name, usize>, models:
 }
 
 /// Names the nets of names.
-pub(crate) fn name_nets(alloc: Global, texts: &mut IndexMap<Name, usize>, models: &[BlifModel], rows: &[Row], walk: &Walk, names: &[Name]) -> Result<Vec<Name>, NamingFault>
+pub(crate) fn name_nets(
+    alloc: Global,
+    texts: &mut IndexMap<Name, usize>,
+    models: &[BlifModel],
+    rows: &[Row],
+    walk: &Walk,
+    names: &[Name],
+) -> Result<Vec<Name>, NamingFault>
     requires ready { IsReady (map plain_model models.now) rows.now }
     requires walking { IsWalking (map plain_model models.now) walk.now }
     requires text { IsPathText walk.now.path.items }
@@ -125,7 +145,14 @@ pub(crate) fn name_nets(alloc: Global, texts: &mut IndexMap<Name, usize>, models
 
 /// Names the net of a control.
 #[tactic(auto, using(crate::proofs::NetNames::named_nil))]
-pub(crate) fn name_control(alloc: Global, texts: &mut IndexMap<Name, usize>, models: &[BlifModel], rows: &[Row], walk: &Walk, control: &Option<(Edge, Name)>) -> Result<Option<(Edge, Name)>, NamingFault>
+pub(crate) fn name_control(
+    alloc: Global,
+    texts: &mut IndexMap<Name, usize>,
+    models: &[BlifModel],
+    rows: &[Row],
+    walk: &Walk,
+    control: &Option<(Edge, Name)>,
+) -> Result<Option<(Edge, Name)>, NamingFault>
     requires ready { IsReady (map plain_model models.now) rows.now }
     requires walking { IsWalking (map plain_model models.now) walk.now }
     requires text { IsPathText walk.now.path.items }

@@ -42,7 +42,12 @@ fn nets_length(models: &[BlifModel], rows: &[Row], walk: &Walk, names: &[Name]) 
 
 /// The edge and the text of the clock's net.
 #[tactic(auto, using(crate::proofs::Capped::capped_laws))]
-fn placed_control_length(models: &[BlifModel], rows: &[Row], walk: &Walk, control: &Option<(Edge, Name)>) -> u64
+fn placed_control_length(
+    models: &[BlifModel],
+    rows: &[Row],
+    walk: &Walk,
+    control: &Option<(Edge, Name)>,
+) -> u64
     requires ready { IsReady (map plain_model models.now) rows.now }
     requires walking { IsWalking (map plain_model models.now) walk.now }
     ensures { result ≡ capped (length_of_control (named_control (resolved_control (levels_of (map plain_model models.now) walk.now) control.now))) }
@@ -66,7 +71,10 @@ fn placed_length(models: &[BlifModel], rows: &[Row], walk: &Walk, element: &Elem
             .saturating_add(rows_length(cover))
             .saturating_add(7),
         Element::Latch {
-            pin, out, control, ..
+            pin,
+            out,
+            control,
+            ..
         } => net_length(models, rows, walk, pin)
             .saturating_add(net_length(models, rows, walk, out))
             .saturating_add(placed_control_length(models, rows, walk, control))
@@ -87,7 +95,12 @@ fn header_length(model: &BlifModel) -> u64
 }
 
 /// The flat text has at most so many bytes.
-pub(crate) fn fits(alloc: Global, models: &[BlifModel], rows: &[Row], limit: u64) -> Result<bool, AllocError>
+pub(crate) fn fits(
+    alloc: Global,
+    models: &[BlifModel],
+    rows: &[Row],
+    limit: u64,
+) -> Result<bool, AllocError>
     requires ready { IsReady (map plain_model models.now) rows.now }
     requires some { 0 < length models.now }
     requires limit { limit < 18446744073709551615 }

@@ -11,7 +11,12 @@ use tmr_base::Name;
 
 /// What the statement that places a model binds the name to.
 #[tactic(auto, unfolding(crate::specs::Flat::actual_of))]
-fn actual_in<'a>(models: &[BlifModel], rows: &'a [Row], placing: Option<(usize, usize)>, name: &Name) -> Option<&'a Name>
+fn actual_in<'a>(
+    models: &[BlifModel],
+    rows: &'a [Row],
+    placing: Option<(usize, usize)>,
+    name: &Name,
+) -> Option<&'a Name>
     requires ready { IsReady (map plain_model models.now) rows.now }
     requires placing { IsPlacing (map plain_model models.now) placing }
     ensures { option_copied result ≡ actual_of (bound_by (map plain_model models.now) placing) name.now }
@@ -24,7 +29,12 @@ fn actual_in<'a>(models: &[BlifModel], rows: &'a [Row], placing: Option<(usize, 
 
 /// The net of a name in the innermost placed model of the walk: where its path ends in the walk's path,
 /// and its name.
-pub(crate) fn resolve<'a>(models: &[BlifModel], rows: &'a [Row], walk: &Walk, name: &'a Name) -> (usize, &'a Name)
+pub(crate) fn resolve<'a>(
+    models: &[BlifModel],
+    rows: &'a [Row],
+    walk: &Walk,
+    name: &'a Name,
+) -> (usize, &'a Name)
     requires ready { IsReady (map plain_model models.now) rows.now }
     requires walking { IsWalking (map plain_model models.now) walk.now }
     ensures within { result.0 ≤ length walk.now.path.items }

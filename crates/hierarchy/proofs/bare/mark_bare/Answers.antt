@@ -1,4 +1,4 @@
-use Rattle.std.proofs.Common.{◌≡◌, ◌∙◌, sym, ap, map}
+use Rattle.std.proofs.Common.{◌∙◌, sym, ap, map}
 use Rattle.std.specs.List.{list_all}
 use Rattle.blif_text.specs.Views.{plain_element}
 use Rattle.hierarchy.specs.Links.{is_bare_element}

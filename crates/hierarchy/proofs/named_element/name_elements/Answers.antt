@@ -1,4 +1,4 @@
-use Rattle.std.proofs.Common.{◌≡◌, ◌∙◌, ◌<◌, ◌++◌, sym, ap, map, get_or, length, subst, arith, Some}
+use Rattle.std.proofs.Common.{◌≡◌, ◌∙◌, ◌<◌, ◌++◌, sym, ap, map, get_or, length, subst, arith}
 use Rattle.std.proofs.lemmas.List.{length-map}
 use Rattle.std.specs.Str.{bytes_eq}
 use Rattle.indexmap.specs.IndexMap.{get}
@@ -10,13 +10,13 @@ use Rattle.hierarchy.proofs.named_element.name_elements.Goals as goal
 
 pub elements-preserved : goal.elements-preserved
 elements-preserved c = record {
-    walking = next.walking;
-    text = next.text c.elements.invariant.text;
-    passed = c.elements.invariant.passed ++ placed_element (levels_of (map plain_model c.args.models.now) c.next_element.new.walk) (plain_element c.index.result.now);
-    split = split_more c.elements.invariant.passed _ _ _ _ comes c.elements.invariant.split;
-    found = ap (map plain_element) c.in_ok-push-in-Ok.ensures.items ∙ found_more c.elements.elements.items c.in-Ok.element c.elements.invariant.passed _ c.elements.invariant.found c.in-Ok.ensures.element;
-    named = named_passed (get bytes_eq c.args.texts.now) (get bytes_eq c.elements.texts) (get bytes_eq c.name_element.new.texts) c.elements.invariant.passed _ c.elements.invariant.named c.in-Ok.ensures.named;
-  }
+  walking = next.walking;
+  text = next.text c.elements.invariant.text;
+  passed = c.elements.invariant.passed ++ placed_element (levels_of (map plain_model c.args.models.now) c.next_element.new.walk) (plain_element c.index.result.now);
+  split = split_more c.elements.invariant.passed _ _ _ _ comes c.elements.invariant.split;
+  found = ap (map plain_element) c.in_ok-push-in-Ok.ensures.items ∙ found_more c.elements.elements.items c.in-Ok.element c.elements.invariant.passed _ c.elements.invariant.found c.in-Ok.ensures.element;
+  named = named_passed (get bytes_eq c.args.texts.now) (get bytes_eq c.elements.texts) (get bytes_eq c.name_element.new.texts) c.elements.invariant.passed _ c.elements.invariant.named c.in-Ok.ensures.named;
+}
   where
     next : IsNextElement (map plain_model c.args.models.now) c.elements.walk c.in-Some.x c.in-Some.i c.next_element.new.walk
     next = subst (λ o. IsNext (map plain_model c.args.models.now) c.elements.walk o c.next_element.new.walk) c.in-Some.is c.in_ok-x.ensures

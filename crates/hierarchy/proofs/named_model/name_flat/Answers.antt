@@ -1,12 +1,11 @@
-use Rattle.std.proofs.Common.{◌≡◌, map, length, subst, sym, ap, arith}
+use Rattle.std.proofs.Common.{◌≡◌, map, subst}
 use Rattle.std.specs.Prelude.{flat_map, IfOk, OnOk, IfErr}
 use Rattle.std.specs.Str.{bytes_eq}
 use Rattle.indexmap.specs.IndexMap.{get}
 use Rattle.blif_text.specs.Views.{plain_model, plain_element}
-use Rattle.hierarchy.specs.Flat.{named, flat_elements}
+use Rattle.hierarchy.specs.Flat.{named}
 use Rattle.hierarchy.specs.Clash.{nets_of}
 use Rattle.hierarchy.specs.Naming.{AreNamed, IsNamingFault}
-use Rattle.hierarchy.specs.Walk.{coming}
 use Rattle.hierarchy.proofs.Totals.{all_to_come}
 use Rattle.hierarchy.proofs.named_model.name_flat.Goals as goal
 

@@ -1,12 +1,10 @@
-use Rattle.std.proofs.Common.{◌≡◌, ◌∙◌, ◌<◌, ℕ, List, [], map, length, subst, sym, ap, Option, None}
-use Rattle.std.specs.Prelude.{flat_map}
-use Rattle.std.specs.Map.{lookup}
+use Rattle.std.proofs.Common.{◌≡◌, ◌∙◌, map, subst, sym, ap}
 use Rattle.std.specs.Str.{bytes_eq}
 use Rattle.indexmap.specs.IndexMap.{get}
 use Rattle.blif_text.specs.Views.{plain_model, plain_element}
 use Rattle.hierarchy.specs.Flat.{main_of}
 use Rattle.hierarchy.specs.Clash.{main_net}
-use Rattle.hierarchy.specs.Naming.{IsNamed, AreNamed, IsNamingFault}
+use Rattle.hierarchy.specs.Naming.{AreNamed, IsNamingFault}
 use Rattle.hierarchy.proofs.Moved.{at_model}
 use Rattle.hierarchy.proofs.Totals.{first_model}
 use Rattle.hierarchy.proofs.WholeModel.{all_named, input_fault, element_fault, output_fault, whole_model, none_at_first}

@@ -1,7 +1,7 @@
-use Rattle.std.proofs.Common.{◌≡◌, ◌∙◌, ◌<◌, sym, ap, map, subst, arith, length, Some}
+use Rattle.std.proofs.Common.{◌∙◌, sym, ap, map, subst, arith, Some}
 use Rattle.blif_text.specs.Views.{plain_model}
 use Rattle.hierarchy.specs.Flat.{actual_of}
-use Rattle.hierarchy.specs.Walk.{model_at, bound_by, IsPlacing}
+use Rattle.hierarchy.specs.Walk.{bound_by, IsPlacing}
 use Rattle.hierarchy.proofs.Linked.{rows_long, row_long}
 use Rattle.hierarchy.proofs.Moved.{actuals_at}
 use Rattle.hierarchy.proofs.resolve.actual_in.Goals as goal
