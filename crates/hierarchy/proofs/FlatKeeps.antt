@@ -1,0 +1,140 @@
+-- What the flat model keeps.
+use Rattle.std.proofs.Common.{◌≡◌, ℕ, zero, suc, ◌+◌, ◌^◌, ◌<◌, ◌≤◌, List, [], ◌∷◌, length, map, refl, sym, ap, subst, ◌∙◌, arith, Option, None, Some}
+use Rattle.std.specs.Prelude.{All, slice_get, slice_index_or, flat_map, option_and_then}
+use Rattle.std.specs.Option.{option_map_or}
+use Rattle.std.specs.List.{sum_by}
+use Rattle.std.proofs.lemmas.List.{length-map, length-append, map-append}
+use Rattle.std.proofs.lemmas.List.Elements.{All-cons, All-nil, All-append, All-head, All-tail}
+use Rattle.std.proofs.lemmas.List.Sums.{sum_by-cons}
+use Rattle.std.proofs.lemmas.Grind.{flat_map-append}
+use Rattle.std.proofs.lemmas.Option.{slice_get_within, get_or_from_slice_get}
+use Rattle.blif_text.specs.Models.{PlainElement, Table, Register, Instance, PlainModel}
+use Rattle.blif_text.specs.Library.{FitsPins, IsModel, IsLibrary, Differ}
+use Rattle.flat_net.specs.Draft.{AreDistinct, reads_of}
+use Rattle.flat_net.specs.Faults.{draft_reads}
+use Rattle.hierarchy.specs.Graph.{names_of, number_named, model_named}
+use Rattle.hierarchy.specs.Flat.{Level, NetElement, NetTable, NetRegister, net_text, resolve, named, main_of, main_level, no_model, elements_with, elements_to, flat_elements, flat_model}
+use Rattle.hierarchy.specs.FlatText.{spaced, all_spaced, element_length, text_length}
+use Rattle.hierarchy.specs.Drafted.{drafted, draft_of}
+use Rattle.hierarchy.specs.declared.flat_fault.FlatFault.{FlatFault}
+use Rattle.hierarchy.specs.declared.flat_fault.FlatFault.TheVariants.{UnknownModel, UnboundInput, UnknownFormal, DuplicateFormal, BothWays, Recursive, TooLarge, NameClash, Net, Memory}
+use Rattle.hierarchy.specs.Flatten.{IsSound, IsSoundFault, IsTextFault, IsFlatFault}
+
+as_many : (levels : List Level) (pins : List (List ℕ)) → length (map net_text (map (resolve levels) pins)) ≡ length pins
+as_many levels pins = length-map (map (resolve levels) pins) net_text ∙ length-map pins (resolve levels)
+
+fits_with : (inner : List Level → List ℕ → List NetElement) → ((levels : List Level) (name : List ℕ) → All FitsPins (map named (inner levels name))) → (levels : List Level) (number : ℕ) (es : List PlainElement) → All FitsPins es → All FitsPins (map named (elements_with inner levels number es))
+unfolding elements_with
+fits_with inner below levels number [] all = All-nil FitsPins
+fits_with inner below levels number (Table pins out cover ∷ es) all =
+    let here : cover.width ≡ length pins = All-head FitsPins (Table pins out cover) es all in
+    All-cons FitsPins (Table (map net_text (map (resolve levels) pins)) (net_text (resolve levels out)) cover) (map named (elements_with inner levels number es)) (here ∙ sym (as_many levels pins)) (fits_with inner below levels number es (All-tail FitsPins (Table pins out cover) es all))
+fits_with inner below levels number (Register pin out control init ∷ es) all = All-cons FitsPins _ (map named (elements_with inner levels number es)) tt (fits_with inner below levels number es (All-tail FitsPins (Register pin out control init) es all))
+fits_with inner below levels number (Instance model bindings ∷ es) all = subst (All FitsPins) (sym (map-append named (inner _ model) (elements_with inner levels (number + 1) es))) (All-append FitsPins (map named (inner _ model)) (map named (elements_with inner levels (number + 1) es)) (below _ model) (fits_with inner below levels (number + 1) es (All-tail FitsPins (Instance model bindings) es all)))
+
+module _ (library : List PlainModel) (each : All IsModel library) where
+  model_fits : (x : ℕ) (m : PlainModel) → slice_get library x ≡ Some m → All FitsPins m.elements
+  model_fits x m e = (subst IsModel (get_or_from_slice_get library x m m e) (each x m (slice_get_within library x m e))).covers
+
+  named_fits : (o : Option ℕ) (m : PlainModel) → option_and_then (slice_get library) o ≡ Some m → All FitsPins m.elements
+  named_fits None m e = absurd cc
+  named_fits (Some x) m e = model_fits x m e
+
+  fits_to : (depth : ℕ) (levels : List Level) (name : List ℕ) → All FitsPins (map named (elements_to library depth levels name))
+  unfolding elements_to
+  fits_to zero levels name = All-nil FitsPins
+  fits_to (suc depth) levels name = placed_fits depth levels (fits_to depth) (model_named library name) (λ m e. named_fits (number_named (names_of library) name) m e)
+    where
+      placed_fits : (depth : ℕ) (levels : List Level) → ((levels : List Level) (name : List ℕ) → All FitsPins (map named (elements_to library depth levels name))) → (o : Option PlainModel) → ((m : PlainModel) → o ≡ Some m → All FitsPins m.elements) → All FitsPins (map named (option_map_or (λ m. elements_with (elements_to library depth) levels 0 m.elements) o []))
+      placed_fits depth levels below None h = All-nil FitsPins
+      placed_fits depth levels below (Some m) h = fits_with (elements_to library depth) below levels 0 m.elements (h m refl)
+
+  main_is_model : 0 < length library → IsModel (main_of library)
+  main_is_model some = subst IsModel (first library) (each 0 no_model some)
+    where
+      first : (models : List PlainModel) → slice_index_or models 0 no_model ≡ main_of models
+      first [] = refl
+      first (m ∷ models) = refl
+
+pub flat_fits : (library : List PlainModel) → IsLibrary library → All FitsPins (flat_model library).elements
+unfolding flat_model flat_elements
+flat_fits library l = fits_with (elements_to library (length library)) (fits_to library l.models.each (length library)) (main_level ∷ []) 0 (main_of library).elements (main_is_model library l.models.each l.some).covers
+
+pub flat_inputs : (library : List PlainModel) → IsLibrary library → Differ (flat_model library).inputs
+unfolding flat_model
+flat_inputs library l = (main_is_model library l.models.each l.some).inputs
+
+pub flat_outputs : (library : List PlainModel) → IsLibrary library → Differ (flat_model library).outputs
+unfolding flat_model
+flat_outputs library l = (main_is_model library l.models.each l.some).outputs
+
+-- ---- a short text has few nets and pins
+
+few_spaced : (names : List (List ℕ)) → length names ≤ all_spaced names
+few_spaced [] = omega arith
+few_spaced (name ∷ names) = omega (arith, sum_by-cons spaced name names, few_spaced names)
+
+one_cost : (e : PlainElement) → length (drafted e) + length (flat_map reads_of (drafted e)) ≤ element_length e
+one_cost (Table pins out cover) = omega (arith, few_spaced pins, length-append pins [])
+one_cost (Register pin out control init) = omega arith
+one_cost (Instance model bindings) = omega arith
+
+all_cost : (es : List PlainElement) → length (flat_map drafted es) + length (flat_map reads_of (flat_map drafted es)) ≤ sum_by element_length es
+all_cost [] = omega arith
+all_cost (e ∷ es) = omega (arith, sum_by-cons element_length e es, one_cost e, all_cost es, length-append (drafted e) (flat_map drafted es), ap length (flat_map-append reads_of (drafted e) (flat_map drafted es)), length-append (flat_map reads_of (drafted e)) (flat_map reads_of (flat_map drafted es)))
+
+pub few_nets : (m : PlainModel) → text_length m ≤ 1073741824 → length (draft_of m).inputs + length (draft_of m).elements < 4294967295
+unfolding text_length draft_of
+few_nets m short = omega (arith, few_spaced m.inputs, all_cost m.elements)
+
+pub few_reads : (m : PlainModel) → text_length m ≤ 1073741824 → length (draft_reads (draft_of m)) < 4294967295
+unfolding text_length draft_of
+few_reads m short = omega (arith, all_cost m.elements)
+
+named_long : (es : List NetElement) → length (map named es) ≤ sum_by element_length (map named es)
+named_long [] = omega arith
+named_long (NetTable pins out cover ∷ es) = omega (arith, sum_by-cons element_length (named (NetTable pins out cover)) (map named es), named_long es)
+named_long (NetRegister pin out control init ∷ es) = omega (arith, sum_by-cons element_length (named (NetRegister pin out control init)) (map named es), named_long es)
+
+pub few_elements : (library : List PlainModel) → text_length (flat_model library) ≤ 1073741824 → length (flat_model library).elements < 2 ^ 32
+unfolding text_length flat_model
+few_elements library short = omega (arith, named_long (flat_elements library))
+
+pub distinct : (names : List (List ℕ)) → Differ names → AreDistinct names
+distinct names d j k jk kl = d j k [] jk kl
+
+pub draft_inputs : (m : PlainModel) → Differ m.inputs → AreDistinct (draft_of m).inputs
+unfolding draft_of
+draft_inputs m d = distinct m.inputs d
+
+pub draft_outputs : (m : PlainModel) → Differ m.outputs → AreDistinct (draft_of m).outputs
+unfolding draft_of
+draft_outputs m d = distinct m.outputs d
+
+pub ruleset draft_laws = (few_nets, few_reads, draft_inputs, draft_outputs)
+
+-- ---- faults, in the words of the whole
+
+pub sound_fault : (library : List PlainModel) (limit : ℕ) (fault : FlatFault) → IsSoundFault library fault → IsFlatFault library limit fault
+sound_fault library limit (UnknownModel name) f = f
+sound_fault library limit (UnboundInput name) f = f
+sound_fault library limit (UnknownFormal name) f = f
+sound_fault library limit (DuplicateFormal name) f = f
+sound_fault library limit (BothWays name) f = f
+sound_fault library limit (Recursive names) f = f
+sound_fault library limit TooLarge f = absurd f
+sound_fault library limit (NameClash name) f = absurd f
+sound_fault library limit (Net fault) f = absurd f
+sound_fault library limit Memory f = tt
+
+pub text_fault : (library : List PlainModel) (limit : ℕ) (fault : FlatFault) → IsSound library → IsTextFault library limit fault → IsFlatFault library limit fault
+text_fault library limit (UnknownModel name) s f = absurd f
+text_fault library limit (UnboundInput name) s f = absurd f
+text_fault library limit (UnknownFormal name) s f = absurd f
+text_fault library limit (DuplicateFormal name) s f = absurd f
+text_fault library limit (BothWays name) s f = absurd f
+text_fault library limit (Recursive names) s f = absurd f
+text_fault library limit TooLarge s f = (s, f)
+text_fault library limit (NameClash name) s f = (s, f.0, f.1)
+text_fault library limit (Net fault) s f = absurd f
+text_fault library limit Memory s f = tt

@@ -1,0 +1,24 @@
+use Rattle.std.proofs.Common.{◌∙◌, sym, ap, map, subst, arith, Some}
+use Rattle.blif_text.specs.Views.{plain_model}
+use Rattle.hierarchy.specs.Flat.{actual_of}
+use Rattle.hierarchy.specs.Walk.{bound_by, IsPlacing}
+use Rattle.hierarchy.proofs.Linked.{rows_long, row_long}
+use Rattle.hierarchy.proofs.Moved.{actuals_at}
+use Rattle.hierarchy.proofs.resolve.actual_in.Goals as goal
+
+pub link_at-requires-clause-row : goal.link_at-requires-clause-row
+link_at-requires-clause-row c =
+    let p : IsPlacing (map plain_model c.args.models.now) (Some (c.in-Some.x, c.in-Some.i)) = subst (IsPlacing (map plain_model c.args.models.now)) c.in-Some.is c.requires.placing in
+    omega (arith, rows_long _ c.requires.ready.holds c.args.rows.now (map plain_model c.args.models.now) c.requires.ready.links, p.0)
+
+pub link_at-requires-clause-link : goal.link_at-requires-clause-link
+link_at-requires-clause-link c = λ row e.
+    let p : IsPlacing (map plain_model c.args.models.now) (Some (c.in-Some.x, c.in-Some.i)) = subst (IsPlacing (map plain_model c.args.models.now)) c.in-Some.is c.requires.placing in
+    row_long (map plain_model c.args.models.now) _ c.requires.ready.holds c.args.rows.now c.requires.ready.links c.in-Some.x c.in-Some.i row p.1 e
+
+pub returns-in-Some : goal.returns-in-Some
+returns-in-Some c =
+    let p : IsPlacing (map plain_model c.args.models.now) (Some (c.in-Some.x, c.in-Some.i)) = subst (IsPlacing (map plain_model c.args.models.now)) c.in-Some.is c.requires.placing in
+    c.get.ensures.value
+    ∙ (actuals_at (map plain_model c.args.models.now) c.args.rows.now c.requires.ready c.in-Some.x c.in-Some.i c.link_at.result.now c.args.name.now p.0 c.link_at.ensures
+    ∙ ap (λ o. actual_of (bound_by (map plain_model c.args.models.now) o) c.args.name.now) (sym c.in-Some.is))

@@ -1,0 +1,82 @@
+-- The flat design of a library, and why it has none.
+use Rattle.std.specs.Prelude.{◌≡◌, ◌≢◌, ◌≤◌, ◌<◌, ℕ, List, Some, None}
+use Rattle.blif_text.specs.Models.{PlainModel}
+use Rattle.flat_net.specs.Net.{Net}
+use Rattle.flat_net.specs.Faults.{net_of_draft, IsFaultless, IsFaultOf}
+use Rattle.flat_net.specs.declared.fault.NetFault.TheVariants as net
+use Rattle.hierarchy.specs.declared.fault.PlacingFault.{PlacingFault}
+use Rattle.hierarchy.specs.declared.fault.PlacingFault.TheVariants as placing
+use Rattle.hierarchy.specs.declared.flat_fault.FlatFault.{FlatFault}
+use Rattle.hierarchy.specs.declared.flat_fault.FlatFault.TheVariants.{UnknownModel, UnboundInput, UnknownFormal, DuplicateFormal, BothWays, Recursive, TooLarge, NameClash, Net as NetOf, Memory}
+use Rattle.hierarchy.specs.Graph.{graph}
+use Rattle.hierarchy.specs.Library.{IsPlaceable, IsFirstFault, IsRecursive}
+use Rattle.hierarchy.specs.Found.{IsOrder}
+use Rattle.hierarchy.specs.Flat.{flat_model}
+use Rattle.hierarchy.specs.FlatText.{text_length}
+use Rattle.hierarchy.specs.Clash.{name_clash}
+use Rattle.hierarchy.specs.Drafted.{draft_of, assumed}
+
+-- no statement of a reached model has a fault, and the reached models can be listed so that each stands after those that it places
+pub record IsSound (library : List PlainModel) : Type 0 where
+  pub placeable : IsPlaceable library
+  pub order : List ℕ
+  pub ordered : IsOrder (graph library) order
+
+abbrev pub flat_fault_of : PlacingFault → FlatFault
+flat_fault_of (placing.UnknownModel name) = UnknownModel name
+flat_fault_of (placing.UnboundInput name) = UnboundInput name
+flat_fault_of (placing.UnknownFormal name) = UnknownFormal name
+flat_fault_of (placing.DuplicateFormal name) = DuplicateFormal name
+flat_fault_of (placing.BothWays name) = BothWays name
+
+-- a fault of the library itself: the first of its statements, or else a loop of models
+abbrev pub IsSoundFault : List PlainModel → FlatFault → Type 0
+IsSoundFault library (UnknownModel name) = IsFirstFault library (placing.UnknownModel name)
+IsSoundFault library (UnboundInput name) = IsFirstFault library (placing.UnboundInput name)
+IsSoundFault library (UnknownFormal name) = IsFirstFault library (placing.UnknownFormal name)
+IsSoundFault library (DuplicateFormal name) = IsFirstFault library (placing.DuplicateFormal name)
+IsSoundFault library (BothWays name) = IsFirstFault library (placing.BothWays name)
+IsSoundFault library (Recursive names) = IsRecursive library names.items
+IsSoundFault library TooLarge = ⊥
+IsSoundFault library (NameClash name) = ⊥
+IsSoundFault library (NetOf fault) = ⊥
+IsSoundFault library Memory = Unit {0}
+
+-- the flat text keeps the limit
+abbrev pub Fits : List PlainModel → ℕ → Type 0
+Fits library limit = text_length (flat_model library) ≤ limit
+
+-- a fault of the flat text of a sound library
+abbrev pub IsTextFault : List PlainModel → ℕ → FlatFault → Type 0
+IsTextFault library limit TooLarge = limit < text_length (flat_model library)
+IsTextFault library limit (NameClash name) = Fits library limit × (name_clash library ≡ Some name)
+IsTextFault library limit (UnknownModel name) = ⊥
+IsTextFault library limit (UnboundInput name) = ⊥
+IsTextFault library limit (UnknownFormal name) = ⊥
+IsTextFault library limit (DuplicateFormal name) = ⊥
+IsTextFault library limit (BothWays name) = ⊥
+IsTextFault library limit (Recursive names) = ⊥
+IsTextFault library limit (NetOf fault) = ⊥
+IsTextFault library limit Memory = Unit {0}
+
+-- the fault is there, and none of those before it
+abbrev pub IsFlatFault : List PlainModel → ℕ → FlatFault → Type 0
+IsFlatFault library limit TooLarge = IsSound library × (limit < text_length (flat_model library))
+IsFlatFault library limit (NameClash name) = IsSound library × Fits library limit × (name_clash library ≡ Some name)
+IsFlatFault library limit (NetOf fault) = IsSound library × Fits library limit × (name_clash library ≡ None) × (fault ≢ net.Memory) × IsFaultOf (draft_of (flat_model library)) fault
+IsFlatFault library limit (UnknownModel name) = IsFirstFault library (placing.UnknownModel name)
+IsFlatFault library limit (UnboundInput name) = IsFirstFault library (placing.UnboundInput name)
+IsFlatFault library limit (UnknownFormal name) = IsFirstFault library (placing.UnknownFormal name)
+IsFlatFault library limit (DuplicateFormal name) = IsFirstFault library (placing.DuplicateFormal name)
+IsFlatFault library limit (BothWays name) = IsFirstFault library (placing.BothWays name)
+IsFlatFault library limit (Recursive names) = IsRecursive library names.items
+IsFlatFault library limit Memory = Unit {0}
+
+-- the library has no fault, and its flat design is this one, with that many assumed initial values
+pub record IsFlat (library : List PlainModel) (limit : ℕ) (design : Net) (open_values : ℕ) : Type 0 where
+  pub sound : IsSound library
+  pub fits : Fits library limit
+  pub clear : name_clash library ≡ None
+  pub faultless : IsFaultless (draft_of (flat_model library))
+  pub design_is : design ≡ net_of_draft (draft_of (flat_model library))
+  pub open_are : open_values ≡ assumed (flat_model library)

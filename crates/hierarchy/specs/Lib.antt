@@ -1,0 +1,17 @@
+pub mod Graph
+pub mod Ports
+pub mod Faults
+pub mod Library
+pub mod Rows
+pub mod Growth
+pub mod Turned
+pub mod Found
+pub mod Survey
+pub mod FlatText
+pub mod Drafted
+pub mod Flat
+pub mod Clash
+pub mod Links
+pub mod Walk
+pub mod Naming
+pub mod Flatten

@@ -1,0 +1,141 @@
+//! The flat design of a library.
+ghost use Rattle.std.specs.Prelude.{◌≡◌, ◌≤◌, ◌<◌, map, length, All, IfOk, OnOk, IfErr, None};
+ghost use Rattle.blif_text.specs.Library.{IsLibrary, FitsPins, Differ};
+ghost use Rattle.blif_text.specs.Views.{plain_model};
+ghost use Rattle.hierarchy.specs.Graph.{names_of};
+ghost use Rattle.hierarchy.specs.Flat.{flat_model};
+ghost use Rattle.hierarchy.specs.FlatText.{text_length};
+ghost use Rattle.hierarchy.specs.Clash.{name_clash};
+ghost use Rattle.hierarchy.specs.Walk.{IsReady};
+ghost use Rattle.hierarchy.specs.Flatten.{IsSound, IsSoundFault, IsTextFault, IsFlatFault, IsFlat, Fits, flat_fault_of};
+ghost use Rattle.hierarchy.specs.Drafted.{draft_of as draft_of_model};
+ghost use Rattle.flat_net.specs.Faults.{net_of_draft, IsFaultless, IsFaultOf};
+
+use crate::bare::filled_models;
+use crate::flat_fault::FlatFault;
+use crate::library::{Survey, look_over};
+use crate::links::{Row, all_links};
+use crate::named_model::named_model;
+use crate::naming::NamingFault;
+use crate::placed_text::fits;
+use crate::{PlacingFault, assumed, draft_of};
+use blif_text::{BlifModel, Library};
+use flat_net::{FlatNet, NetFault, build};
+use indexmap::IndexSet;
+use std::alloc::Global;
+use tmr_base::{Name, OutOfMemory};
+
+/// A flat design, and how many of its registers have an initial value that is left open and is read as 0.
+#[derive(Drop)]
+pub struct Flat {
+    pub net: FlatNet,
+    pub assumed: u32,
+}
+
+fn placing_fault(fault: PlacingFault) -> FlatFault
+    ensures { result ≡ flat_fault_of fault }
+{
+    match fault {
+        PlacingFault::UnknownModel(name) => FlatFault::UnknownModel(name),
+        PlacingFault::UnboundInput(name) => FlatFault::UnboundInput(name),
+        PlacingFault::UnknownFormal(name) => FlatFault::UnknownFormal(name),
+        PlacingFault::DuplicateFormal(name) => FlatFault::DuplicateFormal(name),
+        PlacingFault::BothWays(name) => FlatFault::BothWays(name),
+    }
+}
+
+/// The statements of a library made ready to be followed.
+fn ready_rows(
+    alloc: Global,
+    models: &[BlifModel],
+    names: &IndexSet<Name>,
+    order: &[usize],
+) -> Result<Vec<Row>, OutOfMemory>
+    requires { names.now.keys ≡ names_of (map plain_model models.now) }
+    ensures { IfOk result (λ rows. IsReady (map plain_model models.now) rows.items) }
+{
+    let holds = filled_models(alloc, names, models, order)?;
+    all_links(alloc, names, &holds, models)
+}
+
+/// The statements of a library that has no fault of its own, or the first such fault.
+fn sound_rows(alloc: Global, models: &[BlifModel]) -> Result<Vec<Row>, FlatFault>
+    requires { IsLibrary (map plain_model models.now) }
+    ensures ready { IfOk result (λ rows. IsReady (map plain_model models.now) rows.items) }
+    ensures sound { OnOk result (IsSound (map plain_model models.now)) }
+    ensures fault { IfErr result (λ fault. IsSoundFault (map plain_model models.now) fault) }
+{
+    match look_over(alloc, models)? {
+        Survey::Sound(names, order) => Ok(ready_rows(alloc, models, &names, &order)?),
+        Survey::Misplaced(fault) => Err(placing_fault(fault)),
+        Survey::Recursive(names) => Err(FlatFault::Recursive(names)),
+    }
+}
+
+/// The main model with the flat elements, where its text keeps the limit and no two nets share a text.
+fn flat_within(
+    alloc: Global,
+    models: &[BlifModel],
+    rows: &[Row],
+    limit: u64,
+) -> Result<BlifModel, FlatFault>
+    requires ready { IsReady (map plain_model models.now) rows.now }
+    requires some { 0 < length models.now }
+    requires limit { limit ≤ 1073741824 }
+    ensures model { IfOk result (λ flat. plain_model flat ≡ flat_model (map plain_model models.now)) }
+    ensures fits { OnOk result (Fits (map plain_model models.now) limit) }
+    ensures clear { OnOk result (name_clash (map plain_model models.now) ≡ None) }
+    ensures fault { IfErr result (λ fault. IsTextFault (map plain_model models.now) limit fault) }
+{
+    if !fits(alloc, models, rows, limit)? {
+        return Err(FlatFault::TooLarge);
+    }
+    match named_model(alloc, models, rows) {
+        Ok(flat) => Ok(flat),
+        Err(NamingFault::Clash(text)) => Err(FlatFault::NameClash(text)),
+        Err(NamingFault::Memory) => Err(FlatFault::Memory),
+    }
+}
+
+/// The design of a flat model.
+#[tactic(auto, using(crate::proofs::FlatKeeps::draft_laws))]
+fn design_of(alloc: Global, flat: &BlifModel) -> Result<FlatNet, NetFault>
+    requires pins { All FitsPins (plain_model flat.now).elements }
+    requires inputs { Differ (plain_model flat.now).inputs }
+    requires outputs { Differ (plain_model flat.now).outputs }
+    requires short { text_length (plain_model flat.now) ≤ 1073741824 }
+    ensures ok { IfOk result (λ net. net.net ≡ net_of_draft (draft_of_model (plain_model flat.now))) }
+    ensures faultless { OnOk result (IsFaultless (draft_of_model (plain_model flat.now))) }
+    ensures fault { IfErr result (λ fault. IsFaultOf (draft_of_model (plain_model flat.now)) fault) }
+{
+    match draft_of(alloc, flat) {
+        Ok(draft) => build(alloc, draft),
+        Err(_) => Err(NetFault::Memory),
+    }
+}
+
+/// The flat design of the library, where its flat text has at most `limit` bytes, and the number of its
+/// registers whose initial value is left open.
+///
+/// Each fault but `Memory` comes exactly where it is the first. The library is not changed.
+pub fn flatten(alloc: Global, lib: &Library, limit: u64) -> Result<Flat, FlatFault>
+    requires { limit ≤ 1073741824 }
+    ensures ok { IfOk result (λ flat. IsFlat lib.now limit flat.net.net flat.assumed) }
+    ensures fault { IfErr result (λ fault. IsFlatFault lib.now limit fault) }
+{
+    let models = lib.models();
+    let rows = match sound_rows(alloc, models) {
+        Ok(rows) => rows,
+        Err(fault) => return Err(fault),
+    };
+    let flat = match flat_within(alloc, models, &rows, limit) {
+        Ok(flat) => flat,
+        Err(fault) => return Err(fault),
+    };
+    let assumed = assumed(&flat);
+    match design_of(alloc, &flat) {
+        Ok(net) => Ok(Flat { net, assumed }),
+        Err(NetFault::Memory) => Err(FlatFault::Memory),
+        Err(fault) => Err(FlatFault::Net(fault)),
+    }
+}

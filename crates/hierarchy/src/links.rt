@@ -1,0 +1,126 @@
+//! The statements of a library made ready to be followed: what each places, and what it binds, by name.
+ghost use Rattle.std.specs.Prelude.{◌≡◌, ℕ, List, map, IfOk, OnOk, Some, None, if◌then◌else◌};
+ghost use Rattle.std.specs.Str.{bytes_eq};
+ghost use Rattle.std.specs.Option.{option_or};
+ghost use Rattle.indexmap.specs.IndexMap.{get};
+ghost use Rattle.blif_text.specs.Views.{plain_model, plain_element};
+ghost use Rattle.hierarchy.specs.Graph.{number_named, names_of};
+ghost use Rattle.hierarchy.specs.Flat.{actual_of};
+ghost use Rattle.hierarchy.specs.Links.{filled, IsLink, AreLinks, AreRows};
+
+use blif_text::{BlifModel, Element};
+use indexmap::{IndexMap, IndexSet};
+use std::alloc::Global;
+use tmr_base::{Name, OutOfMemory};
+
+/// One element of a model. A `.subckt` statement below which an element stands has the number of the
+/// model that it places as its target, and each has the actuals of its formals.
+#[derive(Drop)]
+pub struct Link {
+    pub(crate) target: Option<usize>,
+    pub(crate) actuals: IndexMap<Name, Name>,
+}
+
+/// The elements of a model.
+#[derive(Drop)]
+pub struct Row {
+    pub(crate) links: Vec<Link>,
+}
+
+/// Binds a formal, unless it is bound.
+fn bind_one(
+    alloc: Global,
+    actuals: &mut IndexMap<Name, Name>,
+    formal: &Name,
+    actual: &Name,
+) -> Result<(), OutOfMemory>
+    ensures { OnOk result ((name : List ℕ) → get bytes_eq actuals.new name ≡ option_or (get bytes_eq actuals.old name) (if bytes_eq name formal.now then Some actual.now else None)) }
+{
+    if actuals.contains_key(formal) {
+        return Ok(());
+    }
+    let formal = formal.copy(alloc)?;
+    let actual = actual.copy(alloc)?;
+    actuals.insert(formal, actual)?;
+    Ok(())
+}
+
+/// The actual of each formal.
+fn bind_actuals(
+    alloc: Global,
+    bindings: &[(Name, Name)],
+) -> Result<IndexMap<Name, Name>, OutOfMemory>
+    ensures { IfOk result (λ actuals. (name : List ℕ) → get bytes_eq actuals name ≡ actual_of bindings.now name) }
+{
+    let mut actuals = IndexMap::new(alloc);
+    for (formal, actual) in bindings {
+        bind_one(alloc, &mut actuals, formal, actual)?;
+    }
+    Ok(actuals)
+}
+
+/// The model of this name, where an element stands in it.
+#[tactic(auto, unfolding(crate::specs::Graph::number_named))]
+pub(crate) fn filled_target(names: &IndexSet<Name>, holds: &[bool], model: &Name) -> Option<usize>
+    ensures { result ≡ filled holds.now (number_named names.now.keys model.now) }
+{
+    let x = names.get_index_of(model)?;
+    match holds.get(x) {
+        Some(false) => None,
+        _ => Some(x),
+    }
+}
+
+fn link_of(
+    alloc: Global,
+    names: &IndexSet<Name>,
+    holds: &[bool],
+    element: &Element,
+) -> Result<Link, OutOfMemory>
+    ensures { IfOk result (λ link. IsLink names.now.keys holds.now link (plain_element element.now)) }
+{
+    match element {
+        Element::Instance { model, bindings } => Ok(Link {
+            target: filled_target(names, holds, model),
+            actuals: bind_actuals(alloc, bindings)?,
+        }),
+        Element::Table { .. } | Element::Latch { .. } => Ok(Link {
+            target: None,
+            actuals: bind_actuals(alloc, &[])?,
+        }),
+    }
+}
+
+#[tactic(auto, using(crate::proofs::Linking::linking_laws))]
+fn links_of(
+    alloc: Global,
+    names: &IndexSet<Name>,
+    holds: &[bool],
+    elements: &[Element],
+) -> Result<Vec<Link>, OutOfMemory>
+    ensures { IfOk result (λ links. AreLinks names.now.keys holds.now links.items (map plain_element elements.now)) }
+{
+    let mut links = Vec::new(alloc);
+    for element in elements {
+        links.push(link_of(alloc, names, holds, element)?)?;
+    }
+    Ok(links)
+}
+
+/// The links of all models.
+#[tactic(auto, using(crate::proofs::Linking::linking_laws))]
+pub(crate) fn all_links(
+    alloc: Global,
+    names: &IndexSet<Name>,
+    holds: &[bool],
+    models: &[BlifModel],
+) -> Result<Vec<Row>, OutOfMemory>
+    ensures { IfOk result (λ rows. AreRows names.now.keys holds.now rows.items (map plain_model models.now)) }
+{
+    let mut rows = Vec::new(alloc);
+    for model in models {
+        let links = links_of(alloc, names, holds, &model.elements)?;
+        rows.push(Row { links })?;
+    }
+    Ok(rows)
+}

@@ -1,0 +1,86 @@
+//! The inputs and outputs of a model, to be asked for by name.
+ghost use Rattle.std.specs.Prelude.{◌≡◌, ◌||◌, map, All, IfOk};
+ghost use Rattle.hierarchy.specs.Ports.{ports_of as interface};
+ghost use Rattle.blif_text.specs.Kind.{is_among};
+ghost use Rattle.blif_text.specs.Library.{Differ, IsModel};
+ghost use Rattle.blif_text.specs.Views.{plain_model};
+
+use blif_text::BlifModel;
+use indexmap::IndexSet;
+use std::alloc::Global;
+use std::marker::Model;
+use tmr_base::{Name, OutOfMemory};
+
+/// A model's inputs and outputs.
+#[derive(Drop)]
+pub(crate) struct Ports {
+    inputs: IndexSet<Name>,
+    outputs: IndexSet<Name>,
+}
+
+impl Model for Ports {
+    ghost use Rattle.hierarchy.specs.Ports.{PlainPorts};
+
+    ghost Value = { PlainPorts };
+
+    ghost view = { λ p. record { inputs = p.inputs.keys; outputs = p.outputs.keys } };
+}
+
+impl Ports {
+    /// The name is an input or an output.
+    pub(crate) fn has(&self, name: &Name) -> bool
+        ensures { result ≡ (is_among self.now.inputs name.now || is_among self.now.outputs name.now) }
+    {
+        self.inputs.contains(name) || self.outputs.contains(name)
+    }
+
+    /// The name is an output.
+    pub(crate) fn has_output(&self, name: &Name) -> bool
+        ensures { result ≡ is_among self.now.outputs name.now }
+    {
+        self.outputs.contains(name)
+    }
+
+    /// The inputs in their order.
+    pub(crate) fn inputs(&self) -> &[Name]
+        ensures { result.now ≡ self.now.inputs }
+    {
+        self.inputs.as_slice()
+    }
+}
+
+/// Names that differ, as a set.
+#[tactic(auto, using(crate::proofs::NameSets::set_laws))]
+pub(crate) fn name_set(alloc: Global, names: &[Name]) -> Result<IndexSet<Name>, OutOfMemory>
+    requires { Differ names.now }
+    ensures { IfOk result (λ set. set.keys ≡ names.now) }
+{
+    let mut set = IndexSet::new(alloc);
+    for name in names {
+        let copy = name.copy(alloc)?;
+        set.insert(copy)?;
+    }
+    Ok(set)
+}
+
+/// The inputs and outputs of the model.
+fn ports_of(alloc: Global, model: &BlifModel) -> Result<Ports, OutOfMemory>
+    requires { IsModel (plain_model model.now) }
+    ensures { IfOk result (λ ports. ports ≡ interface (plain_model model.now)) }
+{
+    let inputs = name_set(alloc, &model.inputs)?;
+    let outputs = name_set(alloc, &model.outputs)?;
+    Ok(Ports { inputs, outputs })
+}
+
+/// The inputs and outputs of all models.
+pub(crate) fn all_ports(alloc: Global, models: &[BlifModel]) -> Result<Vec<Ports>, OutOfMemory>
+    requires { All IsModel (map plain_model models.now) }
+    ensures { IfOk result (λ ports. ports.items ≡ map interface (map plain_model models.now)) }
+{
+    let mut ports = Vec::new(alloc);
+    for model in models {
+        ports.push(ports_of(alloc, model)?)?;
+    }
+    Ok(ports)
+}
