@@ -27,8 +27,11 @@ mod reach;
 mod resolve;
 mod walk;
 
-pub use drafted::{assumed, draft_of};
 use fault::PlacingFault;
-pub use flat_text::text_length;
 use graph::Graph;
 use ports::Ports;
+
+pub use drafted::{assumed, draft_of};
+pub use flat_fault::FlatFault;
+pub use flat_text::text_length;
+pub use flatten::{Flat, flatten};
