@@ -11,7 +11,7 @@ mod drafted;
 mod fault;
 mod flat_fault;
 mod flat_text;
-mod flatten;
+mod flattening;
 mod graph;
 mod library;
 mod links;
@@ -27,11 +27,10 @@ mod reach;
 mod resolve;
 mod walk;
 
-use fault::PlacingFault;
-use graph::Graph;
-use ports::Ports;
-
 pub use drafted::{assumed, draft_of};
+use fault::PlacingFault;
 pub use flat_fault::FlatFault;
 pub use flat_text::text_length;
-pub use flatten::{Flat, flatten};
+pub use flattening::{Flat, flatten};
+use graph::Graph;
+use ports::Ports;

@@ -9,7 +9,7 @@ use Rattle.hierarchy.specs.Clash.{name_clash}
 use Rattle.hierarchy.specs.Drafted.{draft_of, assumed}
 use Rattle.hierarchy.specs.Flatten.{IsSound, Fits}
 use Rattle.hierarchy.proofs.FlatKeeps.{flat_fits, flat_inputs, flat_outputs, few_elements}
-use Rattle.hierarchy.proofs.flatten.flatten.Goals as goal
+use Rattle.hierarchy.proofs.flattening.flatten.Goals as goal
 
 pub assumed-assumed-requires : goal.assumed-assumed-requires
 assumed-assumed-requires c = subst (λ m. length m.elements < 2 ^ 32) (sym is) (few_elements c.args.lib.now (let f = short in let l = c.requires in omega arith))
