@@ -14,7 +14,7 @@ use Rattle.partitioner.specs.Cost.{cost}
 use Rattle.partitioner.specs.Loss.{is_fresh, is_kept, is_wanted, loss}
 use Rattle.partitioner.specs.Refining.{has_room, put, place}
 use Rattle.partitioner.specs.Tracking.{Tracks, parts_of}
-use Rattle.partitioner.specs.Leading.{AsGood, IsReached, IsLead, Leads, LeadsOpen, LeadsReaders, is_settled, start_of}
+use Rattle.partitioner.specs.Leading.{AsGood, IsReached, IsLead, Leads, LeadsOpen, LeadsReaders, LeadsOrLoses, is_settled, start_of}
 use Rattle.partitioner.proofs.BelowLaws.{one_if_le}
 use Rattle.partitioner.proofs.LowestLaws.{IsLowest, is_lowest}
 use Rattle.partitioner.proofs.PutLaws.{base, cost_put}
@@ -143,3 +143,27 @@ source_tried n size p i a b row j l before kept own tried = λ c h room. at c ro
         let one : one_if (is_fresh n p.of.items i (get_or row j 0) c) ≡ 1 = ap one_if f in
         inr (omega (arith, e, more, one))
     at c room (inr e) (inr f) = inl (met c room (cases_Bool (eqb (start_of p (get_or row j 0)) c)) f)
+
+-- what was missed by the rows so far loses as many
+pub missed_loses : (n : Net) (size : ℕ) (p : Partitioning) (i a : ℕ) (row : List ℕ) (j : ℕ) → IsPermutation (other_sources n i) row → LeadsOrMissed n size p i a row j → (c : ℕ) → c < p.count → has_room size (parts_of p) c ≡ true → LeadsOrLoses n p i a (j + 1) c
+missed_loses n size p i a row j perm tried c h room = at (tried c h room)
+  where
+    at : Leads n p i a c ⊎ (loss_so_far n p.of.items i c row j ≡ j + 1) → LeadsOrLoses n p i a (j + 1) c
+    at (inl k) = inl k
+    at (inr e) = inr (omega (arith, e, loss_at_least n p.of.items i c row j perm))
+
+pub kept_loses : (n : Net) (p : Partitioning) (i a b tried c : ℕ) → ((q : ℕ) → Leads n p i a q → Leads n p i b q) → LeadsOrLoses n p i a tried c → LeadsOrLoses n p i b tried c
+kept_loses n p i a b tried c kept (inl h) = inl (kept c h)
+kept_loses n p i a b tried c kept (inr h) = inr h
+
+-- a later partition that loses at least as many as the lead does not take it
+pub later_leads : (n : Net) (size : ℕ) (p : Partitioning) (i tried q c : ℕ) (lead : Lead) → IsLead n size p i lead → lead.loss ≤ tried → lead.place ≤ q → q < c → LeadsOrLoses n p i lead.place tried c → Leads n p i lead.place c
+later_leads n size p i tried q c lead is low early later (inl h) = h
+later_leads n size p i tried q c lead is low early later (inr h) = go (cases_lt (loss n p.of.items i lead.place) (loss n p.of.items i c))
+  where
+    go : (loss n p.of.items i lead.place < loss n p.of.items i c) ⊎ (loss n p.of.items i c ≤ loss n p.of.items i lead.place) → Leads n p i lead.place c
+    go (inl k) = inl k
+    go (inr k) = inr (omega (arith, k, h, low, is.value), inr (omega (arith, early, later)))
+
+pub all_place : (n : Net) (size : ℕ) (p : Partitioning) (i : ℕ) (lead : Lead) → Tracks n p → i < length n.nodes → IsLead n size p i lead → ((c : ℕ) → c < p.count → LeadsOpen n size p i lead.place c) → lead.place ≡ place n size (parts_of p) i
+all_place n size p i lead tracks l is all = place_is n size p i lead.place tracks l (record { reached = is.reached; best = all })

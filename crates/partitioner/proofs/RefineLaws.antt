@@ -1,6 +1,6 @@
 -- Passes of moves keep the rule of sizes, and the cost does not rise.
 use Rattle.std.proofs.Common.{◌≡◌, ℕ, zero, suc, ◌+◌, ◌<◌, ◌≤◌, ◌⊎◌, inl, inr, true, eqb, length, refl, sym, ◌∙◌, ap, subst, arith, get_or, set, add-one, add-zero, ◌-◌}
-use Rattle.std.proofs.lemmas.Bool.{cases_eq, ne_eqb, ltb-true}
+use Rattle.std.proofs.lemmas.Bool.{cases_eq, ne_eqb, ltb-true, true≢false}
 use Rattle.std.proofs.lemmas.List.{length-set}
 use Rattle.flat_net.specs.Net.{Net}
 use Rattle.tmr_base.specs.Parts.{PlainParts}
@@ -8,7 +8,7 @@ use Rattle.partitioner.specs.Below.{one_if}
 use Rattle.partitioner.specs.Cost.{cost}
 use Rattle.partitioner.specs.Sizes.{KeepsSize, held, capacity}
 use Rattle.partitioner.specs.Refining.{has_room, put, place, move, moves, pass, refined}
-use Rattle.partitioner.specs.Leading.{IsReached}
+use Rattle.partitioner.specs.Leading.{IsReached, HasNoRoom}
 use Rattle.partitioner.proofs.BelowLaws.{one_if_le}
 use Rattle.partitioner.proofs.LowestLaws.{lowest_is}
 use Rattle.partitioner.proofs.PutLaws.{put_same}
@@ -108,3 +108,16 @@ pub refined_fixed : (n : Net) (size : ℕ) (parts : PlainParts) (k m : ℕ) → 
 refined_fixed n size parts k m l e =
     let whole : m ≡ k + (m - k) = omega (arith, l) in
     ap (refined n size parts) whole ∙ fixed_from n size parts k (m - k) e
+
+-- where no partition has room, nothing moves
+full_stays : (n : Net) (size : ℕ) (parts : PlainParts) (i : ℕ) → HasNoRoom size parts → move n size parts i ≡ parts
+full_stays n size parts i full = go (reached_place n size parts i)
+  where
+    go : IsReached (λ p. cost n (put parts i p)) (has_room size parts) (get_or parts.of i 0) parts.count (place n size parts i) → move n size parts i ≡ parts
+    go (inl e) = move_stays n size parts i e
+    go (inr h) = absurd (true≢false (sym h.1 ∙ full (place n size parts i) h.0))
+
+pub full_moves : (n : Net) (size : ℕ) (parts : PlainParts) (k : ℕ) → HasNoRoom size parts → moves n size parts k ≡ parts
+unfolding moves
+full_moves n size parts zero full = refl
+full_moves n size parts (suc k) full = ap (λ (after : PlainParts). move n size after k) (full_moves n size parts k full) ∙ full_stays n size parts k full

@@ -1,6 +1,7 @@
 -- The best partition found so far for a node.
-use Rattle.std.specs.Prelude.{◌≡◌, ℕ, ◌<◌, ◌≤◌, ◌==◌, Bool, true, not, nat_lt, ◌&&◌, ◌||◌, ◌⊎◌, All, slice_index}
+use Rattle.std.specs.Prelude.{◌≡◌, ℕ, ◌<◌, ◌≤◌, ◌==◌, Bool, true, false, not, nat_lt, ◌&&◌, ◌||◌, ◌⊎◌, All, slice_index}
 use Rattle.flat_net.specs.Net.{Net}
+use Rattle.tmr_base.specs.Parts.{PlainParts}
 use Rattle.partitioner.specs.declared.partitioning.Partitioning.{Partitioning}
 use Rattle.partitioner.specs.declared.placing.Lead.{Lead}
 use Rattle.partitioner.specs.Reading.{other_readers}
@@ -32,6 +33,14 @@ Leads n p i a c = AsGood (loss n p.of.items i) (start_of p i) a c
 -- as good as c where c has room
 abbrev pub LeadsOpen : Net → ℕ → Partitioning → ℕ → ℕ → ℕ → Type 0
 LeadsOpen n size p i a c = has_room size (parts_of p) c ≡ true → Leads n p i a c
+
+-- as good as c, or c loses at least so many
+abbrev pub LeadsOrLoses : Net → Partitioning → ℕ → ℕ → ℕ → ℕ → Type 0
+LeadsOrLoses n p i a tried c = Leads n p i a c ⊎ (tried ≤ loss n p.of.items i c)
+
+-- no partition has room
+abbrev pub HasNoRoom : ℕ → PlainParts → Type 0
+HasNoRoom size parts = (q : ℕ) → q < parts.count → has_room size parts q ≡ false
 
 -- as good as the partitions of all other readers of x
 abbrev pub LeadsReaders : Net → ℕ → Partitioning → ℕ → ℕ → ℕ → Type 0

@@ -6,7 +6,7 @@ ghost use Rattle.partitioner.specs.Tracking.{Tracks, parts_of};
 
 use crate::nodes::nodes_of;
 use crate::partitioning::Partitioning;
-use crate::placing::{part_of, place_of};
+use crate::placing::{part_of, place_of, some_room};
 use crate::tracking::track;
 use flat_net::FlatNet;
 use std::alloc::Global;
@@ -17,6 +17,9 @@ fn all_stay(n: &FlatNet, p: &Partitioning, size: u32) -> bool
     requires { Tracks n.now.net p.now }
     ensures { IsTrue result ↔ IsMinimal n.now.net size (parts_of p.now) }
 {
+    if !some_room(n, p, size) {
+        return true;
+    }
     for i in 0..nodes_of(n) {
         if place_of(n, p, size, i) != part_of(n, p, i) {
             return false;

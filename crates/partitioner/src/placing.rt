@@ -1,9 +1,9 @@
 //! Where a node goes.
-ghost use Rattle.std.specs.Prelude.{◌≡◌, ◌<◌, ◌≤◌, ◌==◌, ℕ, Bool, true, length, slice_index};
+ghost use Rattle.std.specs.Prelude.{◌≡◌, ◌<◌, ◌≤◌, ◌==◌, ℕ, Bool, true, false, length, slice_index};
 ghost use Rattle.flat_net.specs.Net.{Net};
 ghost use Rattle.partitioner.specs.Refining.{has_room, place};
 ghost use Rattle.partitioner.specs.Tracking.{Tracks, parts_of};
-ghost use Rattle.partitioner.specs.Leading.{IsLead, Leads, LeadsOpen, LeadsReaders, is_better, is_settled, start_of};
+ghost use Rattle.partitioner.specs.Leading.{HasNoRoom, IsLead, Leads, LeadsOpen, LeadsOrLoses, LeadsReaders, is_better, is_settled, start_of};
 
 use crate::losses::loss_up_to;
 use crate::partitioning::Partitioning;
@@ -91,7 +91,44 @@ fn consider_readers(n: &FlatNet, p: &Partitioning, size: u32, i: u32, lead: Lead
     lead
 }
 
+/// Some partition has room for a node that is not in it.
+pub fn some_room(n: &FlatNet, p: &Partitioning, size: u32) -> bool
+    requires { Tracks n.now.net p.now }
+    ensures { result ≡ false → HasNoRoom size (parts_of p.now) }
+{
+    for q in 0..p.count {
+        if has_room(n, p, size, q) {
+            return true;
+        }
+    }
+    false
+}
+
+/// The lead after all partitions are tried for node i in ascending order, of which those not met yet
+/// lose at least `tried`.
+fn consider_all(n: &FlatNet, p: &Partitioning, size: u32, i: u32, lead: Lead, tried: u64) -> Lead
+    requires tracks { Tracks n.now.net p.now }
+    requires node { i < length n.now.net.nodes }
+    requires lead { IsLead n.now.net size p.now i lead }
+    requires least { (c : ℕ) → c < p.now.count → has_room size (parts_of p.now) c ≡ true → LeadsOrLoses n.now.net p.now i lead.place tried c }
+    ensures lead { IsLead n.now.net size p.now i result }
+    ensures all { (c : ℕ) → c < p.now.count → LeadsOpen n.now.net size p.now i result.place c }
+{
+    let mut lead = lead;
+    for q in 0..p.count {
+        lead = consider(n, p, size, i, lead, q);
+        if lead.loss <= tried && lead.place <= q {
+            return lead;
+        }
+    }
+    lead
+}
+
 /// The partition that node i goes to, which is its own where no move lowers the cost.
+///
+/// A partition that was met by none of so many rows of readers loses at least as many pairs, so few rows
+/// need be tried. A row that is about as long as there are partitions gives way to all of them in
+/// ascending order, which mostly ends at one of the first.
 pub fn place_of(n: &FlatNet, p: &Partitioning, size: u32, i: u32) -> u32
     requires tracks { Tracks n.now.net p.now }
     requires node { i < length n.now.net.nodes }
@@ -110,6 +147,9 @@ pub fn place_of(n: &FlatNet, p: &Partitioning, size: u32, i: u32) -> u32
     for x in p.sources.row(i) {
         if is_settled(lead, start, tried) {
             return lead.place;
+        }
+        if p.readers.row(*x).len() > p.count as usize / 4 {
+            return consider_all(n, p, size, i, lead, tried).place;
         }
         lead = consider(n, p, size, i, lead, part_of(n, p, *x));
         lead = consider_readers(n, p, size, i, lead, *x);

@@ -9,7 +9,7 @@ ghost use Rattle.partitioner.specs.Tracking.{Tracks, parts_of};
 use crate::moving::put_node;
 use crate::nodes::nodes_of;
 use crate::partitioning::Partitioning;
-use crate::placing::{part_of, place_of};
+use crate::placing::{part_of, place_of, some_room};
 use crate::tracking::track;
 use flat_net::FlatNet;
 use std::alloc::Global;
@@ -38,6 +38,9 @@ fn pass_once(n: &FlatNet, p: &mut Partitioning, size: u32) -> Result<bool, OutOf
     ensures parts { OnOk result (parts_of p.new ≡ pass n.now.net size (parts_of p.old)) }
     ensures still { IfOk result (λ moved. moved ≡ false → parts_of p.new ≡ parts_of p.old) }
 {
+    if !some_room(n, p, size) {
+        return Ok(false);
+    }
     let mut moved = false;
     for i in 0..nodes_of(n) {
         if move_node(n, p, size, i)? {

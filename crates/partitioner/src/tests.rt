@@ -144,7 +144,7 @@ fn compare(
 #[test]
 fn as_the_slow_program(rt: HostRuntime) -> Result<(), Fail> {
     let alloc = rt.alloc();
-    for seed in 0..30 {
+    for seed in 0..300 {
         let nodes = made_nodes(alloc, seed)?;
         for size in 1..5 {
             for passes in [0, 1, 2, 8] {

@@ -1,5 +1,5 @@
 use Rattle.std.proofs.Common.{◌∙◌, sym, refl, arith}
-use Rattle.std.proofs.lemmas.Bool.{false≢true}
+use Rattle.std.proofs.lemmas.Bool.{false≢true, true≢false}
 use Rattle.partitioner.specs.Tracking.{parts_of}
 use Rattle.partitioner.proofs.MinimalLaws.{all_stay_minimal, mover_not_minimal}
 use Rattle.partitioner.proofs.minimal.all_stay.Goals as goal
@@ -16,3 +16,7 @@ returns c = (
   λ h. all_stay_minimal c.args.n.now.net c.args.size (parts_of c.args.p.now) (λ i l. c.loop-i.invariant i (omega (arith, l, c.nodes_of-i-end.ensures.count, c.loop-i-test.false))),
   λ minimal. refl,
 )
+
+pub returns-then-not-some_room : goal.returns-then-not-some_room
+returns-then-not-some_room c =
+    (λ h i p l within apart room. absurd (true≢false (sym room ∙ c.some_room.ensures c.if-not-some_room.true p within)), λ minimal. refl)

@@ -1,9 +1,9 @@
-use Rattle.std.proofs.Common.{◌≡◌, ◌+◌, ◌∙◌, sym, ap, refl}
+use Rattle.std.proofs.Common.{◌≡◌, ◌+◌, ◌∙◌, sym, ap, refl, length}
 use Rattle.std.proofs.lemmas.Bool.{true≢false}
 use Rattle.tmr_base.specs.Parts.{PlainParts}
 use Rattle.partitioner.specs.Refining.{move, moves}
 use Rattle.partitioner.specs.Tracking.{parts_of}
-use Rattle.partitioner.proofs.RefineLaws.{moves_none, moves_more}
+use Rattle.partitioner.proofs.RefineLaws.{moves_none, moves_more, full_moves}
 use Rattle.partitioner.proofs.refining.pass_once.Goals as goal
 use Rattle.partitioner.proofs.refining.pass_once.Goals.{then-branch, else-branch}
 
@@ -21,3 +21,7 @@ loop-i-preserved c =
       | then-branch w ↦ record { tracks = c.in_ok-move_node.ensures.tracks; parts = after; still = λ h. absurd (true≢false (sym w.moved-is ∙ h)) }
       | else-branch w ↦ record { tracks = c.in_ok-move_node.ensures.tracks; parts = after; still = λ h. c.in_ok-move_node.ensures.still w.if-branch.false ∙ c.loop-i.invariant.still (sym w.moved-is ∙ h) }
     ]
+
+pub returns-then-not-some_room-clause-parts : goal.returns-then-not-some_room-clause-parts
+returns-then-not-some_room-clause-parts c =
+    sym (full_moves c.args.n.now.net c.args.size (parts_of c.args.p.now) (length c.args.n.now.net.nodes) (c.some_room.ensures c.if-not-some_room.true))
