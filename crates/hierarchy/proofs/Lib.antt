@@ -24,3 +24,8 @@ pub mod NetNames
 pub mod Passing
 pub mod WholeModel
 pub mod FlatKeeps
+pub mod OneFirst
+pub mod OrderOrLoop
+pub mod OneDraftFault
+pub mod OneAnswer
+pub mod Sizing
