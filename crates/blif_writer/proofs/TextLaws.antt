@@ -1,0 +1,28 @@
+-- All lines of a text, one after the other.
+use Rattle.std.proofs.Common.{◌≡◌, ℕ, List, [], ◌∷◌, ◌++◌, sym, ap, ◌∙◌, append_assoc}
+use Rattle.std.specs.Prelude.{codes}
+use Rattle.std.specs.List.{flat_map}
+use Rattle.std.proofs.lemmas.List.Concat.{flat_map-append}
+use Rattle.flat_net.specs.Net.{Net}
+use Rattle.blif_writer.specs.Text.{line_text, lines_text, net_words, clock_words, node_lines, flat_lines, flat_text}
+use Rattle.blif_writer.specs.Left.{nodes_left}
+
+in_a_row : (a b c m e o0 o1 o2 o3 o4 o5 : List ℕ) → o0 ≡ [] → o1 ≡ o0 ++ a → o2 ≡ o1 ++ b → o3 ≡ o2 ++ c → o4 ≡ o3 ++ m → o5 ≡ o4 ++ e → o5 ≡ a ++ (b ++ (c ++ (m ++ e)))
+in_a_row a b c m e o0 o1 o2 o3 o4 o5 e0 e1 e2 e3 e4 e5 =
+    let one : o1 ≡ a = e1 ∙ ap (λ (o : List ℕ). o ++ a) e0 in
+    let two : o2 ≡ a ++ b = e2 ∙ ap (λ (o : List ℕ). o ++ b) one in
+    let three : o3 ≡ a ++ (b ++ c) = e3 ∙ (ap (λ (o : List ℕ). o ++ c) two ∙ append_assoc a b c) in
+    let four : o4 ≡ a ++ (b ++ (c ++ m)) = e4 ∙ (ap (λ (o : List ℕ). o ++ m) three ∙ (append_assoc a (b ++ c) m ∙ ap (λ (o : List ℕ). a ++ o) (append_assoc b c m))) in
+    e5 ∙ (ap (λ (o : List ℕ). o ++ e) four ∙ (append_assoc a (b ++ (c ++ m)) e ∙ ap (λ (o : List ℕ). a ++ o) (append_assoc b (c ++ m) e ∙ ap (λ (o : List ℕ). b ++ o) (append_assoc c m e))))
+
+text_is : (n : Net) → flat_text n ≡ line_text (codes ".model" ∷ n.model ∷ []) ++ (line_text (codes ".inputs" ∷ (n.inputs ++ clock_words n.clock)) ++ (line_text (codes ".outputs" ∷ net_words n n.outputs) ++ (nodes_left n 0 ++ lines_text ((codes ".end" ∷ []) ∷ []))))
+unfolding flat_lines
+text_is n =
+    let nodes = flat_map-append line_text (flat_map (node_lines n) n.nodes) ((codes ".end" ∷ []) ∷ []) in
+    ap (λ (t : List ℕ). line_text (codes ".model" ∷ n.model ∷ []) ++ (line_text (codes ".inputs" ∷ (n.inputs ++ clock_words n.clock)) ++ (line_text (codes ".outputs" ∷ net_words n n.outputs) ++ t))) nodes
+
+-- all lines are put
+pub text_put : (n : Net) (o0 o1 o2 o3 o4 o5 : List ℕ) → o0 ≡ [] → o1 ≡ o0 ++ line_text (codes ".model" ∷ n.model ∷ []) → o2 ≡ o1 ++ line_text (codes ".inputs" ∷ (n.inputs ++ clock_words n.clock)) → o3 ≡ o2 ++ line_text (codes ".outputs" ∷ net_words n n.outputs)
+    → o4 ≡ o3 ++ nodes_left n 0 → o5 ≡ o4 ++ lines_text ((codes ".end" ∷ []) ∷ []) → o5 ≡ flat_text n
+text_put n o0 o1 o2 o3 o4 o5 e0 e1 e2 e3 e4 e5 =
+    in_a_row (line_text (codes ".model" ∷ n.model ∷ [])) (line_text (codes ".inputs" ∷ (n.inputs ++ clock_words n.clock))) (line_text (codes ".outputs" ∷ net_words n n.outputs)) (nodes_left n 0) (lines_text ((codes ".end" ∷ []) ∷ [])) o0 o1 o2 o3 o4 o5 e0 e1 e2 e3 e4 e5 ∙ sym (text_is n)

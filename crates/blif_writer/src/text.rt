@@ -1,0 +1,61 @@
+//! The text of a design.
+ghost use Rattle.std.specs.Prelude.{◌≡◌, ◌++◌, ◌∷◌, [], IfOk, OnOk, codes};
+ghost use Rattle.blif_writer.specs.Text.{flat_text, line_text, net_words, clock_words};
+
+use crate::nodes::put_nodes;
+use crate::words::{put_clock, put_inputs, put_outputs, put_word};
+use flat_net::FlatNet;
+use std::alloc::{AllocError, Global};
+use tmr_base::OutOfMemory;
+
+/// Puts the line of the model's name.
+fn put_model(out: &mut Vec<u8>, net: &FlatNet) -> Result<(), AllocError>
+    ensures { OnOk result (out.new.items ≡ out.old.items ++ line_text (codes ".model" ∷ net.now.net.model ∷ [])) }
+{
+    out.extend_from_slice(b".model")?;
+    put_word(out, net.model().bytes())?;
+    out.push(b'\n')?;
+    Ok(())
+}
+
+/// Puts the line of the inputs, of which the clock is the last.
+fn put_input_line(out: &mut Vec<u8>, net: &FlatNet) -> Result<(), AllocError>
+    ensures { OnOk result (out.new.items ≡ out.old.items ++ line_text (codes ".inputs" ∷ (net.now.net.inputs ++ clock_words net.now.net.clock))) }
+{
+    out.extend_from_slice(b".inputs")?;
+    put_inputs(out, net)?;
+    put_clock(out, net)?;
+    out.push(b'\n')?;
+    Ok(())
+}
+
+/// Puts the line of the outputs.
+fn put_output_line(out: &mut Vec<u8>, net: &FlatNet) -> Result<(), AllocError>
+    ensures { OnOk result (out.new.items ≡ out.old.items ++ line_text (codes ".outputs" ∷ net_words net.now.net net.now.net.outputs)) }
+{
+    out.extend_from_slice(b".outputs")?;
+    put_outputs(out, net)?;
+    out.push(b'\n')?;
+    Ok(())
+}
+
+/// All lines, one after the other.
+fn lines_of(alloc: Global, net: &FlatNet) -> Result<Vec<u8>, AllocError>
+    ensures { IfOk result (λ bytes. bytes.items ≡ flat_text net.now.net) }
+{
+    let mut out = Vec::new(alloc);
+    put_model(&mut out, net)?;
+    put_input_line(&mut out, net)?;
+    put_output_line(&mut out, net)?;
+    put_nodes(&mut out, net)?;
+    out.extend_from_slice(b".end\n")?;
+    Ok(out)
+}
+
+/// The flat text of a design.
+pub fn write_flat(alloc: Global, net: &FlatNet) -> Result<Vec<u8>, OutOfMemory>
+    ensures text { IfOk result (λ bytes. bytes.items ≡ flat_text net.now.net) }
+{
+    let bytes = lines_of(alloc, net)?;
+    Ok(bytes)
+}
