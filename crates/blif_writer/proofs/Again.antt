@@ -1,7 +1,6 @@
 -- Reading and flattening the text of a design gives the design.
-use Rattle.std.proofs.Common.{◌≡◌, ℕ, ◌≤◌, List, [], ◌∷◌, length, Ok, refl, sym, ap, subst, ◌∙◌}
+use Rattle.std.proofs.Common.{◌≡◌, ℕ, ◌≤◌, [], ◌∷◌, Ok, sym, ap, subst, ◌∙◌}
 use Rattle.flat_net.specs.Net.{Net, IsValid}
-use Rattle.flat_net.specs.Draft.{PlainDraft}
 use Rattle.flat_net.specs.Faults.{net_of_draft, IsFaultless}
 use Rattle.blif_text.specs.Models.{PlainModel}
 use Rattle.blif_text.specs.Reading.{reading}
@@ -23,12 +22,12 @@ drafted_is n = ap draft_of (flat_model_is n) ∙ draft_is n
 -- the one model is flattened to the design, within each limit that its text keeps
 pub flat_again : (n : Net) (limit : ℕ) → IsValid n → text_length (model_of n) ≤ limit → IsFlat (model_of n ∷ []) limit n 0
 flat_again n limit v within = record {
-    sound = sound n;
-    fits = subst (λ (m : PlainModel). text_length m ≤ limit) (sym (flat_model_is n)) within;
-    clear = no_clash n;
-    faultless = subst IsFaultless (sym (drafted_is n)) (faultless n v);
-    design_is = sym (net_again n v) ∙ ap net_of_draft (sym (drafted_is n));
-    open_are = none_assumed n ∙ ap assumed (sym (flat_model_is n));
+  sound = sound n;
+  fits = subst (λ (m : PlainModel). text_length m ≤ limit) (sym (flat_model_is n)) within;
+  clear = no_clash n;
+  faultless = subst IsFaultless (sym (drafted_is n)) (faultless n v);
+  design_is = sym (net_again n v) ∙ ap net_of_draft (sym (drafted_is n));
+  open_are = none_assumed n ∙ ap assumed (sym (flat_model_is n));
 }
 
 pub text_again : (n : Net) → IsValid n → reading (flat_text n) ≡ Ok (model_of n ∷ [])

@@ -1,18 +1,18 @@
 -- Lines of names are read again, word by word.
-use Rattle.std.proofs.Common.{◌≡◌, ◌≢◌, ℕ, zero, suc, ◌+◌, ◌-◌, ◌<◌, ◌≤◌, Bool, true, false, List, [], ◌∷◌, ◌++◌, length, map, take, get_or, slice_get, Option, Some, None, refl, sym, ap, subst, ◌∙◌, append_assoc, arith}
-use Rattle.std.specs.Prelude.{◌==◌, ◌&&◌, ◌||◌, not, nat_lt, filter}
-use Rattle.std.specs.List.{join_with_byte, list_all, All, slice_split, before_first, suffix_len, position_or_len, flat_map}
+use Rattle.std.proofs.Common.{◌≡◌, ℕ, zero, suc, ◌+◌, ◌-◌, ◌<◌, Bool, true, false, List, [], ◌∷◌, ◌++◌, length, map, take, get_or, slice_get, Option, Some, refl, sym, ap, subst, ◌∙◌, append_assoc, arith}
+use Rattle.std.specs.Prelude.{◌==◌, ◌&&◌, not, nat_lt, filter}
+use Rattle.std.specs.List.{join_with_byte, list_all, All, slice_split, before_first, suffix_len}
 use Rattle.std.specs.Option.{option_map_or}
 use Rattle.std.proofs.lemmas.Bool.{ltb-true}
 use Rattle.std.proofs.lemmas.Bool.Decides.{nat_tests}
 use Rattle.std.proofs.lemmas.Option.{slice_get-get_or}
-use Rattle.std.proofs.lemmas.List.{length-append, append-nil, take_all, get_or-append-add, get_or_default}
-use Rattle.std.proofs.lemmas.List.Elements.{All-append, All-cons, All-nil}
+use Rattle.std.proofs.lemmas.List.{length-append, take_all, get_or-append-add}
+use Rattle.std.proofs.lemmas.List.Elements.{All-append}
 use Rattle.std.proofs.lemmas.List.Sums.{position_or_len_is, suffix_len_is}
 use Rattle.std.proofs.lemmas.List.Splits.{slice_split_none, slice_split_at}
 use Rattle.tmr_base.specs.Names.{is_name, is_name_byte}
-use Rattle.blif_text.specs.Text.{is_lf, lines, last_byte, all_but_last, is_hash, without_cr, content, is_blank, trimmed, joins_next, part, Joined, joined_from, tokens, Statement, statement, spoken, statement_of, statements_of, statements}
-use Rattle.blif_writer.specs.Text.{line_text, lines_text}
+use Rattle.blif_text.specs.Text.{is_lf, lines, last_byte, is_hash, without_cr, content, is_blank, trimmed, joins_next, part, joined_from, tokens, Statement, statement, spoken, statement_of, statements_of, statements}
+use Rattle.blif_writer.specs.Text.{lines_text}
 
 pub both_true : (a b : Bool) → a && b ≡ true → (a ≡ true) × (b ≡ true)
 both_true true b e = (refl, e)
@@ -88,10 +88,10 @@ clean_behind w text e c =
     let all = name_all w e in
     let same = last_behind w text c.some in
     record {
-        bytes = All-append IsLineByte w (32 ∷ text) (λ k d lt. name_byte (get_or w k d) (all k d lt)) (All-append IsLineByte (32 ∷ []) text blank_byte c.bytes);
-        some = omega (arith, length-append w (32 ∷ text));
-        last = subst (λ (b : ℕ). 32 < b) (sym same) c.last;
-        plain = ap (λ (b : ℕ). b == 92) same ∙ c.plain;
+      bytes = All-append IsLineByte w (32 ∷ text) (λ k d lt. name_byte (get_or w k d) (all k d lt)) (All-append IsLineByte (32 ∷ []) text blank_byte c.bytes);
+      some = omega (arith, length-append w (32 ∷ text));
+      last = subst (λ (b : ℕ). 32 < b) (sym same) c.last;
+      plain = ap (λ (b : ℕ). b == 92) same ∙ c.plain;
     }
 
 -- each word is a name

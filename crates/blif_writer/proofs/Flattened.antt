@@ -1,22 +1,21 @@
 -- The one model of a design flattens to itself.
-use Rattle.std.proofs.Common.{◌≡◌, ◌≢◌, ℕ, zero, suc, ◌+◌, ◌<◌, ◌≤◌, Bool, true, false, cond, List, [], ◌∷◌, ◌++◌, length, map, get_or, slice_get, Option, Some, None, refl, sym, ap, subst, ◌∙◌, arith}
-use Rattle.std.specs.Prelude.{◌&&◌, not, find, Contains}
+use Rattle.std.proofs.Common.{◌≡◌, ℕ, zero, suc, ◌<◌, Bool, true, false, cond, List, [], ◌∷◌, ◌++◌, length, map, get_or, Option, Some, None, refl, sym, ap, subst, ◌∙◌, arith}
+use Rattle.std.specs.Prelude.{not, find, Contains}
 use Rattle.std.specs.List.{flat_map}
 use Rattle.std.specs.Option.{option_map_or}
-use Rattle.std.specs.Str.{bytes_eq}
 use Rattle.tmr_base.specs.declared.ids.Edge.{Edge}
 use Rattle.flat_net.specs.Net.{Net, Node, Table, Register, name_of}
 use Rattle.flat_net.proofs.Names.{eq_true, eq_from}
 use Rattle.blif_text.specs.Models.{PlainElement, PlainModel}
-use Rattle.hierarchy.specs.Flat.{PlacedNet, net_text, Level, main_level, resolve, actual_of, NetElement, NetTable, NetRegister, resolved_control, elements_with, elements_to, main_of, flat_elements, named, named_control, flat_model}
+use Rattle.hierarchy.specs.Flat.{PlacedNet, net_text, Level, main_level, resolve, actual_of, NetElement, NetTable, NetRegister, resolved_control, elements_with, elements_to, flat_elements, named, named_control, flat_model}
 use Rattle.hierarchy.specs.Clash.{main_net, control_nets, nets_of, walked, same_net, has_text, is_taken, clash_after, name_clash}
-use Rattle.hierarchy.specs.Graph.{names_of, placed_by, placed_in, placed_of, graph, row, Reached, main, placed}
+use Rattle.hierarchy.specs.Graph.{names_of, placed_in, graph, row, Reached, main, placed}
 use Rattle.hierarchy.specs.Ports.{PlainPorts, ports_of}
 use Rattle.hierarchy.specs.Faults.{elements_fault, model_fault}
 use Rattle.hierarchy.specs.Found.{IsOrder}
 use Rattle.hierarchy.specs.Library.{IsPlaceable}
 use Rattle.hierarchy.specs.Flatten.{IsSound}
-use Rattle.blif_writer.specs.Text.{net_words, clock_words}
+use Rattle.blif_writer.specs.Text.{net_words}
 use Rattle.blif_writer.specs.Model.{init_of, element_of, model_of}
 
 -- ---- its flat elements
@@ -176,11 +175,11 @@ lone_reached _ (placed x y r p) =
 
 lone_order : IsOrder lone (0 ∷ [])
 lone_order = record {
-    within = within;
-    reached = reached;
-    complete = lone_reached;
-    once = λ j k less lt. absurd (omega arith);
-    after = after;
+  within = within;
+  reached = reached;
+  complete = lone_reached;
+  once = λ j k less lt. absurd (omega arith);
+  after = after;
 }
   where
     within : (k : ℕ) → k < 1 → get_or (0 ∷ []) k 0 < 1

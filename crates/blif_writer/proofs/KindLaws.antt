@@ -1,8 +1,7 @@
 -- No statement of a flat text is bad.
-use Rattle.std.proofs.Common.{◌≡◌, ◌≢◌, ℕ, zero, suc, ◌+◌, ◌-◌, ◌<◌, ◌≤◌, ◌⊎◌, inl, inr, Bool, true, false, List, [], ◌∷◌, ◌++◌, length, map, get_or, slice_get, Option, Some, None, refl, sym, ap, subst, ◌∙◌, append_assoc, arith}
+use Rattle.std.proofs.Common.{◌≡◌, ◌≢◌, ℕ, zero, suc, ◌+◌, ◌-◌, ◌<◌, ◌⊎◌, inl, inr, Bool, true, false, List, [], ◌∷◌, ◌++◌, length, map, get_or, slice_get, Option, Some, None, refl, sym, ap, subst, ◌∙◌, append_assoc, arith}
 use Rattle.std.specs.Prelude.{◌==◌, ◌&&◌, ◌||◌, not, nat_eq, codes, All}
-use Rattle.std.specs.List.{list_all, list_any, flat_map}
-use Rattle.std.specs.Str.{bytes_eq}
+use Rattle.std.specs.List.{list_all, flat_map}
 use Rattle.std.proofs.lemmas.Bool.{eqb-true}
 use Rattle.std.proofs.lemmas.List.{length-append, length-map}
 use Rattle.std.proofs.lemmas.List.Elements.{All-head, All-tail}
@@ -18,7 +17,7 @@ use Rattle.blif_text.specs.Word.{word_of}
 use Rattle.blif_text.specs.Text.{Statement, statement, statement_by}
 use Rattle.blif_text.specs.Library.{Differ}
 use Rattle.blif_text.specs.Views.{bit as output, marked}
-use Rattle.blif_text.specs.Kind.{name_kind, names_kind, is_among, model_kind, port_kind, ports_kind, table_kind, type_kind, init_kind, ends_kind, control_kind, latch_kind, row_of, row_kind, open_model, table_before, Shape, Marks, Here, here_of, here, kind_here, kind_at, kind, lists, is_model, first_bad, tokens_of}
+use Rattle.blif_text.specs.Kind.{name_kind, names_kind, model_kind, port_kind, ports_kind, table_kind, type_kind, init_kind, ends_kind, control_kind, latch_kind, row_of, row_kind, open_model, table_before, Shape, here_of, here, kind_here, kind_at, lists, is_model, first_bad}
 use Rattle.hierarchy.proofs.NameSets.{none_before}
 use Rattle.blif_writer.specs.Text.{bit, edge_word, row_line, row_lines, net_words, clock_words, control_words, node_lines, flat_lines}
 use Rattle.blif_writer.proofs.Clean.{both_true, AreNames, IsLine, AreLines, names_join, lines_join, numbered}

@@ -9,3 +9,4 @@ pub mod Spelled
 pub mod Flattened
 pub mod Redrafted
 pub mod Again
+pub mod Lengths

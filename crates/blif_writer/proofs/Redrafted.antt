@@ -1,29 +1,26 @@
 -- The draft of the one model has no fault, and gives the design back.
-use Rattle.std.proofs.Common.{◌≡◌, ◌≢◌, ℕ, zero, suc, ◌+◌, ◌<◌, ◌≤◌, ◌⊎◌, inl, inr, Bool, true, false, cond, List, [], ◌∷◌, ◌++◌, length, map, get_or, Option, Some, None, refl, sym, ap, subst, ◌∙◌, append_assoc, arith}
-use Rattle.std.specs.Prelude.{◌&&◌, ◌||◌, not, count_by, filter, codes, All, Contains}
-use Rattle.std.specs.List.{flat_map, list_any}
+use Rattle.std.proofs.Common.{◌≡◌, ◌≢◌, ℕ, suc, ◌+◌, ◌<◌, ◌⊎◌, inl, inr, Bool, true, false, cond, List, [], ◌∷◌, ◌++◌, length, map, get_or, Option, Some, None, refl, sym, ap, subst, ◌∙◌, append_assoc, arith}
+use Rattle.std.specs.Prelude.{◌||◌, not, count_by, filter, codes, All}
+use Rattle.std.specs.List.{flat_map}
 use Rattle.std.specs.Str.{bytes_eq}
 use Rattle.std.proofs.lemmas.List.{append-nil, length-append, map-append, get_or_default, get_or_push}
 use Rattle.std.proofs.lemmas.List.Sums.{sum_by-cons}
 use Rattle.std.proofs.lemmas.List.Elements.{filter-append, All-head, All-tail}
-use Rattle.std.proofs.lemmas.List.Folds.{list_any-append, list_any_at}
-use Rattle.tmr_base.specs.Names.{is_name}
+use Rattle.std.proofs.lemmas.List.Folds.{list_any_at}
 use Rattle.tmr_base.specs.declared.ids.Edge.{Edge}
 use Rattle.tmr_base.specs.declared.ids.Edge.TheVariants.{Rising, Falling}
 use Rattle.flat_net.specs.Net.{Net, Node, Table, Register, IsValid, IsWired, IsClockOf, IsOrder, net_count, net_names, name_of, node_name, is_register, register_count}
-use Rattle.flat_net.specs.First.{HasNone}
 use Rattle.flat_net.specs.Draft.{PlainDraft, Element, TableOf, LatchOf, out_of, reads_of}
-use Rattle.flat_net.specs.Faults.{is_among, first_control, clock_from, clock_of, is_clock, net_inputs, draft_names, number_in, node_of_element, net_of_draft, is_driven_before, same_edge, same_control, is_unlike, is_unlike_any, is_mixed, draft_reads, is_misused, is_no_net, IsDrivenOnce, HasOneClock, HasCleanClock, IsDriven, IsFaultless}
-use Rattle.flat_net.proofs.Names.{eq_true, eq_false, eq_from}
+use Rattle.flat_net.specs.Faults.{is_among, first_control, clock_from, clock_of, is_clock, net_inputs, draft_names, number_in, node_of_element, net_of_draft, is_driven_before, same_control, is_unlike_any, is_mixed, draft_reads, is_no_net, IsDrivenOnce, HasOneClock, HasCleanClock, IsDriven, IsFaultless}
+use Rattle.flat_net.proofs.Names.{eq_true, eq_false}
 use Rattle.flat_net.proofs.Sound.{among_number}
-use Rattle.blif_text.specs.Models.{PlainElement, PlainModel}
 use Rattle.blif_text.specs.Library.{Differ}
 use Rattle.hierarchy.specs.Drafted.{starts_with, drafted, draft_of, is_assumed, assumed}
 use Rattle.hierarchy.proofs.NameSets.{none_before}
 use Rattle.blif_writer.specs.Text.{net_words, clock_words}
 use Rattle.blif_writer.specs.Model.{init_of, element_of, model_of}
 use Rattle.blif_writer.proofs.NodeLines.{input_name}
-use Rattle.blif_writer.proofs.Differing.{AreApart, differ_from}
+use Rattle.blif_writer.proofs.Differing.{differ_from}
 use Rattle.blif_writer.proofs.Valid.{names_long, whole_apart, EachNode, each_node}
 
 -- ---- the draft
@@ -268,9 +265,9 @@ driven n v = record { none = none }
 
 pub faultless : (n : Net) → IsValid n → IsFaultless (net_draft n)
 faultless n v = record {
-    driven_once = driven_once n v;
-    one_clock = one_clock n;
-    clean_clock = clean_clock n v;
-    driven = driven n v;
-    ordered = (v.ordered.0, subst (λ (m : Net). IsOrder m v.ordered.0) (sym (net_again n v)) v.ordered.1);
+  driven_once = driven_once n v;
+  one_clock = one_clock n;
+  clean_clock = clean_clock n v;
+  driven = driven n v;
+  ordered = (v.ordered.0, subst (λ (m : Net). IsOrder m v.ordered.0) (sym (net_again n v)) v.ordered.1);
 }

@@ -1,8 +1,7 @@
 -- The statements of a flat text spell one model, and reading the text gives it.
-use Rattle.std.proofs.Common.{◌≡◌, ◌≢◌, ℕ, ◌+◌, ◌-◌, ◌<◌, ◌⊎◌, inl, inr, Bool, true, false, List, [], ◌∷◌, ◌++◌, length, map, Option, Some, None, Ok, refl, sym, ap, subst, ◌∙◌, append_assoc, arith}
-use Rattle.std.specs.Prelude.{codes, if◌then◌else◌}
-use Rattle.std.specs.List.{list_all, list_any, flat_map}
-use Rattle.std.specs.Str.{bytes_eq}
+use Rattle.std.proofs.Common.{◌≡◌, ℕ, ◌+◌, ◌-◌, ◌⊎◌, inl, inr, Bool, true, false, List, [], ◌∷◌, ◌++◌, length, map, Option, Some, None, Ok, refl, sym, ap, subst, ◌∙◌, append_assoc, arith}
+use Rattle.std.specs.Prelude.{codes}
+use Rattle.std.specs.List.{list_all, flat_map}
 use Rattle.std.proofs.lemmas.List.{length-append, length-map, append-nil}
 use Rattle.tmr_base.specs.declared.ids.Edge.{Edge}
 use Rattle.tmr_base.specs.declared.ids.Edge.TheVariants.{Rising, Falling}
@@ -10,15 +9,15 @@ use Rattle.table_cover.specs.Cover.{PlainCover, IsCover, is_mark}
 use Rattle.flat_net.specs.Net.{Net, Node, Table, Register, name_of}
 use Rattle.flat_net.proofs.Names.{eq_false}
 use Rattle.blif_text.specs.Word.{word_of}
-use Rattle.blif_text.specs.Text.{Statement, statement, statement_by, statements}
+use Rattle.blif_text.specs.Text.{Statement, statement}
 use Rattle.blif_text.specs.Library.{Differ}
 use Rattle.blif_text.specs.Views.{marked, marked_rows}
-use Rattle.blif_text.specs.Kind.{is_among, Marks, row_of, tokens_of, first_bad}
-use Rattle.blif_text.specs.Models.{PlainElement, PlainModel, Table as TableElement, Register as LatchElement, edge, control, init, register, row_then, rows, table, element_then, elements, listed, is_port_in, is_port_out, appearing, model, own_then, own, model_then, models}
-use Rattle.blif_text.specs.Reading.{unless_bad, reading_of, reading}
+use Rattle.blif_text.specs.Kind.{Marks, row_of, tokens_of, first_bad}
+use Rattle.blif_text.specs.Models.{PlainElement, PlainModel, Table as TableElement, Register as LatchElement, edge, init, register, row_then, rows, table, elements, listed, is_port_in, is_port_out, appearing, model, own_then, own, model_then, models}
+use Rattle.blif_text.specs.Reading.{reading_of, reading}
 use Rattle.blif_text.proofs.Tables.{table_is}
 use Rattle.hierarchy.proofs.NameSets.{none_before}
-use Rattle.blif_writer.specs.Text.{bit, edge_word, row_line, row_lines, net_words, clock_words, control_words, node_lines, flat_lines, lines_text, flat_text}
+use Rattle.blif_writer.specs.Text.{bit, edge_word, row_line, row_lines, net_words, clock_words, node_lines, flat_lines, flat_text}
 use Rattle.blif_writer.specs.Model.{init_of, element_of, model_of}
 use Rattle.blif_writer.proofs.Clean.{numbered, statements_again}
 use Rattle.blif_writer.proofs.KindLaws.{AreRows, rows_from, IsControl, IsSpelled, AreSpelled, IsText, first_word, bit_is, row_read, row_statement, row_numbered, table_statement, table_numbered, latch_words, latch_statement, latch_numbered, model_statement, inputs_statement, outputs_statement, behind_ports, flat_numbered, text_good, text_lines}

@@ -1,17 +1,16 @@
 -- What a valid design gives to its text.
-use Rattle.std.proofs.Common.{◌≡◌, ◌≢◌, ℕ, zero, suc, ◌+◌, ◌-◌, ◌<◌, ◌≤◌, Bool, true, false, List, [], ◌∷◌, ◌++◌, length, map, get_or, Option, Some, None, refl, sym, ap, subst, ◌∙◌, append_assoc, arith}
-use Rattle.std.specs.Prelude.{codes, All, Contains}
-use Rattle.std.proofs.lemmas.List.{length-append, length-map, append-nil, get_or-map, get_or_append_left, get_or_default}
+use Rattle.std.proofs.Common.{◌≡◌, ℕ, suc, ◌+◌, ◌<◌, true, false, List, [], ◌∷◌, ◌++◌, length, map, get_or, Option, Some, None, sym, subst, ◌∙◌, arith}
+use Rattle.std.specs.Prelude.{All}
+use Rattle.std.proofs.lemmas.List.{length-append, length-map, append-nil, get_or-map, get_or_default}
 use Rattle.std.proofs.lemmas.List.Elements.{All-head, All-tail}
 use Rattle.tmr_base.specs.Names.{is_name}
 use Rattle.tmr_base.specs.declared.ids.Edge.{Edge}
 use Rattle.flat_net.specs.Net.{Net, Node, Table, Register, IsValid, IsWired, IsClockOf, net_count, net_names, name_of, node_of, node_name}
-use Rattle.blif_text.specs.Library.{Differ}
 use Rattle.blif_writer.specs.Text.{net_words, clock_words}
 use Rattle.blif_writer.proofs.Clean.{AreNames, names_join}
 use Rattle.blif_writer.proofs.KindLaws.{IsControl, IsSpelled, AreSpelled, IsText}
 use Rattle.blif_writer.proofs.NodeLines.{input_name, node_at, name_is}
-use Rattle.blif_writer.proofs.Differing.{IsOther, AreApart, other_from, apart_from, differ_from, apart_put, apart_left}
+use Rattle.blif_writer.proofs.Differing.{AreApart, other_from, apart_from, differ_from, apart_put, apart_left}
 
 pub names_long : (n : Net) → length (net_names n) ≡ net_count n
 names_long n = simp (length-append, length-map)
@@ -90,10 +89,10 @@ spelled_nodes n (node ∷ nodes) each = (each.0, spelled_nodes n nodes each.1)
 -- a valid design has a text
 pub valid_text : (n : Net) → IsValid n → IsText n
 valid_text n v = record {
-    model = v.model_is_name;
-    inputs = names_join n.inputs (clock_words n.clock) (inputs_are n v) (clock_names n.clock (control_is n v));
-    inputs_differ = differ_from (n.inputs ++ clock_words n.clock) (apart_left (n.inputs ++ clock_words n.clock) (map node_name n.nodes) (whole_apart n v));
-    outputs = net_names_are n n.outputs v v.outputs_in_range;
-    outputs_differ = differ_from (net_words n n.outputs) (outputs_apart n v);
-    nodes = spelled_nodes n n.nodes (each_node n (IsSpelled n) (λ x node lt at. spelled_node n node v (subst (λ (w : List ℕ). is_name w ≡ true) (name_is n x node at) (v.names_are_names x lt)) (v.wired x node at)));
+  model = v.model_is_name;
+  inputs = names_join n.inputs (clock_words n.clock) (inputs_are n v) (clock_names n.clock (control_is n v));
+  inputs_differ = differ_from (n.inputs ++ clock_words n.clock) (apart_left (n.inputs ++ clock_words n.clock) (map node_name n.nodes) (whole_apart n v));
+  outputs = net_names_are n n.outputs v v.outputs_in_range;
+  outputs_differ = differ_from (net_words n n.outputs) (outputs_apart n v);
+  nodes = spelled_nodes n n.nodes (each_node n (IsSpelled n) (λ x node lt at. spelled_node n node v (subst (λ (w : List ℕ). is_name w ≡ true) (name_is n x node at) (v.names_are_names x lt)) (v.wired x node at)));
 }

@@ -1,6 +1,5 @@
 -- How many bytes a flat text has.
-use Rattle.std.specs.Prelude.{ℕ, ◌+◌, ◌*◌, List, length, sum_by}
-use Rattle.table_cover.specs.Cover.{PlainCover}
+use Rattle.std.specs.Prelude.{ℕ, ◌+◌, List, sum_by}
 use Rattle.flat_net.specs.Net.{Net, Node, Table, Register, name_of}
 use Rattle.hierarchy.specs.FlatText.{spaced, all_spaced, rows_length, control_length}
 use Rattle.blif_writer.specs.Text.{clock_words}

@@ -1,5 +1,5 @@
 -- The one model that the flat text of a design spells.
-use Rattle.std.specs.Prelude.{ℕ, Bool, true, false, ◌++◌, map}
+use Rattle.std.specs.Prelude.{Bool, true, false, ◌++◌, map}
 use Rattle.blif_text.specs.declared.library.Init.{Init}
 use Rattle.blif_text.specs.declared.library.Init.TheVariants.{Zero, One}
 use Rattle.blif_text.specs.Models.{PlainElement, PlainModel, Table as TableElement, Register as LatchElement}
