@@ -2,7 +2,8 @@
 ghost use Rattle.std.specs.Prelude.{◌≡◌, ◌≤◌, ◌++◌, ◌∷◌, [], ℕ, IfOk, OnOk, Ok, codes, length};
 ghost use Rattle.blif_text.specs.Reading.{reading};
 ghost use Rattle.hierarchy.specs.FlatText.{text_length};
-ghost use Rattle.blif_writer.specs.Text.{flat_text, line_text, net_words, clock_words};
+ghost use Rattle.blif_writer.specs.Left.{spaced_line};
+ghost use Rattle.blif_writer.specs.Text.{flat_text, net_words, clock_words};
 ghost use Rattle.blif_writer.specs.Length.{flat_length};
 ghost use Rattle.blif_writer.specs.Model.{model_of};
 ghost use Rattle.blif_writer.specs.NetOf.{IsNetOf};
@@ -15,7 +16,7 @@ use tmr_base::OutOfMemory;
 
 /// Puts the line of the model's name.
 fn put_model(out: &mut Vec<u8>, net: &FlatNet) -> Result<(), AllocError>
-    ensures { OnOk result (out.new.items ≡ out.old.items ++ line_text (codes ".model" ∷ net.now.net.model ∷ [])) }
+    ensures { OnOk result (out.new.items ≡ out.old.items ++ spaced_line (codes ".model") (net.now.net.model ∷ [])) }
 {
     out.extend_from_slice(b".model")?;
     put_word(out, net.model().bytes())?;
@@ -24,8 +25,9 @@ fn put_model(out: &mut Vec<u8>, net: &FlatNet) -> Result<(), AllocError>
 }
 
 /// Puts the line of the inputs, of which the clock is the last.
+#[tactic(auto, using(crate::proofs::Putting::spaced_append))]
 fn put_input_line(out: &mut Vec<u8>, net: &FlatNet) -> Result<(), AllocError>
-    ensures { OnOk result (out.new.items ≡ out.old.items ++ line_text (codes ".inputs" ∷ (net.now.net.inputs ++ clock_words net.now.net.clock))) }
+    ensures { OnOk result (out.new.items ≡ out.old.items ++ spaced_line (codes ".inputs") (net.now.net.inputs ++ clock_words net.now.net.clock)) }
 {
     out.extend_from_slice(b".inputs")?;
     put_inputs(out, net)?;
@@ -35,8 +37,9 @@ fn put_input_line(out: &mut Vec<u8>, net: &FlatNet) -> Result<(), AllocError>
 }
 
 /// Puts the line of the outputs.
+#[tactic(auto, using(crate::proofs::Putting::spaced_append))]
 fn put_output_line(out: &mut Vec<u8>, net: &FlatNet) -> Result<(), AllocError>
-    ensures { OnOk result (out.new.items ≡ out.old.items ++ line_text (codes ".outputs" ∷ net_words net.now.net net.now.net.outputs)) }
+    ensures { OnOk result (out.new.items ≡ out.old.items ++ spaced_line (codes ".outputs") (net_words net.now.net net.now.net.outputs)) }
 {
     out.extend_from_slice(b".outputs")?;
     put_outputs(out, net)?;
