@@ -1,8 +1,8 @@
 -- The lines of nodes, node by node.
-use Rattle.std.proofs.Common.{◌≡◌, ℕ, ◌+◌, ◌-◌, ◌<◌, ◌≤◌, Bool, true, List, [], ◌∷◌, ◌++◌, length, map, drop, get_or, slice_get, Option, Some, None, refl, sym, ap, ◌∙◌, append_assoc, arith}
+use Rattle.std.proofs.Common.{◌≡◌, ℕ, ◌+◌, ◌-◌, ◌<◌, Bool, true, List, [], ◌∷◌, ◌++◌, length, map, drop, get_or, slice_get, Option, Some, None, refl, sym, ap, ◌∙◌, append_assoc, arith}
 use Rattle.std.specs.Prelude.{codes}
 use Rattle.std.specs.List.{flat_map}
-use Rattle.std.proofs.lemmas.List.{append-nil, drop_more, drop_all, get_or-map, get_or_append_left, get_or-append-add}
+use Rattle.std.proofs.lemmas.List.{append-nil, drop_more, get_or-map, get_or_append_left, get_or-append-add}
 use Rattle.std.proofs.lemmas.List.Concat.{flat_map-append}
 use Rattle.std.proofs.lemmas.Option.{slice_get-get_or}
 use Rattle.table_cover.specs.Cover.{PlainCover}
@@ -89,6 +89,3 @@ node_put n i x out new total lt place put e = go (get_or n.nodes i (Register [] 
         let left : drop i n.nodes ≡ node ∷ drop (i + 1) n.nodes = drop_more n.nodes i (Register [] start 0) lt ∙ ap (λ (m : Node). m ∷ drop (i + 1) n.nodes) is in
         let both : nodes_left n i ≡ lines_text (node_lines n node) ++ rest = ap (λ (ms : List Node). lines_text (flat_map (node_lines n) ms)) left ∙ flat_map-append line_text (node_lines n node) (flat_map (node_lines n) (drop (i + 1) n.nodes)) in
         ap (λ (o : List ℕ). o ++ rest) (put ∙ ap (λ (o : Option Node). out ++ lines_text (lines_at n o)) there) ∙ (append_assoc out (lines_text (node_lines n node)) rest ∙ (ap (λ (t : List ℕ). out ++ t) (sym both) ∙ e))
-
-pub nodes_put : (n : Net) (i : ℕ) (out total : List ℕ) → length n.nodes ≤ i → out ++ nodes_left n i ≡ total → out ≡ total
-nodes_put n i out total le e = sym (append-nil out) ∙ (ap (λ (ms : List Node). out ++ lines_text (flat_map (node_lines n) ms)) (sym (drop_all i n.nodes le)) ∙ e)

@@ -1,7 +1,7 @@
 -- Words that are put one after the other, and lines of them.
-use Rattle.std.proofs.Common.{◌≡◌, ℕ, ◌+◌, ◌<◌, ◌≤◌, List, [], ◌∷◌, ◌++◌, length, map, drop, get_or, slice_get, Some, sym, ap, ◌∙◌, append_assoc, arith}
+use Rattle.std.proofs.Common.{◌≡◌, ℕ, ◌+◌, ◌<◌, List, [], ◌∷◌, ◌++◌, length, map, drop, get_or, slice_get, Some, sym, ap, ◌∙◌, append_assoc, arith}
 use Rattle.std.specs.List.{join_with_byte}
-use Rattle.std.proofs.lemmas.List.{append-nil, drop_more, drop_all, get_or-map, length-map}
+use Rattle.std.proofs.lemmas.List.{append-nil, drop_more, get_or-map, length-map}
 use Rattle.std.proofs.lemmas.List.Concat.{flat_map-append}
 use Rattle.std.proofs.lemmas.Option.{get_or_from_slice_get}
 use Rattle.flat_net.specs.Net.{Net, name_of}
@@ -25,10 +25,6 @@ net_put n nets i x out new total word lt is named put e =
 
 pub there : (xs : List ℕ) (i x : ℕ) → slice_get xs i ≡ Some x → x ≡ get_or xs i 0
 there xs i x e = sym (get_or_from_slice_get xs i x 0 e)
-
--- all words are put
-pub words_put : (out total : List ℕ) (words : List (List ℕ)) (i : ℕ) → length words ≤ i → out ++ spaced (drop i words) ≡ total → out ≡ total
-words_put out total words i le e = sym (append-nil out) ∙ (ap (λ (ws : List (List ℕ)). out ++ spaced ws) (sym (drop_all i words le)) ∙ e)
 
 pub joined : (w : List ℕ) (ws : List (List ℕ)) → join_with_byte 32 (w ∷ ws) ≡ w ++ spaced ws
 joined w [] = sym (append-nil w)
@@ -62,6 +58,3 @@ pub line_more : {A : Type 0} (f : A → List (List ℕ)) (out new total : List �
 line_more f out new total xs i x lt is put e =
     let rest : List ℕ = lines_text (map f (drop (i + 1) xs)) in
     ap (λ (o : List ℕ). o ++ rest) put ∙ (append_assoc out (line_text (f x)) rest ∙ (ap (λ y. out ++ (line_text (f y) ++ rest)) is ∙ (ap (λ ys. out ++ lines_text (map f ys)) (sym (drop_more xs i x lt)) ∙ e)))
-
-pub lines_done : {A : Type 0} (f : A → List (List ℕ)) (out total : List ℕ) (xs : List A) (i : ℕ) → length xs ≤ i → out ++ lines_text (map f (drop i xs)) ≡ total → out ≡ total
-lines_done f out total xs i le e = sym (append-nil out) ∙ (ap (λ ys. out ++ lines_text (map f ys)) (sym (drop_all i xs le)) ∙ e)

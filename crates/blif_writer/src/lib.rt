@@ -4,6 +4,8 @@
 #![tactic(auto)]
 
 mod nodes;
+#[cfg(test)]
+mod tests;
 mod text;
 mod words;
 
