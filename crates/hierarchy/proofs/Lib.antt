@@ -24,3 +24,8 @@ pub mod NetNames
 pub mod Passing
 pub mod WholeModel
 pub mod FlatKeeps
+pub mod Sums
+pub mod Counting
+pub mod PlacedCounts
+pub mod ElementCounts
+pub mod ModelCounts

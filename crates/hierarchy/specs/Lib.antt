@@ -15,3 +15,4 @@ pub mod Links
 pub mod Walk
 pub mod Naming
 pub mod Flatten
+pub mod Counts

@@ -7,6 +7,7 @@
 #![tactic(auto)]
 
 mod bare;
+mod count;
 mod drafted;
 mod fault;
 mod flat_fault;
