@@ -18,7 +18,7 @@ use Rattle.tmr_base.specs.declared.ids.Edge.{Edge}
 use Rattle.table_cover.specs.Cover.{PlainCover}
 use Rattle.blif_text.specs.declared.library.Init.{Init}
 use Rattle.hierarchy.specs.Walk.{IsInstance}
-use Rattle.hierarchy.proofs.Counting.{adds_as, adds_then, adds_none}
+use Rattle.hierarchy.proofs.Additions.{adds_as, adds_then, adds_none}
 
 pub plain_uses : (is_formal : List ℕ → Bool) (uses : List ℕ → List Use) (number : ℕ) (e : PlainElement) (rest : List PlainElement) → ¬ IsInstance e → uses_with is_formal uses number (e ∷ rest) ≡ map (use_of is_formal) (element_names e) ++ uses_with is_formal uses number rest
 unfolding uses_with

@@ -25,7 +25,11 @@ pub mod Passing
 pub mod WholeModel
 pub mod FlatKeeps
 pub mod Sums
-pub mod Counting
+pub mod Additions
 pub mod PlacedCounts
 pub mod ElementCounts
 pub mod ModelCounts
+pub mod SoundStatements
+pub mod AllCounts
+pub mod FlatCosts
+pub mod MainCosts

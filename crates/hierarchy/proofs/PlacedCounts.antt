@@ -14,7 +14,7 @@ use Rattle.hierarchy.specs.Flat.{step, actual_of}
 use Rattle.hierarchy.specs.FlatText.{capped, spaced}
 use Rattle.hierarchy.specs.Counts.{Use, Formal, Own, use_of, placed_use, own_length, own_one, formal_one, formal_length, by_formal, limited, used, IsShaped, IsCount, IsGrown, Adds, AreApart, sum_of, bound_of}
 use Rattle.hierarchy.proofs.Sums.{sum_same, sum_both, sum_scaled, sum_mapped, sum_none}
-use Rattle.hierarchy.proofs.Counting.{eq_other}
+use Rattle.hierarchy.proofs.Additions.{eq_other}
 
 -- what v gives for the first binding of the formal
 found : (List ℕ × List ℕ → ℕ) → List (List ℕ × List ℕ) → List ℕ → ℕ

@@ -54,7 +54,7 @@ pub(crate) fn times_used(count: &Count, name: &Name) -> u64
 }
 
 /// The formal with this number stands so many times more.
-#[tactic(auto, using(crate::proofs::Counting::adding_laws))]
+#[tactic(auto, using(crate::proofs::Additions::adding_laws))]
 fn add_formal(count: &mut Count, k: usize, name: &Name, times: u64)
     requires formal { number_named count.old.formals.keys name.now ≡ Some k }
     requires shaped { IsShaped count.old }
@@ -68,7 +68,7 @@ fn add_formal(count: &mut Count, k: usize, name: &Name, times: u64)
 }
 
 /// A net of the model's own stands so many times more.
-#[tactic(auto, using(crate::proofs::Counting::adding_laws))]
+#[tactic(auto, using(crate::proofs::Additions::adding_laws))]
 fn add_own(count: &mut Count, name: &Name, times: u64)
     ensures { Adds count.old count.new 0 (times_of times (Own name.now)) }
 {

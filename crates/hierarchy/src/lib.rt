@@ -8,6 +8,7 @@
 
 mod bare;
 mod count;
+mod counting;
 mod drafted;
 mod fault;
 mod flat_fault;

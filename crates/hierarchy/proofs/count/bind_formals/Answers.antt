@@ -1,6 +1,6 @@
 use Rattle.std.proofs.Common.{◌≡◌, ◌<◌, ◌+◌, ◌*◌, List, ℕ, min, length, ap, arith, rules}
 use Rattle.hierarchy.specs.Counts.{used, limited}
-use Rattle.hierarchy.proofs.Counting.{bound_more, moved_more}
+use Rattle.hierarchy.proofs.Additions.{bound_more, moved_more}
 use Rattle.hierarchy.proofs.count.bind_formals.Goals as goal
 
 pub loop-formal-preserved : goal.loop-formal-preserved
