@@ -33,3 +33,8 @@ pub mod SoundStatements
 pub mod AllCounts
 pub mod FlatCosts
 pub mod MainCosts
+pub mod OneFirst
+pub mod OrderOrLoop
+pub mod OneDraftFault
+pub mod OneAnswer
+pub mod Sizing

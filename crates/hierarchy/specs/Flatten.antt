@@ -1,5 +1,6 @@
 -- The flat design of a library, and why it has none.
-use Rattle.std.specs.Prelude.{◌≡◌, ◌≢◌, ◌≤◌, ◌<◌, ℕ, List, Some, None}
+use Rattle.std.specs.Prelude.{◌≡◌, ◌≢◌, ◌≤◌, ◌<◌, ℕ, List, Some, None, Vec}
+use Rattle.std.specs.declared.alloc.Global.{Global}
 use Rattle.blif_text.specs.Models.{PlainModel}
 use Rattle.flat_net.specs.Net.{Net}
 use Rattle.flat_net.specs.Faults.{net_of_draft, IsFaultless, IsFaultOf}
@@ -71,6 +72,12 @@ IsFlatFault library limit (DuplicateFormal name) = IsFirstFault library (placing
 IsFlatFault library limit (BothWays name) = IsFirstFault library (placing.BothWays name)
 IsFlatFault library limit (Recursive names) = IsRecursive library names.items
 IsFlatFault library limit Memory = Unit {0}
+
+-- the same fault, where a loop may be told by any list that is one
+pub data IsSameFault : FlatFault → FlatFault → Type 0 where
+  same : (fault : FlatFault) → IsSameFault fault fault
+  of_models : (names others : Vec (List ℕ) Global) → IsSameFault (Recursive names) (Recursive others)
+  of_tables : (names others : Vec (List ℕ) Global) → IsSameFault (NetOf (net.CombLoop names)) (NetOf (net.CombLoop others))
 
 -- the library has no fault, and its flat design is this one, with that many assumed initial values
 pub record IsFlat (library : List PlainModel) (limit : ℕ) (design : Net) (open_values : ℕ) : Type 0 where

@@ -16,3 +16,4 @@ pub mod Walk
 pub mod Naming
 pub mod Flatten
 pub mod Counts
+pub mod Sizes

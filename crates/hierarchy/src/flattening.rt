@@ -1,14 +1,20 @@
 //! The flat design of a library.
-ghost use Rattle.std.specs.Prelude.{◌≡◌, ◌≤◌, ◌<◌, map, length, All, IfOk, OnOk, IfErr, None};
+ghost use Rattle.std.specs.Prelude.{◌≡◌, ◌≢◌, ◌≤◌, ◌<◌, ◌+◌, ◌*◌, ◌⊎◌, ℕ, map, length, All, IfOk, OnOk, IfErr, IsErrAnd, MatchResult, None};
 ghost use Rattle.blif_text.specs.Library.{IsLibrary, FitsPins, Differ};
 ghost use Rattle.blif_text.specs.Views.{plain_model};
-ghost use Rattle.hierarchy.specs.Graph.{names_of};
+ghost use Rattle.hierarchy.specs.Graph.{graph, names_of};
+ghost use Rattle.hierarchy.specs.Library.{IsPlaceable};
+ghost use Rattle.hierarchy.specs.Found.{IsOrder};
 ghost use Rattle.hierarchy.specs.Flat.{flat_model};
 ghost use Rattle.hierarchy.specs.FlatText.{text_length};
 ghost use Rattle.hierarchy.specs.Clash.{name_clash};
 ghost use Rattle.hierarchy.specs.Walk.{IsReady};
-ghost use Rattle.hierarchy.specs.Flatten.{IsSound, IsSoundFault, IsTextFault, IsFlatFault, IsFlat, Fits, flat_fault_of};
+ghost use Rattle.hierarchy.specs.Flatten.{IsSound, IsSoundFault, IsTextFault, IsFlatFault, IsSameFault, IsFlat, Fits, flat_fault_of};
+ghost use Rattle.hierarchy.specs.Sizes.{row_total};
+ghost use Rattle.hierarchy.specs.declared.flat_fault.FlatFault.{FlatFault};
+ghost use Rattle.hierarchy.specs.declared.flat_fault.FlatFault.TheVariants.{Memory};
 ghost use Rattle.hierarchy.specs.Drafted.{draft_of as draft_of_model};
+ghost use Rattle.flat_net.specs.Net.{Net, net_count, pin_total};
 ghost use Rattle.flat_net.specs.Faults.{net_of_draft, IsFaultless, IsFaultOf};
 
 use crate::bare::filled_models;
@@ -30,6 +36,14 @@ use tmr_base::{Name, OutOfMemory};
 pub struct Flat {
     pub net: FlatNet,
     pub assumed: u32,
+}
+
+/// The names of all models, and an order of the reached ones in which each stands after those that it
+/// places.
+#[derive(Drop)]
+struct Ordered {
+    names: IndexSet<Name>,
+    order: Vec<usize>,
 }
 
 fn placing_fault(fault: PlacingFault) -> FlatFault
@@ -58,15 +72,18 @@ fn ready_rows(
     all_links(alloc, names, &holds, models)
 }
 
-/// The statements of a library that has no fault of its own, or the first such fault.
-fn sound_rows(alloc: Global, models: &[BlifModel]) -> Result<Vec<Row>, FlatFault>
+/// The names of the models of a library that has no fault of its own, and the order of the reached ones, or
+/// the first such fault.
+fn ordered(alloc: Global, models: &[BlifModel]) -> Result<Ordered, FlatFault>
     requires { IsLibrary (map plain_model models.now) }
-    ensures ready { IfOk result (λ rows. IsReady (map plain_model models.now) rows.items) }
+    ensures names { IfOk result (λ found. found.names.keys ≡ names_of (map plain_model models.now)) }
+    ensures placeable { OnOk result (IsPlaceable (map plain_model models.now)) }
+    ensures ordered { IfOk result (λ found. IsOrder (graph (map plain_model models.now)) found.order.items) }
     ensures sound { OnOk result (IsSound (map plain_model models.now)) }
     ensures fault { IfErr result (λ fault. IsSoundFault (map plain_model models.now) fault) }
 {
     match look_over(alloc, models)? {
-        Survey::Sound(names, order) => Ok(ready_rows(alloc, models, &names, &order)?),
+        Survey::Sound(names, order) => Ok(Ordered { names, order }),
         Survey::Misplaced(fault) => Err(placing_fault(fault)),
         Survey::Recursive(names) => Err(FlatFault::Recursive(names)),
     }
@@ -76,10 +93,13 @@ fn sound_rows(alloc: Global, models: &[BlifModel]) -> Result<Vec<Row>, FlatFault
 fn flat_within(
     alloc: Global,
     models: &[BlifModel],
-    rows: &[Row],
+    names: &IndexSet<Name>,
+    order: &[usize],
     limit: u64,
 ) -> Result<BlifModel, FlatFault>
-    requires ready { IsReady (map plain_model models.now) rows.now }
+    requires names { names.now.keys ≡ names_of (map plain_model models.now) }
+    requires placeable { IsPlaceable (map plain_model models.now) }
+    requires ordered { IsOrder (graph (map plain_model models.now)) order.now }
     requires some { 0 < length models.now }
     requires limit { limit ≤ 1073741824 }
     ensures model { IfOk result (λ flat. plain_model flat ≡ flat_model (map plain_model models.now)) }
@@ -87,10 +107,11 @@ fn flat_within(
     ensures clear { OnOk result (name_clash (map plain_model models.now) ≡ None) }
     ensures fault { IfErr result (λ fault. IsTextFault (map plain_model models.now) limit fault) }
 {
-    if !fits(alloc, models, rows, limit)? {
+    if !fits(alloc, models, names, order, limit)? {
         return Err(FlatFault::TooLarge);
     }
-    match named_model(alloc, models, rows) {
+    let rows = ready_rows(alloc, models, names, order)?;
+    match named_model(alloc, models, &rows) {
         Ok(flat) => Ok(flat),
         Err(NamingFault::Clash(text)) => Err(FlatFault::NameClash(text)),
         Err(NamingFault::Memory) => Err(FlatFault::Memory),
@@ -99,7 +120,7 @@ fn flat_within(
 
 /// The design of a flat model.
 #[tactic(auto, using(crate::proofs::FlatKeeps::draft_laws))]
-fn design_of(alloc: Global, flat: &BlifModel) -> Result<FlatNet, NetFault>
+fn built(alloc: Global, flat: &BlifModel) -> Result<FlatNet, NetFault>
     requires pins { All FitsPins (plain_model flat.now).elements }
     requires inputs { Differ (plain_model flat.now).inputs }
     requires outputs { Differ (plain_model flat.now).outputs }
@@ -114,28 +135,65 @@ fn design_of(alloc: Global, flat: &BlifModel) -> Result<FlatNet, NetFault>
     }
 }
 
-/// The flat design of the library, where its flat text has at most `limit` bytes, and the number of its
-/// registers whose initial value is left open.
-///
-/// Each fault but `Memory` comes exactly where it is the first. The library is not changed.
-pub fn flatten(alloc: Global, lib: &Library, limit: u64) -> Result<Flat, FlatFault>
+/// The design of a flat model, which is no larger than the model's text.
+#[tactic(auto, using(crate::proofs::Sizing::sizes))]
+fn design_of(alloc: Global, flat: &BlifModel) -> Result<FlatNet, NetFault>
+    requires pins { All FitsPins (plain_model flat.now).elements }
+    requires inputs { Differ (plain_model flat.now).inputs }
+    requires outputs { Differ (plain_model flat.now).outputs }
+    requires short { text_length (plain_model flat.now) ≤ 1073741824 }
+    ensures ok { IfOk result (λ net. net.net ≡ net_of_draft (draft_of_model (plain_model flat.now))) }
+    ensures faultless { OnOk result (IsFaultless (draft_of_model (plain_model flat.now))) }
+    ensures fault { IfErr result (λ fault. IsFaultOf (draft_of_model (plain_model flat.now)) fault) }
+    ensures nets { IfOk result (λ net. 2 * (net_count net.net + pin_total net.net) ≤ text_length (plain_model flat.now)) }
+    ensures rows { IfOk result (λ net. row_total net.net ≤ text_length (plain_model flat.now)) }
+{
+    match built(alloc, flat) {
+        Ok(net) => {
+            // What an accessor says of each design is needed here: no name is empty.
+            let _inputs = net.input_count();
+            Ok(net)
+        }
+        Err(fault) => Err(fault),
+    }
+}
+
+/// The flat design of the library, or its first fault.
+fn flat_of(alloc: Global, lib: &Library, limit: u64) -> Result<Flat, FlatFault>
     requires { limit ≤ 1073741824 }
     ensures ok { IfOk result (λ flat. IsFlat lib.now limit flat.net.net flat.assumed) }
     ensures fault { IfErr result (λ fault. IsFlatFault lib.now limit fault) }
+    ensures nets { IfOk result (λ flat. 2 * (net_count flat.net.net + pin_total flat.net.net) ≤ limit) }
+    ensures rows { IfOk result (λ flat. row_total flat.net.net ≤ limit) }
 {
     let models = lib.models();
-    let rows = match sound_rows(alloc, models) {
-        Ok(rows) => rows,
-        Err(fault) => return Err(fault),
-    };
-    let flat = match flat_within(alloc, models, &rows, limit) {
-        Ok(flat) => flat,
-        Err(fault) => return Err(fault),
-    };
+    let found = ordered(alloc, models)?;
+    let flat = flat_within(alloc, models, &found.names, &found.order, limit)?;
     let assumed = assumed(&flat);
     match design_of(alloc, &flat) {
         Ok(net) => Ok(Flat { net, assumed }),
         Err(NetFault::Memory) => Err(FlatFault::Memory),
         Err(fault) => Err(FlatFault::Net(fault)),
     }
+}
+
+/// The flat design of the library, where its flat text has at most `limit` bytes, and the number of its
+/// registers whose initial value is left open.
+///
+/// A library has a flat design or a fault, never both, and one of them alone, but that a loop may be told
+/// by any list that is one. That one is the answer, unless there is no memory. Nets and pins of a design
+/// are together at most half of `limit`, and the rows of its covers fill at most `limit` places. The
+/// library is not changed.
+pub fn flatten(alloc: Global, lib: &Library, limit: u64) -> Result<Flat, FlatFault>
+    requires { limit ≤ 1073741824 }
+    ensures ok { IfOk result (λ flat. IsFlat lib.now limit flat.net.net flat.assumed) }
+    ensures ok_only { (n : Net) (open_values : ℕ) → IsFlat lib.now limit n open_values
+        → MatchResult result (λ flat. (flat.net.net ≡ n) × (flat.assumed ≡ open_values)) (λ fault. fault ≡ Memory) }
+    ensures fault { IfErr result (λ fault. IsFlatFault lib.now limit fault) }
+    ensures fault_only { (fault : FlatFault) → fault ≢ Memory → IsFlatFault lib.now limit fault
+        → IsErrAnd result (λ answered. (answered ≡ Memory) ⊎ IsSameFault answered fault) }
+    ensures nets { IfOk result (λ flat. 2 * (net_count flat.net.net + pin_total flat.net.net) ≤ limit) }
+    ensures rows { IfOk result (λ flat. row_total flat.net.net ≤ limit) }
+{
+    flat_of(alloc, lib, limit)
 }

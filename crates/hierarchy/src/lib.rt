@@ -36,3 +36,6 @@ pub use flat_text::text_length;
 pub use flattening::{Flat, flatten};
 use graph::Graph;
 use ports::Ports;
+
+#[cfg(test)]
+mod tests;
