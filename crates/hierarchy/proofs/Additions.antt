@@ -1,19 +1,19 @@
 -- Nets and bytes that are added to a count.
-use Rattle.std.proofs.Common.{◌≡◌, ℕ, zero, suc, ◌+◌, ◌*◌, ◌<◌, ◌≤◌, ◌⊎◌, Bool, true, false, cond, List, [], ◌∷◌, ◌++◌, length, get_or, set, map, take, min, refl, sym, ap, subst, inl, inr, ◌∙◌, arith, Option, Some, None}
+use Rattle.std.proofs.Common.{◌≡◌, ℕ, zero, suc, ◌+◌, ◌*◌, ◌<◌, ◌≤◌, ◌⊎◌, Bool, true, false, cond, List, [], length, get_or, set, take, min, refl, sym, ap, subst, inl, inr, ◌∙◌, arith, Option, Some, None}
 use Rattle.std.specs.Option.{option_map_or}
-use Rattle.std.specs.List.{sum_by, list_any}
+use Rattle.std.specs.List.{sum_by}
 use Rattle.std.specs.Str.{bytes_eq}
 use Rattle.std.proofs.lemmas.Bool.{cases_eq, cases_lt}
-use Rattle.std.proofs.lemmas.List.{take_more, map-append, get_or-set_same, get_or-set_other, get_or_default, length-set}
+use Rattle.std.proofs.lemmas.List.{get_or-set_same, get_or-set_other, get_or_default}
 use Rattle.std.proofs.lemmas.List.Quantifiers.{position-Some}
-use Rattle.std.proofs.lemmas.List.Sums.{sum_by-cons, sum_by-append, sum_by_more}
+use Rattle.std.proofs.lemmas.List.Sums.{sum_by_more}
 use Rattle.std.proofs.lemmas.Slice.Eq.{bytes_eq-Decides}
 use Rattle.std.proofs.Math.Nat.{mul-le-mul_left}
 use Rattle.hierarchy.specs.declared.count.Count.{Count}
 use Rattle.blif_text.specs.Kind.{is_among}
 use Rattle.hierarchy.specs.Graph.{number_named}
-use Rattle.hierarchy.specs.FlatText.{capped, spaced}
-use Rattle.hierarchy.specs.Counts.{Use, Formal, Own, use_of, own_length, own_one, formal_one, formal_length, by_formal, limited, used, IsShaped, Adds, times_of, sum_of, bound_of}
+use Rattle.hierarchy.specs.FlatText.{capped}
+use Rattle.hierarchy.specs.Counts.{Use, Formal, use_of, own_length, own_one, formal_one, formal_length, by_formal, limited, used, Adds, times_of, sum_of, bound_of}
 
 -- ---- products that are kept as far as 64 bits hold them
 
@@ -117,4 +117,3 @@ pub moved_more : (f : List ℕ × List ℕ → ℕ) (bindings : List (List ℕ �
 moved_more f bindings i b total more new below is so_far one now = omega (arith, sum_by_more f bindings i b below, ap f is)
 
 pub ruleset adding_laws = (times_capped)
-

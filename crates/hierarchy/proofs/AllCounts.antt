@@ -1,5 +1,5 @@
 -- The counts of models, each made of those of the models that it places.
-use Rattle.std.proofs.Common.{◌≡◌, ◌≢◌, ℕ, zero, suc, ◌+◌, ◌-◌, ◌<◌, ◌≤◌, ◌⊎◌, Bool, List, [], ◌∷◌, ◌++◌, length, map, get_or, refl, sym, ap, subst, inl, inr, ◌∙◌, arith, Option, Some, None}
+use Rattle.std.proofs.Common.{◌≡◌, ℕ, zero, suc, ◌<◌, ◌≤◌, ◌⊎◌, List, [], ◌∷◌, ◌++◌, length, map, get_or, refl, sym, ap, subst, inl, inr, ◌∙◌, arith, Option, Some, None}
 use Rattle.std.specs.Prelude.{All, Contains, slice_get, option_and_then, option_to_list}
 use Rattle.std.specs.Option.{option_map_or}
 use mathlib.Core.Path.{fun_ext}
@@ -15,11 +15,11 @@ use Rattle.hierarchy.specs.declared.count.Count.{Count}
 use Rattle.hierarchy.specs.Graph.{graph, names_of, number_named, placed_by, placed_in, placed_of, row, Reached}
 use Rattle.hierarchy.specs.Library.{IsPlaceable}
 use Rattle.hierarchy.specs.Found.{IsOrder}
-use Rattle.hierarchy.specs.Faults.{element_fault, model_fault}
+use Rattle.hierarchy.specs.Faults.{element_fault}
 use Rattle.hierarchy.specs.Ports.{ports_of}
 use Rattle.hierarchy.specs.Walk.{model_at}
 use Rattle.hierarchy.specs.Flat.{no_model}
-use Rattle.hierarchy.specs.Counts.{Use, is_formal, uses_with, fixed_with, uses_to, fixed_to, uses_in, fixed_in, count_named, IsTold, IsOutcome, AreCounted, ArePlaces}
+use Rattle.hierarchy.specs.Counts.{Use, is_formal, uses_with, fixed_with, uses_to, fixed_to, uses_in, fixed_in, count_at, count_named, IsTold, IsOutcome, AreCounted, ArePlaces}
 use Rattle.hierarchy.proofs.SoundStatements.{IsSoundPlacing, placing_sound, each_faultless}
 use Rattle.hierarchy.proofs.Moved.{at_model}
 
@@ -31,7 +31,7 @@ placed_there names [] k d model bindings y below is named = absurd (omega arith)
 placed_there names (e ∷ elements) zero d model bindings y below is named = Contains-append_left (placed_by names e) (placed_in names elements) y (subst (λ f. Contains (placed_by names f) y) (sym is) (subst (λ o. Contains (option_to_list o) y) (sym named) (0, omega arith, refl)))
 placed_there names (e ∷ elements) (suc k) d model bindings y below is named = Contains-append_right (placed_by names e) (placed_in names elements) y (placed_there names elements k d model bindings y (omega arith) is named)
 
-row_at : (library : List PlainModel) (x : ℕ) → x < length library → row (graph library) x ≡ placed_in (names_of library) (model_at library x).elements
+pub row_at : (library : List PlainModel) (x : ℕ) → x < length library → row (graph library) x ≡ placed_in (names_of library) (model_at library x).elements
 row_at library x below = go (names_of library) library x below
   where
     go : (names : List (List ℕ)) (models : List PlainModel) (x : ℕ) → x < length models → row (map (placed_of names) models) x ≡ placed_in names (model_at models x).elements
@@ -55,7 +55,7 @@ module _ (library : List PlainModel) (limit : ℕ) (order positions : List ℕ) 
       let told : IsOutcome limit (get_or counts j None) (fixed_in library depth y) (uses_in library depth y) = subst (λ v. IsOutcome limit (get_or counts j None) (fixed_in library depth v) (uses_in library depth v)) at (counted j depth below (omega arith)) in
       let both = to_in library depth y model named in
       let place : slice_get positions y ≡ Some j = subst (λ v. slice_get positions v ≡ Some j) at (places j (omega arith)) in
-      let found : count_named (names_of library) positions counts model ≡ get_or counts j None = ap (λ o. option_and_then (λ p. get_or counts p None) (option_and_then (slice_get positions) o)) named ∙ ap (option_and_then (λ p. get_or counts p None)) place in
+      let found : count_named (names_of library) positions counts model ≡ get_or counts j None = ap (option_and_then (count_at positions counts)) named ∙ ap (option_and_then (λ p. get_or counts p None)) place in
       subst (λ o. IsOutcome limit o (fixed_to library (suc depth) model) (uses_to library (suc depth) model)) (sym found) (subst (λ f. IsOutcome limit (get_or counts j None) f (uses_to library (suc depth) model)) (sym both.0) (subst (λ us. IsOutcome limit (get_or counts j None) (fixed_in library depth y) us) (sym both.1) told))
 
   pub all_told : (x depth : ℕ) → get_or order (length counts) 0 ≡ x → length counts ≤ depth → All (IsTold limit (count_named (names_of library) positions counts) (fixed_to library depth) (uses_to library depth)) (model_at library x).elements

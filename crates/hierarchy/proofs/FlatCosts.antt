@@ -1,27 +1,25 @@
 -- The length of the flat elements of a model, wherever it is placed.
-use Rattle.std.proofs.Common.{◌≡◌, ℕ, zero, suc, ◌+◌, ◌-◌, ◌<◌, ◌≤◌, ◌⊎◌, Bool, true, false, cond, ◌||◌, List, [], ◌∷◌, ◌++◌, length, map, get_or, refl, sym, ap, subst, inl, inr, ◌∙◌, arith, Option, Some, None}
-use Rattle.std.specs.Prelude.{All, Contains, slice_get, option_and_then}
+use Rattle.std.proofs.Common.{◌≡◌, ℕ, ◌+◌, Bool, true, false, cond, List, [], ◌∷◌, ◌++◌, length, map, refl, sym, ap, ◌∙◌, arith, Option, Some, None}
+use Rattle.std.specs.Prelude.{All}
 use Rattle.std.specs.Option.{option_map_or}
 use Rattle.std.specs.List.{sum_by}
 use Rattle.std.proofs.lemmas.List.{length-append, map-append}
-use Rattle.std.proofs.lemmas.List.Sums.{sum_by-cons, sum_by-append, sum_by-le-sum_by}
+use Rattle.std.proofs.lemmas.List.Sums.{sum_by-cons, sum_by-append}
 use Rattle.std.proofs.lemmas.List.Elements.{All-head, All-tail}
 use Rattle.tmr_base.specs.declared.ids.Edge.{Edge}
-use Rattle.blif_text.specs.Models.{PlainElement, Table, Register, Instance, PlainModel}
-use Rattle.hierarchy.specs.Graph.{graph, names_of, number_named, model_named, Reached}
-use Rattle.hierarchy.specs.Flat.{Level, NetElement, NetTable, NetRegister, net_text, resolve, resolved_control, named, named_control, path_of, step, actual_of, elements_with, elements_to}
-use Rattle.hierarchy.specs.FlatText.{spaced, all_spaced, control_length, element_length, rows_length}
-use Rattle.hierarchy.specs.Walk.{model_at}
-use Rattle.hierarchy.specs.Counts.{Use, Formal, Own, use_of, placed_use, control_names, control_fixed, element_names, uses_with, fixed_with, is_formal, uses_to, fixed_to, uses_in, fixed_in, least, own_length}
+use Rattle.blif_text.specs.Models.{PlainElement, Table, Register, Instance}
+use Rattle.hierarchy.specs.Flat.{Level, NetElement, NetTable, NetRegister, net_text, resolve, resolved_control, named, named_control, path_of, step, actual_of, elements_with}
+use Rattle.hierarchy.specs.FlatText.{spaced, all_spaced, control_length, element_length}
+use Rattle.hierarchy.specs.Counts.{Use, Formal, Own, use_of, placed_use, control_names, control_fixed, uses_with, fixed_with, is_formal}
 use Rattle.hierarchy.proofs.Sums.{sum_same, sum_mapped}
 
 -- a blank and the text of a net of a model placed at these levels
-use_length : List Level → Use → ℕ
+unfoldable pub use_length : List Level → Use → ℕ
 use_length levels (Formal name) = spaced (net_text (resolve levels name))
 use_length levels (Own text) = 1 + (length (path_of levels) + length text)
 
 -- the levels bind nothing but formals
-pub Binds : List Level → (List ℕ → Bool) → Type 0
+unfoldable pub Binds : List Level → (List ℕ → Bool) → Type 0
 Binds [] is_formal = ⊥
 Binds (level ∷ outer) is_formal = (name : List ℕ) → is_formal name ≡ false → actual_of level.bindings name ≡ None
 
@@ -63,30 +61,36 @@ all_placed_length levels is_formal number bindings uses binds =
     ∙ sym (sum_mapped (use_length levels) (placed_use is_formal number bindings) uses)
 
 -- the flat elements of the models that statements place have this length
-Costs : (List Level → List ℕ → List NetElement) → (List ℕ → ℕ) → (List ℕ → List Use) → List Level → ℕ → PlainElement → Type 0
+unfoldable pub Costs : (List Level → List ℕ → List NetElement) → (List ℕ → ℕ) → (List ℕ → List Use) → List Level → ℕ → PlainElement → Type 0
 Costs inner fixed uses levels number (Table pins out cover) = Unit {0}
 Costs inner fixed uses levels number (Register pin out control init) = Unit {0}
 Costs inner fixed uses levels number (Instance model bindings) = sum_by element_length (map named (inner (record { path = path_of levels ++ step number; bindings = bindings } ∷ levels) model)) ≡ fixed model + sum_by (use_length (record { path = path_of levels ++ step number; bindings = bindings } ∷ levels)) (uses model)
 
-with_length : (inner : List Level → List ℕ → List NetElement) (fixed : List ℕ → ℕ) (uses : List ℕ → List Use) (levels : List Level) (is_formal : List ℕ → Bool) → Binds levels is_formal → (number : ℕ) (elements : List PlainElement) → All (λ e. (n : ℕ) → Costs inner fixed uses levels n e) elements → sum_by element_length (map named (elements_with inner levels number elements)) ≡ fixed_with fixed elements + sum_by (use_length levels) (uses_with is_formal uses number elements)
+pub with_length : (inner : List Level → List ℕ → List NetElement) (fixed : List ℕ → ℕ) (uses : List ℕ → List Use) (levels : List Level) (is_formal : List ℕ → Bool) → Binds levels is_formal → (number : ℕ) (elements : List PlainElement) → All (λ e. (n : ℕ) → Costs inner fixed uses levels n e) elements → sum_by element_length (map named (elements_with inner levels number elements)) ≡ fixed_with fixed elements + sum_by (use_length levels) (uses_with is_formal uses number elements)
 unfolding elements_with uses_with fixed_with Costs
 with_length inner fixed uses levels is_formal binds number [] costs = refl
-with_length inner fixed uses levels is_formal binds number (Table pins out cover ∷ elements) costs = omega (arith,
-    sum_by-cons element_length (named (NetTable (map (resolve levels) pins) (resolve levels out) cover)) (map named (elements_with inner levels number elements)),
-    sum_by-append (use_length levels) (map (use_of is_formal) (pins ++ out ∷ [])) (uses_with is_formal uses number elements),
-    names_length levels is_formal (pins ++ out ∷ []) binds,
-    table_length levels pins out,
-    with_length inner fixed uses levels is_formal binds number elements (All-tail (λ e. (n : ℕ) → Costs inner fixed uses levels n e) (Table pins out cover) elements costs))
-with_length inner fixed uses levels is_formal binds number (Register pin out control init ∷ elements) costs = omega (arith,
-    sum_by-cons element_length (named (NetRegister (resolve levels pin) (resolve levels out) (resolved_control levels control) init)) (map named (elements_with inner levels number elements)),
-    sum_by-append (use_length levels) (map (use_of is_formal) (pin ∷ out ∷ control_names control)) (uses_with is_formal uses number elements),
-    names_length levels is_formal (pin ∷ out ∷ control_names control) binds,
-    latch_length levels pin out control,
-    with_length inner fixed uses levels is_formal binds number elements (All-tail (λ e. (n : ℕ) → Costs inner fixed uses levels n e) (Register pin out control init) elements costs))
-with_length inner fixed uses levels is_formal binds number (Instance model bindings ∷ elements) costs = omega (arith,
-    ap (sum_by element_length) (map-append named (inner (record { path = path_of levels ++ step number; bindings = bindings } ∷ levels) model) (elements_with inner levels (number + 1) elements)),
-    sum_by-append element_length (map named (inner (record { path = path_of levels ++ step number; bindings = bindings } ∷ levels) model)) (map named (elements_with inner levels (number + 1) elements)),
-    sum_by-append (use_length levels) (map (placed_use is_formal number bindings) (uses model)) (uses_with is_formal uses (number + 1) elements),
-    all_placed_length levels is_formal number bindings (uses model) binds,
-    All-head (λ e. (n : ℕ) → Costs inner fixed uses levels n e) (Instance model bindings) elements costs number,
-    with_length inner fixed uses levels is_formal binds (number + 1) elements (All-tail (λ e. (n : ℕ) → Costs inner fixed uses levels n e) (Instance model bindings) elements costs))
+with_length inner fixed uses levels is_formal binds number (Table pins out cover ∷ elements) costs = omega (
+  arith,
+  sum_by-cons element_length (named (NetTable (map (resolve levels) pins) (resolve levels out) cover)) (map named (elements_with inner levels number elements)),
+  sum_by-append (use_length levels) (map (use_of is_formal) (pins ++ out ∷ [])) (uses_with is_formal uses number elements),
+  names_length levels is_formal (pins ++ out ∷ []) binds,
+  table_length levels pins out,
+  with_length inner fixed uses levels is_formal binds number elements (All-tail (λ e. (n : ℕ) → Costs inner fixed uses levels n e) (Table pins out cover) elements costs),
+)
+with_length inner fixed uses levels is_formal binds number (Register pin out control init ∷ elements) costs = omega (
+  arith,
+  sum_by-cons element_length (named (NetRegister (resolve levels pin) (resolve levels out) (resolved_control levels control) init)) (map named (elements_with inner levels number elements)),
+  sum_by-append (use_length levels) (map (use_of is_formal) (pin ∷ out ∷ control_names control)) (uses_with is_formal uses number elements),
+  names_length levels is_formal (pin ∷ out ∷ control_names control) binds,
+  latch_length levels pin out control,
+  with_length inner fixed uses levels is_formal binds number elements (All-tail (λ e. (n : ℕ) → Costs inner fixed uses levels n e) (Register pin out control init) elements costs),
+)
+with_length inner fixed uses levels is_formal binds number (Instance model bindings ∷ elements) costs = omega (
+  arith,
+  ap (sum_by element_length) (map-append named (inner (record { path = path_of levels ++ step number; bindings = bindings } ∷ levels) model) (elements_with inner levels (number + 1) elements)),
+  sum_by-append element_length (map named (inner (record { path = path_of levels ++ step number; bindings = bindings } ∷ levels) model)) (map named (elements_with inner levels (number + 1) elements)),
+  sum_by-append (use_length levels) (map (placed_use is_formal number bindings) (uses model)) (uses_with is_formal uses (number + 1) elements),
+  all_placed_length levels is_formal number bindings (uses model) binds,
+  All-head (λ e. (n : ℕ) → Costs inner fixed uses levels n e) (Instance model bindings) elements costs number,
+  with_length inner fixed uses levels is_formal binds (number + 1) elements (All-tail (λ e. (n : ℕ) → Costs inner fixed uses levels n e) (Instance model bindings) elements costs),
+)

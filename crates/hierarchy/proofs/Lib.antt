@@ -17,7 +17,6 @@ pub mod Linked
 pub mod Moved
 pub mod BareLaws
 pub mod Resolving
-pub mod Lengths
 pub mod PathTexts
 pub mod Totals
 pub mod NetNames

@@ -1,16 +1,14 @@
 -- The count of one model.
-use Rattle.std.proofs.Common.{◌≡◌, ℕ, ◌+◌, ◌*◌, ◌<◌, ◌≤◌, Bool, true, false, cond, List, [], ◌∷◌, length, map, min, refl, sym, ap, subst, ◌∙◌, arith, Option, Some, None}
+use Rattle.std.proofs.Common.{◌≡◌, ℕ, ◌+◌, ◌<◌, ◌≤◌, Bool, true, false, cond, List, map, min, sym, subst, ◌∙◌, arith, Option}
 use Rattle.std.specs.Prelude.{All}
 use Rattle.std.specs.List.{sum_by}
 use Rattle.std.specs.Str.{bytes_eq}
-use Rattle.std.proofs.lemmas.List.Sums.{sum_by-cons, sum_by-le-sum_by}
+use Rattle.std.proofs.lemmas.List.Sums.{sum_by-le-sum_by}
 use Rattle.blif_text.specs.Kind.{is_among}
-use Rattle.blif_text.specs.Models.{PlainElement}
 use Rattle.blif_text.specs.declared.library.Element.{Element}
 use Rattle.blif_text.specs.Views.{plain_element}
 use Rattle.hierarchy.specs.declared.count.Count.{Count}
-use Rattle.hierarchy.specs.FlatText.{capped, spaced}
-use Rattle.hierarchy.specs.Counts.{Use, Formal, Own, own_length, own_one, formal_one, formal_length, by_formal, least, limited, used, fixed_with, uses_with, IsCount, IsEmptyCount, IsTold, IsAdded, Adds, sum_of}
+use Rattle.hierarchy.specs.Counts.{Use, Formal, Own, own_length, own_one, formal_one, by_formal, least, fixed_with, uses_with, IsCount, IsEmptyCount, IsTold, IsAdded, Adds, sum_of}
 use Rattle.hierarchy.proofs.Sums.{sum_same, sum_both}
 use Rattle.hierarchy.proofs.PlacedCounts.{lengths_below}
 

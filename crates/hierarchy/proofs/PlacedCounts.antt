@@ -1,10 +1,10 @@
 -- The nets of a placed model, counted in the model that places it.
-use Rattle.std.proofs.Common.{◌≡◌, ℕ, zero, suc, ◌+◌, ◌-◌, ◌*◌, ◌<◌, ◌≤◌, Bool, true, false, cond, ◌||◌, List, [], ◌∷◌, ◌++◌, length, get_or, map, min, refl, sym, ap, subst, ◌∙◌, arith, Option, Some, None}
+use Rattle.std.proofs.Common.{◌≡◌, ℕ, ◌+◌, ◌-◌, ◌*◌, ◌≤◌, Bool, true, false, cond, ◌||◌, List, [], ◌∷◌, ◌++◌, length, get_or, map, min, refl, sym, ap, subst, ◌∙◌, arith, Option, Some, None}
 use Rattle.std.specs.Option.{option_map_or}
-use Rattle.std.specs.List.{sum_by, list_any}
+use Rattle.std.specs.List.{sum_by}
 use Rattle.std.specs.Str.{bytes_eq}
 use Rattle.std.proofs.lemmas.List.{length-append}
-use Rattle.std.proofs.lemmas.List.Sums.{sum_by-cons, sum_by-append}
+use Rattle.std.proofs.lemmas.List.Sums.{sum_by-cons}
 use Rattle.std.proofs.lemmas.Slice.Eq.{bytes_eq-Decides}
 use Rattle.blif_text.specs.Kind.{is_among}
 use Rattle.hierarchy.specs.declared.count.Count.{Count}
@@ -12,7 +12,7 @@ use Rattle.hierarchy.specs.Graph.{number_named}
 use Rattle.hierarchy.specs.Faults.{formal_of}
 use Rattle.hierarchy.specs.Flat.{step, actual_of}
 use Rattle.hierarchy.specs.FlatText.{capped, spaced}
-use Rattle.hierarchy.specs.Counts.{Use, Formal, Own, use_of, placed_use, own_length, own_one, formal_one, formal_length, by_formal, limited, used, IsShaped, IsCount, IsGrown, Adds, AreApart, sum_of, bound_of}
+use Rattle.hierarchy.specs.Counts.{Use, Formal, Own, use_of, placed_use, own_length, own_one, formal_one, formal_length, by_formal, limited, used, IsCount, IsGrown, Adds, AreApart, sum_of, bound_of}
 use Rattle.hierarchy.proofs.Sums.{sum_same, sum_both, sum_scaled, sum_mapped, sum_none}
 use Rattle.hierarchy.proofs.Additions.{eq_other}
 
@@ -67,12 +67,14 @@ use_sum v bindings (Own text) apart = sum_none (λ b. by_formal b.0 (Own text) *
 -- over all bindings, each as often as its formal stands, or over all nets: the same
 all_found : (v : List ℕ × List ℕ → ℕ) (bindings : List (List ℕ × List ℕ)) (uses : List Use) → AreApart bindings → sum_by (λ b. sum_by (by_formal b.0) uses * v b) bindings ≡ sum_by (found_by v bindings) uses
 all_found v bindings [] apart = sum_none (λ b. sum_by (by_formal b.0) [] * v b) bindings (λ b. omega arith)
-all_found v bindings (u ∷ uses) apart = omega (arith,
-    sum_same (λ b. sum_by (by_formal b.0) (u ∷ uses) * v b) (λ b. by_formal b.0 u * v b + sum_by (by_formal b.0) uses * v b) bindings (λ b. omega (arith, ap (λ k. k * v b) (sum_by-cons (by_formal b.0) u uses))),
-    sum_both (λ b. by_formal b.0 u * v b) (λ b. sum_by (by_formal b.0) uses * v b) bindings,
-    use_sum v bindings u apart,
-    all_found v bindings uses apart,
-    sum_by-cons (found_by v bindings) u uses)
+all_found v bindings (u ∷ uses) apart = omega (
+  arith,
+  sum_same (λ b. sum_by (by_formal b.0) (u ∷ uses) * v b) (λ b. by_formal b.0 u * v b + sum_by (by_formal b.0) uses * v b) bindings (λ b. omega (arith, ap (λ k. k * v b) (sum_by-cons (by_formal b.0) u uses))),
+  sum_both (λ b. by_formal b.0 u * v b) (λ b. sum_by (by_formal b.0) uses * v b) bindings,
+  use_sum v bindings u apart,
+  all_found v bindings uses apart,
+  sum_by-cons (found_by v bindings) u uses,
+)
 
 -- ---- nets that go by no binding
 
@@ -90,7 +92,7 @@ name_split is_formal number [] name w = omega arith
 name_split is_formal number (b ∷ bindings) name w = go (bytes_eq name b.0) (name_split is_formal number bindings name w)
   where
     go : (t : Bool) → w (option_map_or (use_of is_formal) (actual_of bindings name) (Own (step number ++ name))) ≡ found (λ a. w (use_of is_formal a.1)) bindings name + option_map_or (λ a. 0) (actual_of bindings name) (w (Own (step number ++ name)))
-       → w (option_map_or (use_of is_formal) (cond t (Some b.1) (actual_of bindings name)) (Own (step number ++ name))) ≡ cond t (w (use_of is_formal b.1)) (found (λ a. w (use_of is_formal a.1)) bindings name) + option_map_or (λ a. 0) (cond t (Some b.1) (actual_of bindings name)) (w (Own (step number ++ name)))
+        → w (option_map_or (use_of is_formal) (cond t (Some b.1) (actual_of bindings name)) (Own (step number ++ name))) ≡ cond t (w (use_of is_formal b.1)) (found (λ a. w (use_of is_formal a.1)) bindings name) + option_map_or (λ a. 0) (cond t (Some b.1) (actual_of bindings name)) (w (Own (step number ++ name)))
     go true rest = omega arith
     go false rest = rest
 
@@ -101,11 +103,13 @@ use_split is_formal number bindings w (Own text) = omega arith
 
 -- the nets of a placed model: those by its formals, and its own
 placed_sum : (is_formal : List ℕ → Bool) (number : ℕ) (bindings : List (List ℕ × List ℕ)) (w : Use → ℕ) (uses : List Use) → AreApart bindings → sum_by w (map (placed_use is_formal number bindings) uses) ≡ sum_by (λ b. sum_by (by_formal b.0) uses * w (use_of is_formal b.1)) bindings + sum_by (left_by number w bindings) uses
-placed_sum is_formal number bindings w uses apart = omega (arith,
-    sum_mapped w (placed_use is_formal number bindings) uses,
-    sum_same (λ u. w (placed_use is_formal number bindings u)) (λ u. found_by (λ b. w (use_of is_formal b.1)) bindings u + left_by number w bindings u) uses (use_split is_formal number bindings w),
-    sum_both (found_by (λ b. w (use_of is_formal b.1)) bindings) (left_by number w bindings) uses,
-    all_found (λ b. w (use_of is_formal b.1)) bindings uses apart)
+placed_sum is_formal number bindings w uses apart = omega (
+  arith,
+  sum_mapped w (placed_use is_formal number bindings) uses,
+  sum_same (λ u. w (placed_use is_formal number bindings u)) (λ u. found_by (λ b. w (use_of is_formal b.1)) bindings u + left_by number w bindings u) uses (use_split is_formal number bindings w),
+  sum_both (found_by (λ b. w (use_of is_formal b.1)) bindings) (left_by number w bindings) uses,
+  all_found (λ b. w (use_of is_formal b.1)) bindings uses apart,
+)
 
 -- ---- nets by formals that are not bound
 
@@ -133,10 +137,12 @@ use_either v bindings (Own text) = omega arith
 
 -- formals stand where they are bound, and where they are not
 either_sum : (v : List ℕ → ℕ) (bindings : List (List ℕ × List ℕ)) (uses : List Use) → AreApart bindings → sum_by (unbound v bindings) uses + sum_by (λ b. sum_by (by_formal b.0) uses * v b.0) bindings ≡ sum_by (by_name v) uses
-either_sum v bindings uses apart = omega (arith,
-    all_found (λ b. v b.0) bindings uses apart,
-    sum_both (unbound v bindings) (found_by (λ b. v b.0) bindings) uses,
-    sum_same (λ u. unbound v bindings u + found_by (λ b. v b.0) bindings u) (by_name v) uses (use_either v bindings))
+either_sum v bindings uses apart = omega (
+  arith,
+  all_found (λ b. v b.0) bindings uses apart,
+  sum_both (unbound v bindings) (found_by (λ b. v b.0) bindings) uses,
+  sum_same (λ u. unbound v bindings u + found_by (λ b. v b.0) bindings u) (by_name v) uses (use_either v bindings),
+)
 
 one : List ℕ → ℕ
 one name = 1
@@ -229,12 +235,15 @@ module _ (placed : Count) (fixed : ℕ) (uses : List Use) (count : IsCount place
   left_ones_sum number = omega (arith, count.places, sum_same (left_by number own_one bindings) (λ u. own_one u + unbound one bindings u) uses (left_ones number bindings), sum_both own_one (unbound one bindings) uses)
 
   left_lengths_sum : (number : ℕ) → fixed + sum_by (left_by number own_length bindings) uses ≡ length (step number) * sum_by (left_by number own_one bindings) uses + (placed.bytes + (sum_by (unbound one bindings) uses + sum_by (unbound length bindings) uses))
-  left_lengths_sum number = omega (arith, count.bytes,
-      sum_same (left_by number own_length bindings) (λ u. length (step number) * left_by number own_one bindings u + (own_length u + (unbound one bindings u + unbound length bindings u))) uses (left_lengths number bindings),
-      sum_both (λ u. length (step number) * left_by number own_one bindings u) (λ u. own_length u + (unbound one bindings u + unbound length bindings u)) uses,
-      sum_scaled (length (step number)) (left_by number own_one bindings) uses,
-      sum_both own_length (λ u. unbound one bindings u + unbound length bindings u) uses,
-      sum_both (unbound one bindings) (unbound length bindings) uses)
+  left_lengths_sum number = omega (
+    arith,
+    count.bytes,
+    sum_same (left_by number own_length bindings) (λ u. length (step number) * left_by number own_one bindings u + (own_length u + (unbound one bindings u + unbound length bindings u))) uses (left_lengths number bindings),
+    sum_both (λ u. length (step number) * left_by number own_one bindings u) (λ u. own_length u + (unbound one bindings u + unbound length bindings u)) uses,
+    sum_scaled (length (step number)) (left_by number own_one bindings) uses,
+    sum_both own_length (λ u. unbound one bindings u + unbound length bindings u) uses,
+    sum_both (unbound one bindings) (unbound length bindings) uses,
+  )
 
   few_places : placed.places ≤ 1073741824
   few_places = omega (arith, count.places, count.bytes, count.small, places_below uses)

@@ -1,18 +1,17 @@
 -- What statements without a fault keep.
-use Rattle.std.proofs.Common.{◌≡◌, ℕ, zero, suc, ◌+◌, ◌<◌, ◌≤◌, Bool, true, false, cond, ◌||◌, not, List, [], ◌∷◌, ◌++◌, length, map, get_or, refl, sym, ap, subst, ◌∙◌, arith, Option, Some, None}
-use Rattle.std.specs.Prelude.{All, slice_get, option_map, option_and_then}
-use Rattle.std.specs.List.{list_any}
+use Rattle.std.proofs.Common.{◌≡◌, ℕ, zero, suc, Bool, true, false, cond, ◌||◌, not, List, [], ◌∷◌, ◌++◌, map, refl, sym, ap, subst, ◌∙◌, Option, Some, None}
+use Rattle.std.specs.Prelude.{All, slice_get, option_and_then}
 use Rattle.std.specs.Str.{bytes_eq}
 use Rattle.std.proofs.lemmas.List.Elements.{All-cons, All-nil}
 use Rattle.std.proofs.lemmas.List.Folds.{list_any-append}
 use Rattle.std.proofs.lemmas.Slice.Eq.{bytes_eq-Decides}
 use Rattle.blif_text.specs.Kind.{is_among}
-use Rattle.blif_text.specs.Models.{PlainElement, Table, Register, Instance, PlainModel}
+use Rattle.blif_text.specs.Models.{PlainElement, Instance, PlainModel}
 use Rattle.hierarchy.specs.declared.fault.PlacingFault.{PlacingFault}
 use Rattle.hierarchy.specs.declared.fault.PlacingFault.TheVariants.{UnknownFormal, DuplicateFormal}
 use Rattle.hierarchy.specs.Graph.{names_of, number_named}
 use Rattle.hierarchy.specs.Ports.{PlainPorts, ports_of}
-use Rattle.hierarchy.specs.Faults.{◌or_else◌, both_ways, formal_fault, formals_fault, known_fault, placing_fault, ports_named, element_fault, elements_fault, model_fault, unbound_input, formal_of}
+use Rattle.hierarchy.specs.Faults.{◌or_else◌, both_ways, formal_fault, formals_fault, known_fault, placing_fault, element_fault, elements_fault, unbound_input, formal_of}
 use Rattle.hierarchy.specs.Flat.{actual_of}
 use Rattle.hierarchy.specs.Counts.{AreApart}
 use Rattle.hierarchy.proofs.Additions.{eq_other}

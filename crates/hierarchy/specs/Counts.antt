@@ -197,9 +197,12 @@ abbrev pub AreApart : List (List ℕ × List ℕ) → Type 0
 AreApart [] = Unit {0}
 AreApart (b ∷ bindings) = (is_among (map formal_of bindings) b.0 ≡ false) × AreApart bindings
 
--- the count of the model of this name, where there is one
+-- the count of the model of this number, and of that of this name, where there is one
+abbrev pub count_at : List ℕ → List (Option Count) → ℕ → Option Count
+count_at positions counts x = option_and_then (λ place. slice_index_or counts place None) (slice_get positions x)
+
 abbrev pub count_named : List (List ℕ) → List ℕ → List (Option Count) → List ℕ → Option Count
-count_named names positions counts model = option_and_then (λ place. slice_index_or counts place None) (option_and_then (slice_get positions) (number_named names model))
+count_named names positions counts model = option_and_then (count_at positions counts) (number_named names model)
 
 -- the count of a placed model is that of its nets and bytes
 abbrev pub IsTold : ℕ → (List ℕ → Option Count) → (List ℕ → ℕ) → (List ℕ → List Use) → PlainElement → Type 0

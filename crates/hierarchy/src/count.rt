@@ -8,7 +8,7 @@ ghost use Rattle.blif_text.specs.Views.{plain_element, plain_model};
 ghost use Rattle.blif_text.specs.Models.{Table, Register};
 ghost use Rattle.hierarchy.specs.Graph.{number_named};
 ghost use Rattle.hierarchy.specs.FlatText.{capped, rows_length as length_of_rows};
-ghost use Rattle.hierarchy.specs.Counts.{Use, Formal, Own, use_of, placed_use, control_names, control_fixed, element_names, element_fixed, limited, used, IsShaped, IsCount, Adds, IsGrown, IsTold, IsAdded, IsOutcome, AreApart, KeepsFormals, IsEmptyCount, number_after, count_named, fixed_with, uses_with, times_of, sum_of, bound_of};
+ghost use Rattle.hierarchy.specs.Counts.{Use, Formal, Own, use_of, placed_use, control_names, control_fixed, element_names, element_fixed, limited, used, IsShaped, IsCount, Adds, IsGrown, IsTold, IsAdded, IsOutcome, AreApart, count_at as count_at_number, KeepsFormals, IsEmptyCount, number_after, count_named, fixed_with, uses_with, times_of, sum_of, bound_of};
 
 use crate::flat_text::{rows_length, spaced_name};
 use crate::walk::step_text;
@@ -36,7 +36,11 @@ fn limited_length(name: &Name) -> u64
     ensures { result ≡ limited (length name.now) }
 {
     let length = name.bytes().len() as u64;
-    if length < 1073741825 { length } else { 1073741825 }
+    if length < 1073741825 {
+        length
+    } else {
+        1073741825
+    }
 }
 
 /// How often the formal stands.
@@ -192,6 +196,21 @@ fn add_placed(
     Ok(())
 }
 
+/// The count of the model of this number.
+pub(crate) fn count_at<'a>(
+    positions: &[usize],
+    counts: &'a [Option<Count>],
+    x: usize,
+) -> Option<&'a Count>
+    ensures { option_copied result ≡ count_at_number positions.now counts.now x }
+{
+    let place = positions.get(x)?;
+    match counts.get(*place) {
+        Some(Some(count)) => Some(count),
+        _ => None,
+    }
+}
+
 /// The count of the model of this name.
 #[tactic(auto, unfolding(crate::specs::Graph::number_named))]
 fn count_of<'a>(
@@ -203,11 +222,7 @@ fn count_of<'a>(
     ensures { option_copied result ≡ count_named names.now.keys positions.now counts.now model.now }
 {
     let y = names.get_index_of(model)?;
-    let place = positions.get(y)?;
-    match counts.get(*place) {
-        Some(Some(count)) => Some(count),
-        _ => None,
-    }
+    count_at(positions, counts, y)
 }
 
 /// The nets and the bytes of the flat elements of a statement, of which a `.subckt` has this number. The
@@ -231,7 +246,10 @@ fn add_element(
             Ok(true)
         }
         Element::Latch {
-            pin, out, control, ..
+            pin,
+            out,
+            control,
+            ..
         } => {
             add_latch(count, pin, out, control);
             Ok(true)

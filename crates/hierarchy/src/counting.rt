@@ -35,11 +35,7 @@ fn port_names(alloc: Global, model: &BlifModel) -> Result<IndexSet<Name>, OutOfM
 }
 
 /// What statements may bind of the model with this number. Nothing places the main model.
-fn formals_of(
-    alloc: Global,
-    models: &[BlifModel],
-    x: usize,
-) -> Result<IndexSet<Name>, OutOfMemory>
+fn formals_of(alloc: Global, models: &[BlifModel], x: usize) -> Result<IndexSet<Name>, OutOfMemory>
     requires { x < length models.now }
     ensures { IfOk result (λ set. (name : List ℕ) → is_among set.keys name ≡ is_formal (map plain_model models.now) x name) }
 {
@@ -86,7 +82,15 @@ pub(crate) fn count_models(
     let mut counts = Vec::new(alloc);
     for x in order {
         let formals = formals_of(alloc, models, *x)?;
-        let count = count_model(alloc, names, positions, &counts, &models[*x], formals, limit)?;
+        let count = count_model(
+            alloc,
+            names,
+            positions,
+            &counts,
+            &models[*x],
+            formals,
+            limit,
+        )?;
         counts.push(count)?;
     }
     Ok(counts)

@@ -74,7 +74,7 @@ fn ready_rows(
 
 /// The names of the models of a library that has no fault of its own, and the order of the reached ones, or
 /// the first such fault.
-fn ordered(alloc: Global, models: &[BlifModel]) -> Result<Ordered, FlatFault>
+fn sound_order(alloc: Global, models: &[BlifModel]) -> Result<Ordered, FlatFault>
     requires { IsLibrary (map plain_model models.now) }
     ensures names { IfOk result (λ found. found.names.keys ≡ names_of (map plain_model models.now)) }
     ensures placeable { OnOk result (IsPlaceable (map plain_model models.now)) }
@@ -167,7 +167,7 @@ fn flat_of(alloc: Global, lib: &Library, limit: u64) -> Result<Flat, FlatFault>
     ensures rows { IfOk result (λ flat. row_total flat.net.net ≤ limit) }
 {
     let models = lib.models();
-    let found = ordered(alloc, models)?;
+    let found = sound_order(alloc, models)?;
     let flat = flat_within(alloc, models, &found.names, &found.order, limit)?;
     let assumed = assumed(&flat);
     match design_of(alloc, &flat) {

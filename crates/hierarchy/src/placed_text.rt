@@ -7,6 +7,7 @@ ghost use Rattle.hierarchy.specs.Found.{IsOrder};
 ghost use Rattle.hierarchy.specs.Flat.{flat_model};
 ghost use Rattle.hierarchy.specs.FlatText.{capped, text_length as length_of_text, header_length as length_of_header};
 
+use crate::count::count_at;
 use crate::counting::{count_models, places_of};
 use crate::flat_text::{spaced_name, spaced_names};
 use blif_text::BlifModel;
@@ -43,7 +44,7 @@ pub(crate) fn fits(
 {
     let positions = places_of(alloc, order, models.len())?;
     let counts = count_models(alloc, models, names, order, &positions, limit)?;
-    match &counts[positions[0]] {
+    match count_at(&positions, &counts, 0) {
         Some(count) => {
             let total = header_length(&models[0]).saturating_add(count.bytes);
             Ok(total <= limit)

@@ -1,20 +1,19 @@
-use Rattle.std.proofs.Common.{◌≡◌, ◌<◌, ◌+◌, ◌∙◌, ℕ, List, [], ◌∷◌, ◌++◌, map, true, false, sym, ap, subst, Some, None}
+use Rattle.std.proofs.Common.{◌<◌, ◌+◌, ◌∙◌, ℕ, List, [], ◌∷◌, ◌++◌, map, sym, ap, subst}
 use Rattle.std.specs.Prelude.{option_copied}
 use Rattle.std.specs.List.{sum_by}
 use Rattle.blif_text.specs.declared.library.Element.{Element}
-use Rattle.blif_text.specs.declared.library.Element.TheVariants as elements
 use Rattle.blif_text.specs.Kind.{is_among}
 use Rattle.blif_text.specs.Models.{Instance}
 use Rattle.blif_text.specs.Views.{plain_element}
 use Rattle.hierarchy.specs.FlatText.{rows_length}
-use Rattle.hierarchy.specs.Counts.{Use, use_of, placed_use, least, Adds, sum_of, fixed_with, uses_with, IsTold, IsOutcome, IsCount, AreApart, count_named}
+use Rattle.hierarchy.specs.Counts.{use_of, placed_use, least, Adds, sum_of, fixed_with, uses_with, IsTold, IsOutcome, IsCount, AreApart, count_named}
 use Rattle.hierarchy.proofs.ElementCounts.{table_added, latch_added, instance_added, large_instance}
 use Rattle.hierarchy.proofs.count.add_element.Goals as goal
 
 pub returns-in-Table-clause-adds : goal.returns-in-Table-clause-adds
 returns-in-Table-clause-adds c = λ limit fixed uses told. subst (λ (e : Element). Adds c.args.count.now c.add_table.new.count (fixed_with fixed (plain_element e ∷ [])) (sum_of (uses_with (is_among c.args.count.now.formals.keys) uses c.args.number (plain_element e ∷ [])))) (sym c.in-Table.is)
     (table_added (is_among c.args.count.now.formals.keys) c.args.count.now c.add_table.new.count c.in-Table.pins.items c.in-Table.out c.in-Table.cover fixed uses c.args.number
-        (subst (λ (pins : List (List ℕ)). Adds c.args.count.now c.add_table.new.count (7 + rows_length c.in-Table.cover) (sum_of (map (use_of (is_among c.args.count.now.formals.keys)) (pins ++ c.in-Table.out ∷ [])))) c.deref.ensures.value c.add_table.ensures))
+    (subst (λ (pins : List (List ℕ)). Adds c.args.count.now c.add_table.new.count (7 + rows_length c.in-Table.cover) (sum_of (map (use_of (is_among c.args.count.now.formals.keys)) (pins ++ c.in-Table.out ∷ [])))) c.deref.ensures.value c.add_table.ensures))
 
 pub returns-in-Latch-clause-adds : goal.returns-in-Latch-clause-adds
 returns-in-Latch-clause-adds c = λ limit fixed uses told. subst (λ (e : Element). Adds c.args.count.now c.add_latch.new.count (fixed_with fixed (plain_element e ∷ [])) (sum_of (uses_with (is_among c.args.count.now.formals.keys) uses c.args.number (plain_element e ∷ [])))) (sym c.in-Latch.is)

@@ -1,8 +1,6 @@
-use Rattle.std.proofs.Common.{◌≡◌, ◌≤◌, ◌<◌, ◌+◌, ◌∙◌, ℕ, List, [], ◌∷◌, Bool, true, false, length, map, drop, get_or, sym, ap, subst, arith}
-use Rattle.std.specs.List.{sum_by}
-use Rattle.blif_text.specs.Kind.{is_among}
+use Rattle.std.proofs.Common.{◌∙◌}
 use Rattle.blif_text.specs.Views.{plain_element}
-use Rattle.hierarchy.specs.Counts.{Use, Adds, IsAdded, count_named, fixed_with, uses_with, sum_of, least}
+use Rattle.hierarchy.specs.Counts.{count_named}
 use Rattle.hierarchy.proofs.ElementCounts.{element_more_at, element_large_at, elements_end, after_few}
 use Rattle.hierarchy.proofs.count.add_elements.Goals as goal
 

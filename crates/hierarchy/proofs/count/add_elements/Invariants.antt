@@ -1,4 +1,4 @@
-use Rattle.std.proofs.Common.{◌≡◌, ◌≤◌, ℕ, List, length, map, drop}
+use Rattle.std.proofs.Common.{◌≤◌, ℕ, List, map, drop}
 use Rattle.std.specs.Prelude.{All}
 use Rattle.blif_text.specs.Kind.{is_among}
 use Rattle.blif_text.specs.Views.{plain_element}

@@ -1,6 +1,6 @@
-use Rattle.std.proofs.Common.{◌≡◌, ◌<◌, ◌+◌, ◌*◌, min, length, get_or, set, ap, subst, sym, arith, rules}
+use Rattle.std.proofs.Common.{◌*◌, ap, arith, rules}
 use Rattle.std.proofs.lemmas.List.{length-set}
-use Rattle.hierarchy.proofs.Additions.{times_capped, used_more, number_below}
+use Rattle.hierarchy.proofs.Additions.{used_more, number_below}
 use Rattle.hierarchy.proofs.count.add_formal.Goals as goal
 
 pub index-requires : goal.index-requires

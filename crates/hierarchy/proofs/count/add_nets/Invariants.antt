@@ -1,6 +1,6 @@
 use Rattle.std.proofs.Common.{map, take}
 use Rattle.blif_text.specs.Kind.{is_among}
-use Rattle.hierarchy.specs.Counts.{use_of, Adds, IsShaped, sum_of}
+use Rattle.hierarchy.specs.Counts.{use_of, Adds, sum_of}
 use Rattle.hierarchy.proofs.count.add_nets.Given as goal
 
 abbrev pub invariant-loop-name : goal.invariant-loop-name

@@ -1,5 +1,4 @@
-use Rattle.std.proofs.Common.{◌≡◌, ◌<◌, ◌+◌, ◌*◌, ◌∙◌, List, ℕ, min, length, ap, subst, arith, rules}
-use Rattle.hierarchy.specs.Flat.{step}
+use Rattle.std.proofs.Common.{◌+◌, ◌*◌, ◌∙◌, List, ℕ, min, length, ap, subst}
 use Rattle.hierarchy.specs.Counts.{IsGrown}
 use Rattle.hierarchy.proofs.PlacedCounts.{placed_added}
 use Rattle.hierarchy.proofs.count.add_placed.Goals as goal

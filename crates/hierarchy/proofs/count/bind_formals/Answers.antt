@@ -1,4 +1,4 @@
-use Rattle.std.proofs.Common.{◌≡◌, ◌<◌, ◌+◌, ◌*◌, List, ℕ, min, length, ap, arith, rules}
+use Rattle.std.proofs.Common.{◌*◌, length, ap, arith}
 use Rattle.hierarchy.specs.Counts.{used, limited}
 use Rattle.hierarchy.proofs.Additions.{bound_more, moved_more}
 use Rattle.hierarchy.proofs.count.bind_formals.Goals as goal

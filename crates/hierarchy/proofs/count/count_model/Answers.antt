@@ -1,4 +1,4 @@
-use Rattle.std.proofs.Common.{◌≡◌, ◌≤◌, ◌<◌, ◌+◌, ◌∙◌, ℕ, List, map, sym, ap, subst, arith}
+use Rattle.std.proofs.Common.{map}
 use Rattle.blif_text.specs.Kind.{is_among}
 use Rattle.blif_text.specs.Views.{plain_element}
 use Rattle.hierarchy.specs.Counts.{count_named, fixed_with, uses_with}

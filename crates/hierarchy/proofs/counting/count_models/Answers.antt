@@ -1,7 +1,6 @@
-use Rattle.std.proofs.Common.{◌≡◌, ◌<◌, ◌+◌, ◌∙◌, ℕ, List, length, map, get_or, refl, sym, ap, subst, arith, Option}
+use Rattle.std.proofs.Common.{◌≡◌, ◌<◌, ◌+◌, ◌∙◌, ℕ, length, map, get_or, sym, ap, subst, arith}
 use Rattle.std.proofs.lemmas.List.{length_push, length-map}
 use Rattle.blif_text.specs.Views.{plain_model}
-use Rattle.hierarchy.specs.declared.count.Count.{Count}
 use Rattle.hierarchy.specs.Graph.{names_of, placed_of}
 use Rattle.hierarchy.specs.Counts.{AreCounted}
 use Rattle.hierarchy.proofs.AllCounts.{counts_more, model_counted, all_told}
@@ -13,7 +12,7 @@ loop-x-preserved c = record {
   counted = subst (AreCounted (map plain_model c.args.models.now) c.args.limit c.args.order.now) (sym c.in_ok-push.ensures.items)
       (counts_more (map plain_model c.args.models.now) c.args.limit c.args.order.now c.args.positions.now c.loop-x.counts.items c.requires.placeable c.requires.ordered c.requires.places c.loop-x.invariant.counted here c.in_ok-count.count x at
       (λ depth deep. model_counted c.args.models.now c.args.limit c.index-models-x.result x c.in_ok-count.count c.in_ok-formals.formals.keys c.args.names.now.keys c.args.positions.now c.deref.result.now c.loop-x.counts.items depth c.requires.names c.deref.ensures.value c.in_ok-formals.ensures within c.index-models-x.is c.in_ok-count.ensures
-          (all_told (map plain_model c.args.models.now) c.args.limit c.args.order.now c.args.positions.now c.loop-x.counts.items c.requires.placeable c.requires.ordered c.requires.places c.loop-x.invariant.counted here x depth at deep)));
+      (all_told (map plain_model c.args.models.now) c.args.limit c.args.order.now c.args.positions.now c.loop-x.counts.items c.requires.placeable c.requires.ordered c.requires.places c.loop-x.invariant.counted here x depth at deep)));
 }
   where
     here : length c.loop-x.counts.items < length c.args.order.now
