@@ -7,6 +7,8 @@
 #![tactic(auto)]
 
 mod bare;
+mod count;
+mod counting;
 mod drafted;
 mod fault;
 mod flat_fault;
@@ -34,3 +36,6 @@ pub use flat_text::text_length;
 pub use flattening::{Flat, flatten};
 use graph::Graph;
 use ports::Ports;
+
+#[cfg(test)]
+mod tests;
