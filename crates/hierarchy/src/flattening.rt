@@ -148,14 +148,10 @@ fn design_of(alloc: Global, flat: &BlifModel) -> Result<FlatNet, NetFault>
     ensures nets { IfOk result (λ net. 2 * (net_count net.net + pin_total net.net) ≤ text_length (plain_model flat.now)) }
     ensures rows { IfOk result (λ net. row_total net.net ≤ text_length (plain_model flat.now)) }
 {
-    match built(alloc, flat) {
-        Ok(net) => {
-            // What an accessor says of each design is needed here: no name is empty.
-            let _inputs = net.input_count();
-            Ok(net)
-        }
-        Err(fault) => Err(fault),
-    }
+    let net = built(alloc, flat)?;
+    // What an accessor says of each design is needed here: no name is empty.
+    let _inputs = net.input_count();
+    Ok(net)
 }
 
 /// The flat design of the library, or its first fault.
