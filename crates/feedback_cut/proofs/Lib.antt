@@ -1,0 +1,9 @@
+pub mod RowLaws
+pub mod Places
+pub mod Decisions
+pub mod Keeping
+pub mod Moves
+pub mod Walking
+pub mod InnerLaws
+pub mod Orders
+pub mod CutLaws
