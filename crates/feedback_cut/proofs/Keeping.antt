@@ -1,5 +1,6 @@
 -- What the search keeps.
 use Rattle.std.proofs.Common.{◌≡◌, ◌≢◌, ℕ, zero, suc, ◌+◌, ◌-◌, ◌<◌, ◌≤◌, ◌⊎◌, Bool, true, List, length, get_or, sym, subst, arith}
+use Rattle.std.specs.List.{sum_by}
 use Rattle.feedback_cut.specs.Rows.{row, Stands, IsOnce, IsLast}
 use Rattle.feedback_cut.specs.Lists.{Leads, alone, longer}
 use Rattle.feedback_cut.specs.Cut.{is_cut}
@@ -23,6 +24,12 @@ IsPassed marks path next x y = (mark_at marks x ≡ Done) ⊎ (IsLink path x y �
 abbrev pub IsSpanned : List (List ℕ) → List (List Bool) → List ℕ → ℕ → ℕ → Type 0
 IsSpanned rows cut order m x = Leads (Kept rows cut) (get_or order m 0) x ⊎ ((q : ℕ) × (q < m) × (get_or order q 0 ≡ x))
 
+-- counts what is done
+abbrev pub one_if_done : Mark → ℕ
+one_if_done New = 0
+one_if_done Open = 0
+one_if_done Done = 1
+
 -- `next` is the vertex that is opened next; it is none where it is past all vertices
 pub record IsSearch (rows : List (List ℕ)) (next root : ℕ) (marks : List Mark) (cut : List (List Bool)) (path order : List ℕ) : Type 0 where
   pub fit_marks : length marks ≡ length rows
@@ -39,6 +46,7 @@ pub record IsSearch (rows : List (List ℕ)) (next root : ℕ) (marks : List Mar
   pub order_done : (k : ℕ) → k < length order → mark_at marks (get_or order k 0) ≡ Done
   pub order_vertex : (k : ℕ) → k < length order → get_or order k 0 < length rows
   pub order_once : IsOnce order
+  pub few_done : length order ≤ sum_by one_if_done marks
   pub in_order : (x : ℕ) → x < length rows → mark_at marks x ≡ Done → Stands order x
   pub after : (k x : ℕ) → k < length order → Kept rows cut x (get_or order k 0) → (j : ℕ) × (j < k) × (get_or order j 0 ≡ x)
   pub cut_vertex : (y i : ℕ) → is_cut cut y i ≡ true → get_or (row rows y) i 0 < length rows

@@ -2,6 +2,8 @@
 use Rattle.std.proofs.Common.{◌≡◌, ◌≢◌, ℕ, suc, ◌+◌, ◌-◌, ◌<◌, ◌≤◌, ◌⊎◌, Bool, true, false, List, [], ◌∷◌, ◌++◌, length, get_or, set, refl, sym, ◌∙◌, ap, subst, inl, inr, arith}
 use Rattle.std.proofs.lemmas.List.{get_or-set_same, get_or_append_left, get_or_push, length-set, length_push}
 use Rattle.std.proofs.lemmas.Bool.{cases_eq}
+use Rattle.std.specs.List.{sum_by}
+use Rattle.std.proofs.lemmas.List.Sums.{sum_by-set}
 use Rattle.feedback_cut.specs.Rows.{row, Stands, IsLast}
 use Rattle.feedback_cut.specs.Lists.{Leads}
 use Rattle.feedback_cut.specs.Cut.{is_cut}
@@ -10,7 +12,7 @@ use Rattle.feedback_cut.specs.declared.searching.Mark.{Mark}
 use Rattle.feedback_cut.specs.declared.searching.Mark.TheVariants.{New, Open, Done}
 use Rattle.feedback_cut.proofs.Places.{mark_at, mark_within, SetMark, set_marks, stands_push, stands_last, PushedAt, push_cases, once_push, leads_map}
 use Rattle.feedback_cut.proofs.Decisions.{decided, row_other, long_same, kept_stays, kept_cases, cut_cases}
-use Rattle.feedback_cut.proofs.Keeping.{IsPassed, IsSpanned, IsSearch, top_leads, top_open}
+use Rattle.feedback_cut.proofs.Keeping.{one_if_done, IsPassed, IsSpanned, IsSearch, top_leads, top_open}
 
 -- what is read next, and what is decided of it: an open vertex is cut, and what is kept is done or opened next
 pub record Decides (rows : List (List ℕ)) (next : ℕ) (marks : List Mark) (cut : List (List Bool)) (path : List ℕ) (x y : ℕ) (v : Bool) : Type 0 where
@@ -37,6 +39,7 @@ decides rows next root marks cut path order x y v s d = record {
   order_done = s.order_done;
   order_vertex = s.order_vertex;
   order_once = s.order_once;
+  few_done = s.few_done;
   in_order = s.in_order;
   after = λ k a h t. after k a h (kept_cases rows cut x v within a (get_or order k 0) t);
   cut_vertex = λ b i h. cut_vertex b i (cut_cases rows cut x v within b i h);
@@ -141,6 +144,7 @@ opened rows root marks cut path order y s new read = record {
   order_done = λ k h. stays (get_or order k 0) (s.order_done k h);
   order_vertex = s.order_vertex;
   order_once = s.order_once;
+  few_done = omega (arith, s.few_done, sum_by-set one_if_done marks y Open Done at, ap one_if_done new);
   in_order = λ z t h. in_order z t h (step z);
   after = s.after;
   cut_vertex = s.cut_vertex;
@@ -239,6 +243,7 @@ finished rows root marks cut path order x s all = record {
   order_done = λ k h. order_done k (push_cases order x k h);
   order_vertex = λ k h. order_vertex k (push_cases order x k h);
   order_once = once_push order x s.order_once (λ k h e. let d = s.order_done k h in (cc (d, is_open)));
+  few_done = omega (arith, s.few_done, sum_by-set one_if_done marks x Done Done at, ap one_if_done is_open, long_order);
   in_order = λ z t h. in_order z t h (step z);
   after = λ k a h t. after k a t (push_cases order x k h);
   cut_vertex = s.cut_vertex;

@@ -3,7 +3,7 @@ use Rattle.std.proofs.Common.{◌≡◌, ◌≢◌, ℕ, zero, suc, ◌+◌, ◌
 use Rattle.std.specs.List.{sum_by}
 use Rattle.std.proofs.lemmas.Bool.{cases_lt, cases_eq}
 use Rattle.std.proofs.lemmas.List.{length-replicate, length_push, get_or_push, get_or-replicate, get_or_past}
-use Rattle.std.proofs.lemmas.List.Sums.{sum_by-set, sum_by-cons}
+use Rattle.std.proofs.lemmas.List.Sums.{sum_by-set, sum_by-cons, sum_by-le}
 use Rattle.feedback_cut.specs.Rows.{row, Stands, IsLast}
 use Rattle.feedback_cut.specs.Lists.{Leads}
 use Rattle.feedback_cut.specs.Cut.{is_cut}
@@ -12,7 +12,7 @@ use Rattle.feedback_cut.specs.declared.searching.Mark.{Mark}
 use Rattle.feedback_cut.specs.declared.searching.Mark.TheVariants.{New, Open, Done}
 use Rattle.feedback_cut.proofs.Places.{mark_at, mark_within}
 use Rattle.feedback_cut.proofs.Decisions.{decided, no_absurd, long_same, row_same}
-use Rattle.feedback_cut.proofs.Keeping.{IsSearch, IsSpanned, top_open}
+use Rattle.feedback_cut.proofs.Keeping.{one_if_done, IsSearch, IsSpanned, top_open}
 use Rattle.feedback_cut.proofs.Moves.{Decides, decides, opened, finished}
 
 -- no vertex is about to be opened
@@ -86,6 +86,7 @@ module _ (rows : List (List ℕ)) (count root : ℕ) (marks : List Mark) (cut : 
         order_done = here.order_done;
         order_vertex = here.order_vertex;
         order_once = here.order_once;
+        few_done = here.few_done;
         in_order = here.in_order;
         after = here.after;
         cut_vertex = here.cut_vertex;
@@ -119,6 +120,7 @@ module _ (rows : List (List ℕ)) (count root : ℕ) (marks : List Mark) (cut : 
       order_done = here.order_done;
       order_vertex = here.order_vertex;
       order_once = here.order_once;
+      few_done = here.few_done;
       in_order = here.in_order;
       after = here.after;
       cut_vertex = here.cut_vertex;
@@ -203,6 +205,7 @@ module _ (rows : List (List ℕ)) (count root : ℕ) (marks : List Mark) (cut : 
     within = here.order_vertex;
     complete = λ x l. here.in_order x l (is_done x);
     once = here.order_once;
+    few = few here.few_done;
     after = here.after;
     inside = here.cut_vertex;
     needed = here.needed;
@@ -211,6 +214,14 @@ module _ (rows : List (List ℕ)) (count root : ℕ) (marks : List Mark) (cut : 
     where
       here : IsSearch rows (length rows) root marks cut path order
       here = s.search
+
+      at_most : (m : Mark) → one_if_done m ≤ 1
+      at_most New = omega arith
+      at_most Open = omega arith
+      at_most Done = omega arith
+
+      few : length order ≤ sum_by one_if_done marks → length order ≤ length rows
+      few l = let f = here.fit_marks in omega (arith, l, sum_by-le one_if_done 1 marks (λ i d h. at_most (get_or marks i d)))
 
       is_done : (x : ℕ) → mark_at marks x ≡ Done
       is_done x = go (cases_lt x (length rows))
@@ -296,6 +307,7 @@ begins rows count marks cut path order n m c p o = rw (m, c, p, o) (record { cou
       order_done = λ k h. absurd (omega arith);
       order_vertex = λ k h. absurd (omega arith);
       order_once = record { apart = λ j k _ h. absurd (omega arith) };
+      few_done = omega arith;
       in_order = λ x l e. in_order x l e (fresh x);
       after = λ k x h t. absurd (omega arith);
       cut_vertex = λ y i t. absurd (none_cut y i t);

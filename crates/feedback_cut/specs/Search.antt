@@ -20,6 +20,7 @@ pub record IsSearched (rows : List (List ℕ)) (order : List ℕ) (cut : List (L
   pub within : (k : ℕ) → k < length order → slice_index order k < length rows
   pub complete : (x : ℕ) → x < length rows → Stands order x
   pub once : IsOnce order
+  pub few : length order ≤ length rows
   pub after : (k x : ℕ) → k < length order → Kept rows cut x (slice_index order k) → (j : ℕ) × (j < k) × (slice_index order j ≡ x)
   pub inside : (y i : ℕ) → is_cut cut y i ≡ true → slice_index (row rows y) i < length rows
   pub needed : (y i : ℕ) → is_cut cut y i ≡ true → Leads (Kept rows cut) y (slice_index (row rows y) i)
