@@ -7,3 +7,8 @@ pub mod Walking
 pub mod InnerLaws
 pub mod Orders
 pub mod CutLaws
+pub mod GatherLaws
+pub mod GroupLaws
+pub mod ReaderLaws
+pub mod LoopLaws
+pub mod ComponentLaws

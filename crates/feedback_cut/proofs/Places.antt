@@ -1,8 +1,8 @@
 -- Lists that grow at their end, marks that are set, and lists in which each number may follow the one before.
-use Rattle.std.proofs.Common.{◌≡◌, ◌≢◌, ℕ, zero, suc, ◌<◌, ◌≤◌, ◌⊎◌, List, [], ◌∷◌, ◌++◌, length, get_or, set, refl, sym, ◌∙◌, inl, inr, arith}
-use Rattle.std.proofs.lemmas.List.{get_or-set_same, get_or-set_other, get_or_append_left, get_or_push, length_push}
+use Rattle.std.proofs.Common.{◌≡◌, ◌≢◌, ℕ, zero, suc, ◌<◌, ◌≤◌, ◌⊎◌, List, [], ◌∷◌, ◌++◌, length, get_or, set, refl, ap, sym, ◌∙◌, inl, inr, arith, length-append}
+use Rattle.std.proofs.lemmas.List.{get_or-set_same, get_or-set_other, get_or_append_left, get_or_push, get_or_past, length_push}
 use Rattle.std.proofs.lemmas.Bool.{cases_eq, cases_lt}
-use Rattle.feedback_cut.specs.Rows.{Stands, IsOnce}
+use Rattle.feedback_cut.specs.Rows.{Stands, IsOnce, Follows}
 use Rattle.feedback_cut.specs.Lists.{Leads, alone, longer}
 use Rattle.feedback_cut.specs.declared.searching.Mark.{Mark}
 use Rattle.feedback_cut.specs.declared.searching.Mark.TheVariants.{Done}
@@ -61,3 +61,41 @@ leads_map N M wider _ _ (longer a b c l next) = longer a b c (leads_map N M wide
 pub leads_join : (N : ℕ → ℕ → Type 0) (a b c : ℕ) → Leads N a b → Leads N b c → Leads N a c
 leads_join N a _ _ first (alone b) = first
 leads_join N a _ _ first (longer b c d l next) = longer a c d (leads_join N a b c first l) next
+
+-- what stands in one of two lists
+pub stands_cases : (xs ys : List ℕ) (z : ℕ) → Stands (xs ++ ys) z → Stands xs z ⊎ Stands ys z
+stands_cases [] ys z s = inr s
+stands_cases (x ∷ xs) ys z s = go s.at s.below s.is (stands_cases xs ys z)
+  where
+    go : (i : ℕ) → i < length ((x ∷ xs) ++ ys) → get_or ((x ∷ xs) ++ ys) i 0 ≡ z → (Stands (xs ++ ys) z → Stands xs z ⊎ Stands ys z) → Stands (x ∷ xs) z ⊎ Stands ys z
+    go zero l e rest = inl (record { at = zero; below = omega arith; is = e })
+    go (suc i) l e rest = later (rest (record { at = i; below = omega arith; is = e }))
+      where
+        later : Stands xs z ⊎ Stands ys z → Stands (x ∷ xs) z ⊎ Stands ys z
+        later (inl f) = inl (record { at = suc f.at; below = omega (arith, f.below); is = f.is })
+        later (inr f) = inr f
+
+pub stands_left : (xs ys : List ℕ) (z : ℕ) → Stands xs z → Stands (xs ++ ys) z
+stands_left xs ys z s = record { at = s.at; below = omega (arith, length-append xs ys, s.below); is = get_or_append_left xs ys 0 s.at s.below ∙ s.is }
+
+pub stands_right : (xs ys : List ℕ) (z : ℕ) → Stands ys z → Stands (xs ++ ys) z
+stands_right [] ys z s = s
+stands_right (x ∷ xs) ys z s = go (stands_right xs ys z s)
+  where
+    go : Stands (xs ++ ys) z → Stands (x ∷ xs ++ ys) z
+    go f = record { at = suc f.at; below = omega (arith, f.below); is = f.is }
+
+pub stands_one : (y z : ℕ) → Stands (y ∷ []) z → z ≡ y
+stands_one y z s = go s.at s.below s.is
+  where
+    go : (i : ℕ) → i < length (y ∷ []) → get_or (y ∷ []) i 0 ≡ z → z ≡ y
+    go zero l e = sym e
+    go (suc i) l e = absurd (omega arith)
+
+-- what reads has a row
+pub reader_within : (rows : List (List ℕ)) (x y : ℕ) → Follows rows x y → y < length rows
+reader_within rows x y f = go (cases_lt y (length rows))
+  where
+    go : (y < length rows) ⊎ (length rows ≤ y) → y < length rows
+    go (inl m) = m
+    go (inr m) = absurd (let none : length (get_or rows y []) ≡ 0 = ap length (get_or_past rows y [] m) in omega (arith, f.within))

@@ -3,3 +3,8 @@ pub mod Lists
 pub mod Inner
 pub mod Cut
 pub mod Search
+pub mod Readers
+pub mod Gathering
+pub mod Numbering
+pub mod Loops
+pub mod Components

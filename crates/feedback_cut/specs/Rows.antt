@@ -19,3 +19,10 @@ pub record Stands (xs : List ℕ) (x : ℕ) : Type 0 where
 -- no number stands twice
 pub record IsOnce (xs : List ℕ) : Type 0 where
   pub apart : (j k : ℕ) → j < k → k < length xs → slice_index xs j ≢ slice_index xs k
+
+-- the row of y names x, one of the numbers that have rows: y reads x
+pub record Follows (rows : List (List ℕ)) (x y : ℕ) : Type 0 where
+  pub place : ℕ
+  pub within : place < length (row rows y)
+  pub is : slice_index (row rows y) place ≡ x
+  pub vertex : x < length rows

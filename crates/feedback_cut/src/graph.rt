@@ -21,6 +21,18 @@ impl Model for Graph {
     ghost view = { λ g. map vec_items g.rows.items };
 }
 
+/// As many empty rows.
+fn empty_rows(alloc: Global, count: u32) -> Result<Vec<Vec<u32>>, OutOfMemory>
+    ensures { IfOk result (λ rows. map vec_items rows.items ≡ replicate count []) }
+{
+    let mut rows = Vec::new(alloc);
+    for made in 0..count {
+        let _made = made;
+        rows.push(Vec::new(alloc))?;
+    }
+    Ok(rows)
+}
+
 impl Graph {
     /// No vertices.
     pub fn new(alloc: Global) -> Graph
@@ -29,6 +41,23 @@ impl Graph {
         Graph {
             rows: Vec::new(alloc),
         }
+    }
+
+    /// So many vertices, which read nothing.
+    pub fn empty(alloc: Global, count: u32) -> Result<Graph, OutOfMemory>
+        ensures { IfOk result (λ graph. graph ≡ replicate count []) }
+    {
+        let rows = empty_rows(alloc, count)?;
+        Ok(Graph { rows })
+    }
+
+    /// Vertex x reads y too, behind what it reads.
+    pub fn add(&mut self, x: u32, y: u32) -> Result<(), OutOfMemory>
+        requires { x < length self.old }
+        ensures { OnOk result (self.new ≡ slice_set self.old x (row self.old x ++ y ∷ [])) }
+    {
+        self.rows[x as usize].push(y)?;
+        Ok(())
     }
 
     /// One more vertex, which reads these.

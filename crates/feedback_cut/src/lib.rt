@@ -7,12 +7,18 @@
 #![tactic(auto)]
 
 mod cutting;
+mod gathering;
 mod graph;
 mod inner;
+mod loop_groups;
+mod loops;
 mod nodes;
+mod numbering;
+mod reversing;
 mod searching;
 
 pub use cutting::{CutPins, cut};
 pub use graph::Graph;
 pub use inner::inner_reads;
+pub use loop_groups::{LoopGroups, components};
 pub use searching::{Searched, search};
