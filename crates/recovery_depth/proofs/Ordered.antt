@@ -5,7 +5,8 @@ use Rattle.feedback_cut.specs.Cut.{is_cut}
 use Rattle.feedback_cut.specs.Search.{Kept, IsSearched}
 use Rattle.feedback_cut.proofs.Places.{leads_map}
 use Rattle.feedback_cut.proofs.CutLaws.{cut_within}
-use Rattle.recovery_depth.specs.Walks.{Follows, HasNoLoop, IsOrdered}
+use Rattle.feedback_cut.specs.Rows.{Follows}
+use Rattle.recovery_depth.specs.Walks.{HasNoLoop, IsOrdered}
 
 module _ (rows : List (List ℕ)) (order : List ℕ) (cut : List (List Bool)) (s : IsSearched rows order cut) where
   follows_of_kept : (x y : ℕ) → Kept rows cut x y → Follows rows x y

@@ -1,6 +1,6 @@
 -- Walks, and the most registers on them.
 use Rattle.std.specs.Prelude.{◌≡◌, ℕ, ◌<◌, ◌≤◌, Bool, false, List, [], ◌∷◌, ◌++◌, length, slice_index, slice_index_or, cond}
-use Rattle.feedback_cut.specs.Rows.{row, Stands, IsOnce}
+use Rattle.feedback_cut.specs.Rows.{Stands, IsOnce, Follows}
 use Rattle.feedback_cut.specs.Lists.{Leads}
 
 -- a walk that ends in x, and the registers on it, first to last; `Next x y` says that y reads x, and `own x` is x if it is a register, else nothing
@@ -23,13 +23,6 @@ one_if b = cond b 1 0
 -- x alone, if its bit is set
 abbrev pub marked : List Bool → ℕ → List ℕ
 marked bits x = cond (is_marked bits x) (x ∷ []) []
-
--- y reads x
-pub record Follows (rows : List (List ℕ)) (x y : ℕ) : Type 0 where
-  pub place : ℕ
-  pub within : place < length (row rows y)
-  pub is : slice_index (row rows y) place ≡ x
-  pub vertex : x < length rows
 
 -- no reads make a loop
 abbrev pub HasNoLoop : List (List ℕ) → Type 0
