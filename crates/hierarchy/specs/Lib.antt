@@ -15,4 +15,5 @@ pub mod Links
 pub mod Walk
 pub mod Naming
 pub mod Flatten
+pub mod Counts
 pub mod Sizes

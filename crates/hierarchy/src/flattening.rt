@@ -2,7 +2,9 @@
 ghost use Rattle.std.specs.Prelude.{◌≡◌, ◌≢◌, ◌≤◌, ◌<◌, ◌+◌, ◌*◌, ◌⊎◌, ℕ, map, length, All, IfOk, OnOk, IfErr, IsErrAnd, MatchResult, None};
 ghost use Rattle.blif_text.specs.Library.{IsLibrary, FitsPins, Differ};
 ghost use Rattle.blif_text.specs.Views.{plain_model};
-ghost use Rattle.hierarchy.specs.Graph.{names_of};
+ghost use Rattle.hierarchy.specs.Graph.{graph, names_of};
+ghost use Rattle.hierarchy.specs.Library.{IsPlaceable};
+ghost use Rattle.hierarchy.specs.Found.{IsOrder};
 ghost use Rattle.hierarchy.specs.Flat.{flat_model};
 ghost use Rattle.hierarchy.specs.FlatText.{text_length};
 ghost use Rattle.hierarchy.specs.Clash.{name_clash};
@@ -36,6 +38,14 @@ pub struct Flat {
     pub assumed: u32,
 }
 
+/// The names of all models, and an order of the reached ones in which each stands after those that it
+/// places.
+#[derive(Drop)]
+struct Ordered {
+    names: IndexSet<Name>,
+    order: Vec<usize>,
+}
+
 fn placing_fault(fault: PlacingFault) -> FlatFault
     ensures { result ≡ flat_fault_of fault }
 {
@@ -62,15 +72,18 @@ fn ready_rows(
     all_links(alloc, names, &holds, models)
 }
 
-/// The statements of a library that has no fault of its own, or the first such fault.
-fn sound_rows(alloc: Global, models: &[BlifModel]) -> Result<Vec<Row>, FlatFault>
+/// The names of the models of a library that has no fault of its own, and the order of the reached ones, or
+/// the first such fault.
+fn sound_order(alloc: Global, models: &[BlifModel]) -> Result<Ordered, FlatFault>
     requires { IsLibrary (map plain_model models.now) }
-    ensures ready { IfOk result (λ rows. IsReady (map plain_model models.now) rows.items) }
+    ensures names { IfOk result (λ found. found.names.keys ≡ names_of (map plain_model models.now)) }
+    ensures placeable { OnOk result (IsPlaceable (map plain_model models.now)) }
+    ensures ordered { IfOk result (λ found. IsOrder (graph (map plain_model models.now)) found.order.items) }
     ensures sound { OnOk result (IsSound (map plain_model models.now)) }
     ensures fault { IfErr result (λ fault. IsSoundFault (map plain_model models.now) fault) }
 {
     match look_over(alloc, models)? {
-        Survey::Sound(names, order) => Ok(ready_rows(alloc, models, &names, &order)?),
+        Survey::Sound(names, order) => Ok(Ordered { names, order }),
         Survey::Misplaced(fault) => Err(placing_fault(fault)),
         Survey::Recursive(names) => Err(FlatFault::Recursive(names)),
     }
@@ -80,10 +93,13 @@ fn sound_rows(alloc: Global, models: &[BlifModel]) -> Result<Vec<Row>, FlatFault
 fn flat_within(
     alloc: Global,
     models: &[BlifModel],
-    rows: &[Row],
+    names: &IndexSet<Name>,
+    order: &[usize],
     limit: u64,
 ) -> Result<BlifModel, FlatFault>
-    requires ready { IsReady (map plain_model models.now) rows.now }
+    requires names { names.now.keys ≡ names_of (map plain_model models.now) }
+    requires placeable { IsPlaceable (map plain_model models.now) }
+    requires ordered { IsOrder (graph (map plain_model models.now)) order.now }
     requires some { 0 < length models.now }
     requires limit { limit ≤ 1073741824 }
     ensures model { IfOk result (λ flat. plain_model flat ≡ flat_model (map plain_model models.now)) }
@@ -91,10 +107,11 @@ fn flat_within(
     ensures clear { OnOk result (name_clash (map plain_model models.now) ≡ None) }
     ensures fault { IfErr result (λ fault. IsTextFault (map plain_model models.now) limit fault) }
 {
-    if !fits(alloc, models, rows, limit)? {
+    if !fits(alloc, models, names, order, limit)? {
         return Err(FlatFault::TooLarge);
     }
-    match named_model(alloc, models, rows) {
+    let rows = ready_rows(alloc, models, names, order)?;
+    match named_model(alloc, models, &rows) {
         Ok(flat) => Ok(flat),
         Err(NamingFault::Clash(text)) => Err(FlatFault::NameClash(text)),
         Err(NamingFault::Memory) => Err(FlatFault::Memory),
@@ -146,8 +163,8 @@ fn flat_of(alloc: Global, lib: &Library, limit: u64) -> Result<Flat, FlatFault>
     ensures rows { IfOk result (λ flat. row_total flat.net.net ≤ limit) }
 {
     let models = lib.models();
-    let rows = sound_rows(alloc, models)?;
-    let flat = flat_within(alloc, models, &rows, limit)?;
+    let found = sound_order(alloc, models)?;
+    let flat = flat_within(alloc, models, &found.names, &found.order, limit)?;
     let assumed = assumed(&flat);
     match design_of(alloc, &flat) {
         Ok(net) => Ok(Flat { net, assumed }),

@@ -7,6 +7,8 @@
 #![tactic(auto)]
 
 mod bare;
+mod count;
+mod counting;
 mod drafted;
 mod fault;
 mod flat_fault;

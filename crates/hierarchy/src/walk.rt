@@ -50,7 +50,7 @@ fn push_frame(walk: &mut Walk, frame: Frame) -> Result<(), AllocError>
 
 /// `u`, the number and `/`.
 #[tactic(auto, unfolding(crate::specs::Flat::step))]
-fn step_text(alloc: Global, number: usize) -> Result<String, AllocError>
+pub(crate) fn step_text(alloc: Global, number: usize) -> Result<String, AllocError>
     ensures { IfOk result (λ text. string_bytes text ≡ step number) }
 {
     format!(in alloc; "u{number}/")

@@ -31,7 +31,7 @@ design_of-requires-clause-outputs c = subst (λ m. Differ m.outputs) (sym (c.in_
 
 pub returns-in-Ok-clause-ok : goal.returns-in-Ok-clause-ok
 returns-in-Ok-clause-ok c = record {
-  sound = subst IsSound c.models-models.ensures.models c.in_ok-rows.ensures.sound;
+  sound = subst IsSound c.models-models.ensures.models c.in_ok-found.ensures.sound;
   fits = subst (λ l. Fits l c.args.limit) c.models-models.ensures.models c.in_ok-flat.ensures.fits;
   clear = subst (λ l. name_clash l ≡ None) c.models-models.ensures.models c.in_ok-flat.ensures.clear;
   faultless = subst (λ m. IsFaultless (draft_of m)) is c.in-Ok.ensures.faultless;

@@ -1,0 +1,5 @@
+pub mod Ordered
+pub mod ReachLaws
+pub mod GreatestLaws
+pub mod UncutLaws
+pub mod WalkLaws

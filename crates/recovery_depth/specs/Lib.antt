@@ -1,0 +1,4 @@
+pub mod Walks
+pub mod Reaching
+pub mod Uncut
+pub mod Depths
