@@ -176,10 +176,10 @@ fn flat_of(alloc: Global, lib: &Library, limit: u64) -> Result<Flat, FlatFault>
 /// The flat design of the library, where its flat text has at most `limit` bytes, and the number of its
 /// registers whose initial value is left open.
 ///
-/// A library has a flat design or a fault, never both, and one of them alone, but that a loop may be told
-/// by any list that is one. That one is the answer, unless there is no memory. Nets and pins of a design
-/// are together at most half of `limit`, and the rows of its covers fill at most `limit` places. The
-/// library is not changed.
+/// Where the library has a flat design, that design is the answer. Where it has a fault, the first one is,
+/// of which a loop may be told by any list that is one. It never has both. `Memory` may come in place of
+/// either. Nets and pins of a design are together at most half of `limit`, and the rows of all covers,
+/// each of the cover's width plus 1, at most `limit`. The library is not changed.
 pub fn flatten(alloc: Global, lib: &Library, limit: u64) -> Result<Flat, FlatFault>
     requires { limit ≤ 1073741824 }
     ensures ok { IfOk result (λ flat. IsFlat lib.now limit flat.net.net flat.assumed) }
