@@ -1,7 +1,7 @@
 use Rattle.std.proofs.Common.{ℕ, List, ◌≤◌, length, sym, ap, subst, ◌∙◌}
 use Rattle.blif_text.specs.Reading.{reading}
 use Rattle.blif_writer.specs.NetOf.{IsNetOf}
-use Rattle.blif_writer.proofs.Lengths.{text_long, model_long}
+use Rattle.blif_writer.proofs.Lengths.{text_long, model_long, text_sum}
 use Rattle.blif_writer.proofs.Again.{text_again, net_of_text, only_net}
 use Rattle.blif_writer.proofs.text.write_flat.Goals as goal
 
@@ -9,7 +9,7 @@ pub returns-in_err-bytes-clause-model_length : goal.returns-in_err-bytes-clause-
 returns-in_err-bytes-clause-model_length c = model_long c.args.net.now.net
 
 pub returns-clause-length : goal.returns-clause-length
-returns-clause-length c = ap length c.in_ok-bytes.ensures ∙ (text_long c.args.net.now.net c.input_count.ensures.design.valid ∙ model_long c.args.net.now.net)
+returns-clause-length c = ap length c.in_ok-bytes.ensures ∙ text_sum c.args.net.now.net c.input_count.ensures.design.valid
 
 pub returns-clause-model : goal.returns-clause-model
 returns-clause-model c = ap reading c.in_ok-bytes.ensures ∙ text_again c.args.net.now.net c.input_count.ensures.design.valid
