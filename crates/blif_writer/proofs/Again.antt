@@ -1,8 +1,9 @@
 -- Reading and flattening the text of a design gives the design.
-use Rattle.std.proofs.Common.{◌≡◌, ℕ, ◌≤◌, [], ◌∷◌, Ok, sym, ap, subst, ◌∙◌}
+use Rattle.std.proofs.Common.{◌≡◌, ℕ, ◌≤◌, List, [], ◌∷◌, Result, Ok, refl, sym, ap, subst, ◌∙◌}
 use Rattle.flat_net.specs.Net.{Net, IsValid}
 use Rattle.flat_net.specs.Faults.{net_of_draft, IsFaultless}
 use Rattle.blif_text.specs.Models.{PlainModel}
+use Rattle.blif_text.specs.Kind.{Bad}
 use Rattle.blif_text.specs.Reading.{reading}
 use Rattle.hierarchy.specs.Drafted.{draft_of, assumed}
 use Rattle.hierarchy.specs.Flat.{flat_model}
@@ -35,3 +36,14 @@ text_again n v = reading_again n (valid_text n v)
 
 pub net_of_text : (n : Net) (limit : ℕ) → IsValid n → text_length (model_of n) ≤ limit → IsNetOf (flat_text n) limit n 0
 net_of_text n limit v within = record { library = model_of n ∷ []; reads = text_again n v; flat = flat_again n limit v within }
+
+ok_is : (a b : List PlainModel) (r s : Result (List PlainModel) Bad) → r ≡ Ok a → s ≡ Ok b → r ≡ s → a ≡ b
+ok_is a b r s ea eb e = cc
+
+-- the text gives no other design
+pub only_net : (n m : Net) (limit count : ℕ) → IsValid n → IsNetOf (flat_text n) limit m count → (m ≡ n) × (count ≡ 0)
+only_net n m limit count v f =
+    let one : f.library ≡ model_of n ∷ [] = ok_is f.library (model_of n ∷ []) (reading (flat_text n)) (reading (flat_text n)) f.reads (text_again n v) refl in
+    let design : m ≡ n = f.flat.design_is ∙ (ap (λ (l : List PlainModel). net_of_draft (draft_of (flat_model l))) one ∙ (ap net_of_draft (drafted_is n) ∙ net_again n v)) in
+    let none : count ≡ 0 = f.flat.open_are ∙ (ap (λ (l : List PlainModel). assumed (flat_model l)) one ∙ (ap assumed (flat_model_is n) ∙ sym (none_assumed n))) in
+    (design, none)

@@ -107,3 +107,6 @@ elements_long n (node ∷ nodes) = sum_by-cons element_length (element_of n node
 pub model_long : (n : Net) → text_length (model_of n) ≡ flat_length n
 unfolding text_length model_of flat_length
 model_long n = omega (arith, sum_by-append spaced_length n.inputs (clock_words n.clock), nets_long n n.outputs, elements_long n n.nodes)
+
+pub text_sum : (n : Net) → IsValid n → length (flat_text n) ≡ flat_length n
+text_sum n v = text_long n v ∙ model_long n

@@ -1,5 +1,5 @@
--- What is still to be written of a text.
-use Rattle.std.specs.Prelude.{◌++◌, ℕ, List, [], ◌∷◌, drop, Option, Some, None}
+-- Pieces of a text that is being written.
+use Rattle.std.specs.Prelude.{ℕ, List, [], ◌∷◌, ◌++◌, drop, Option, Some, None}
 use Rattle.std.specs.List.{flat_map}
 use Rattle.flat_net.specs.Net.{Net, Node}
 use Rattle.blif_writer.specs.Text.{node_lines, lines_text}

@@ -1,6 +1,8 @@
 //! Writes a flat design as a text of the Berkeley Logic Interchange Format.
 //!
-//! The layers above may rely on `flat_text` of `specs/Text.antt`: the text is a function of the design.
+//! The layers above may rely on this: the text is `flat_text` of `specs/Text.antt`, a list of lines of words.
+//! Reading and flattening it gives the design, and no other (`IsNetOf` of `specs/NetOf.antt`), and its length
+//! is a sum over the nodes and their pins (`flat_length` of `specs/Length.antt`).
 #![tactic(auto)]
 
 mod nodes;

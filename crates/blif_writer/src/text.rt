@@ -1,6 +1,7 @@
 //! The text of a design.
 ghost use Rattle.std.specs.Prelude.{◌≡◌, ◌≤◌, ◌++◌, ◌∷◌, [], ℕ, IfOk, OnOk, Ok, codes, length};
 ghost use Rattle.blif_text.specs.Reading.{reading};
+ghost use Rattle.flat_net.specs.Net.{Net};
 ghost use Rattle.hierarchy.specs.FlatText.{text_length};
 ghost use Rattle.blif_writer.specs.Left.{spaced_line};
 ghost use Rattle.blif_writer.specs.Text.{flat_text, net_words, clock_words};
@@ -71,6 +72,8 @@ pub fn write_flat(alloc: Global, net: &FlatNet) -> Result<Vec<u8>, OutOfMemory>
     ensures model_length { text_length (model_of net.now.net) ≡ flat_length net.now.net }
     // Reading and flattening it gives the design, with no assumed initial value, for every limit that it keeps.
     ensures again { IfOk result (λ bytes. (limit : ℕ) → length bytes.items ≤ limit → IsNetOf bytes.items limit net.now.net 0) }
+    // No limit gives another design.
+    ensures only { IfOk result (λ bytes. (limit count : ℕ) (other : Net) → IsNetOf bytes.items limit other count → (other ≡ net.now.net) × (count ≡ 0)) }
 {
     // It says that the design is valid: its names can be read back.
     net.input_count();
