@@ -20,13 +20,13 @@ use Rattle.feedback_cut.specs.Lists.{Leads, alone, longer}
 use Rattle.feedback_cut.proofs.Places.{leads_map}
 use Rattle.feedback_cut.proofs.Decisions.{no_absurd}
 use Rattle.recovery_depth.specs.declared.deep.Deep.{Deep}
-use Rattle.recovery_depth.specs.Walks.{Walk, starts, goes_on, IsReachIn, is_marked, marked}
+use Rattle.recovery_depth.specs.Walks.{Walk, starts, goes_on, IsReach, IsReachIn, is_marked, marked}
 use Rattle.recovery_depth.specs.Depths.{is_some_register, IsDepth}
 use Rattle.recovery_depth.specs.Hardened.{role_at, node_at, is_copy, IsCopyIn, ReadsCopy, ReadsWithin, original_of, own_original, is_register_copy, copied_rows}
 use Rattle.recovery_depth.specs.Chains.{HasWalk, IsDeep, relabeled, Admits}
 use Rattle.recovery_depth.specs.Before.{number_at, last_of, AreBefore}
 use Rattle.recovery_depth.specs.Tops.{part_or_zero, place_of, place_at, places_of, original_in, original_at, originals_of, AreTops, walked, IsRead}
-use Rattle.recovery_depth.proofs.WalkLaws.{walk_map}
+use Rattle.recovery_depth.proofs.WalkLaws.{walk_map, reach_map}
 use Rattle.recovery_depth.proofs.WalkedLaws.{length_walked, walked_walk}
 use Rattle.recovery_depth.proofs.BeforeLaws.{IsLastOf, last_is}
 use Rattle.recovery_depth.proofs.CopyLaws.{copied_long, node_with_role, reads_of_follows, follows_of_reads, bit_of, own_count, label_at, label_grows, label_own}
@@ -229,3 +229,7 @@ is_least h k p depth chain deep labels depths a = go deep.walks
         let label : label_at h (relabeled k labels depths) w.last ≡ label_of (relabeled k labels depths) w.last_in.original w.copy = ap (role_count (relabeled k labels depths)) w.last_in.role in
         let most : label_of (relabeled k labels depths) w.last_in.original w.copy ≤ depth_of (relabeled k labels depths) p = a.depths (length h.inputs + w.last) w.last_in.original w.copy p w.last_in.role w.last_in.part in
         omega (arith, deep.long, up, label, most)
+
+-- the reach of each copy, by what copies read
+pub copy_reached : (n h : Net) (k : PlainCert) (fits : Fits n h k) (bits : List Bool) (reaches : List ℕ) → bits ≡ map (is_register_copy h k) (range_with_len 0 (length h.nodes)) → ((g : ℕ) → g < length (copied_rows h k) → IsReachIn (copied_rows h k) bits g (number_at reaches g)) → (g : ℕ) → g < length h.nodes → IsReach (ReadsCopy h k) (own_original h k) g (number_at reaches g)
+copy_reached n h k fits bits reaches e reached g l = reach_map (Follows (copied_rows h k)) (ReadsCopy h k) (marked bits) (own_original h k) (reads_of_follows n h k fits) (follows_of_reads n h k fits) (own_count n h k fits bits e) g (number_at reaches g) (reached g (omega (arith, copied_long n h k fits, l)))

@@ -8,3 +8,4 @@ pub mod WalkedLaws
 pub mod CopyLaws
 pub mod CopyOrder
 pub mod DeepLaws
+pub mod AdmitLaws

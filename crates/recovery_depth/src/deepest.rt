@@ -5,7 +5,7 @@ ghost use Rattle.flat_net.specs.Nodes.{number_of};
 ghost use Rattle.certificate.specs.Cert.{Fits};
 ghost use Rattle.certificate.specs.Rules.{Corresponds};
 ghost use Rattle.recovery_depth.specs.Chains.{IsDeep, relabeled, Admits};
-ghost use Rattle.recovery_depth.specs.Least.{AreDeep, AreLeast};
+ghost use Rattle.recovery_depth.specs.Least.{AreDeep, AreLeast, AreAdmitted};
 
 use crate::before::registers_before;
 use crate::copies::{copy_reads, originals, places, ranks, register_copies};
@@ -37,6 +37,7 @@ pub fn least(
     ensures long { IfOk result (λ deeps. length deeps.items ≡ length c.now.depth) }
     ensures deep { IfOk result (λ deeps. AreDeep h.now.net c.now deeps.items) }
     ensures lowest { IfOk result (λ deeps. AreLeast h.now.net c.now deeps.items) }
+    ensures admitted { IfOk result (λ deeps. AreAdmitted h.now.net c.now deeps.items) }
 {
     let parts = c.parts();
     let _original = n.input_count();

@@ -1,12 +1,14 @@
-use Rattle.std.proofs.Common.{◌≡◌, ◌<◌, length, refl, sym, ◌∙◌, ap, subst, arith}
-use Rattle.recovery_depth.specs.Walks.{HasNoLoop}
+use Rattle.std.proofs.Common.{◌≡◌, ℕ, ◌<◌, length, refl, sym, ◌∙◌, ap, subst, arith}
+use Rattle.recovery_depth.specs.Walks.{HasNoLoop, IsReachIn}
 use Rattle.std.specs.Prelude.{map}
 use Rattle.std.proofs.lemmas.Option.{slice_get_within}
 use Rattle.tmr_base.specs.Parts.{PlainParts}
 use Rattle.flat_net.specs.Nodes.{number_of}
 use Rattle.recovery_depth.specs.Hardened.{copied_rows}
 use Rattle.recovery_depth.specs.Tops.{IsRead}
-use Rattle.recovery_depth.proofs.DeepLaws.{IsFound, is_deep, is_least, places_long}
+use Rattle.recovery_depth.proofs.DeepLaws.{IsFound, is_deep, is_least, places_long, copy_reached}
+use Rattle.recovery_depth.proofs.AdmitLaws.{are_admitted}
+use Rattle.recovery_depth.specs.Before.{number_at}
 use Rattle.recovery_depth.proofs.CopyLaws.{copied_long}
 use Rattle.recovery_depth.proofs.CopyOrder.{no_copy_loop}
 use Rattle.recovery_depth.proofs.deepest.least.Goals as goal
@@ -52,3 +54,9 @@ returns-clause-deep c = λ p d e.
 pub returns-clause-lowest : goal.returns-clause-lowest
 returns-clause-lowest c = λ labels depths a p d e.
     is_least c.args.h.now.net c.args.c.now p d.depth (map number_of d.chain.items) (returns-clause-deep c p d e) labels depths a
+
+pub returns-clause-admitted : goal.returns-clause-admitted
+returns-clause-admitted c =
+    let rows_long : c.nodes_of-count.result ≡ length (copied_rows c.args.h.now.net c.args.c.now) = c.nodes_of-count.ensures.count ∙ sym (copied_long c.args.n.now.net c.args.h.now.net c.args.c.now c.requires.fits) in
+    let reached : (g : ℕ) → g < length (copied_rows c.args.h.now.net c.args.c.now) → IsReachIn (copied_rows c.args.h.now.net c.args.c.now) c.in_ok-is_register.is_register.items g (number_at c.in_ok-reaches.reaches.items g) = λ g l. rw (c.deref.ensures.value, c.in_ok-graph.ensures) at (c.in_ok-reaches.ensures.each g (omega (arith, rows_long, l))) in
+    are_admitted c.args.n.now.net c.args.h.now.net c.args.c.now c.requires.fits c.parts-parts.ensures.cert c.in_ok-reaches.reaches.items (copy_reached c.args.n.now.net c.args.h.now.net c.args.c.now c.requires.fits c.in_ok-is_register.is_register.items c.in_ok-reaches.reaches.items c.in_ok-is_register.ensures reached) c.in_ok-found.found.items (c.in_ok-found.ensures.long ∙ c.parts-parts.ensures.count) (returns-clause-deep c)
