@@ -8,7 +8,7 @@ use Rattle.feedback_cut.specs.Rows.{Follows}
 use Rattle.recovery_depth.specs.Walks.{Walk, starts, goes_on, IsOrdered, IsReachIn, is_marked, one_if, marked}
 use Rattle.recovery_depth.specs.Reaching.{IsGreatestOf}
 
-marked_count : (bits : List Bool) (x : ℕ) → length (marked bits x) ≡ one_if (is_marked bits x)
+pub marked_count : (bits : List Bool) (x : ℕ) → length (marked bits x) ≡ one_if (is_marked bits x)
 marked_count bits x = go (is_marked bits x)
   where
     go : (b : Bool) → length (cond b (x ∷ []) []) ≡ one_if b

@@ -11,7 +11,7 @@ use std::alloc::Global;
 use tmr_base::OutOfMemory;
 
 /// The number at place x, or 0.
-fn reach_at(reaches: &[u32], x: u32) -> u32
+pub fn reach_at(reaches: &[u32], x: u32) -> u32
     ensures { result ≡ slice_index_or reaches.now x 0 }
 {
     match reaches.get(x as usize) {
@@ -32,7 +32,7 @@ fn greatest_of(row: &[u32], reaches: &[u32]) -> u32
 }
 
 /// 1 for a register, else 0.
-fn own_count(is_register: &[bool], x: u32) -> u32
+pub fn own_count(is_register: &[bool], x: u32) -> u32
     ensures { result ≡ one_if (is_marked is_register.now x) }
 {
     match is_register.get(x as usize) {
@@ -43,7 +43,7 @@ fn own_count(is_register: &[bool], x: u32) -> u32
 
 /// For each vertex the most registers of a walk that ends in it, where each vertex stands in the order
 /// after all that it reads.
-fn reaches_in(
+pub fn reaches_in(
     alloc: Global,
     graph: &Graph,
     is_register: &[bool],

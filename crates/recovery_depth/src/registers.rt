@@ -19,7 +19,7 @@ pub fn nodes_of(n: &FlatNet) -> u32
 }
 
 /// Node x is a register.
-fn is_register(n: &FlatNet, x: u32) -> bool
+pub fn is_register(n: &FlatNet, x: u32) -> bool
     requires { x < length n.now.net.nodes }
     ensures { result ≡ is_register_at n.now.net x }
 {
