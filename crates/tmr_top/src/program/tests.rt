@@ -3,6 +3,7 @@ use super::*;
 use std::alloc::AllocError;
 use std::str;
 use std::test::Fail;
+use tmr_base::read_u64;
 use tmr_outside::{MemFiles, MemSink};
 
 const AND: &str = ".model and2\n.inputs a b\n.outputs y\n.names a b y\n11 1\n.end\n";
@@ -306,17 +307,6 @@ fn a_file_that_is_too_long(rt: HostRuntime) -> Result<(), Fail> {
 }
 
 #[test]
-fn a_put_that_fails(rt: HostRuntime) -> Result<(), Fail> {
-    let alloc = rt.alloc();
-    let mut files = files_of(alloc, "AND AND_HARD AND_CERT")?;
-    let mut out = MemSink::new(alloc);
-    out.fail_at(0, 3)?;
-    let answer = told(alloc, "validate o h c", &mut files, &mut out)?;
-    assert_eq!(rt; answer.as_str(), "3 acc");
-    Ok(())
-}
-
-#[test]
 fn a_put_of_no_acceptance_that_fails(rt: HostRuntime) -> Result<(), Fail> {
     let alloc = rt.alloc();
     let mut files = files_of(alloc, "AND AND_SWAPPED_OUTPUTS AND_CERT")?;
@@ -324,5 +314,73 @@ fn a_put_of_no_acceptance_that_fails(rt: HostRuntime) -> Result<(), Fail> {
     out.fail_at(0, 3)?;
     let answer = told(alloc, "validate o h c", &mut files, &mut out)?;
     assert_eq!(rt; answer.as_str(), "1 not");
+    Ok(())
+}
+
+/// Words, the number of a call on the files that is to fail, and what is answered then.
+const FAILING_CALLS: &str = "validate o h c=0=3 fault: load o
+validate o h c=1=3 fault: load h
+validate o h c=2=3 fault: load c
+validate o h c=3=0 accepted partitions 1 depth 0 assumed 0 0
+flatten o f=0=3 fault: load o
+flatten o f=1=3 fault: save f
+flatten o f=2=0 flat inputs 2 outputs 1 nodes 1 registers 0 assumed 0";
+
+fn failing_calls() -> &'static str {
+    FAILING_CALLS
+}
+
+/// The number that a text writes, or one that no call has.
+fn number_of(text: &str) -> u64 {
+    read_u64(text.as_bytes()).unwrap_or(u64::MAX)
+}
+
+/// The first line of the table whose words answer something else where that call fails and leaves so many bytes.
+fn first_other_answer(alloc: Global, table: &str, keep: u64) -> Result<Option<String>, Fail> {
+    for line in table.lines() {
+        if let Some((words, rest)) = line.split_once('=') {
+            if let Some((call, wanted)) = rest.split_once('=') {
+                let mut files = files_of(alloc, "AND AND_HARD AND_CERT")?;
+                let mut out = MemSink::new(alloc);
+                files.fail_at(number_of(call), keep)?;
+                let answer = told(alloc, words, &mut files, &mut out)?;
+                if answer.as_str().trim_end() != wanted {
+                    return Ok(Some(format!(in alloc; "{line}: {answer}")?));
+                }
+            }
+        }
+    }
+    Ok(None)
+}
+
+#[test]
+fn each_call_that_fails(rt: HostRuntime) -> Result<(), Fail> {
+    for keep in 0..3 {
+        let other = first_other_answer(rt.alloc(), failing_calls(), keep)?;
+        assert_eq!(rt; other, None);
+    }
+    Ok(())
+}
+
+/// What is printed of a run whose put lets so many bytes out and fails.
+fn printed_until(alloc: Global, words: &str, names: &str, keep: u64) -> Result<String, Fail> {
+    let mut files = files_of(alloc, names)?;
+    let mut out = MemSink::new(alloc);
+    out.fail_at(0, keep)?;
+    told(alloc, words, &mut files, &mut out)
+}
+
+#[test]
+fn each_front_of_a_text(rt: HostRuntime) -> Result<(), Fail> {
+    let alloc = rt.alloc();
+    let whole = "3 accepted partitions 1 depth 0 assumed 0 0\n";
+    for keep in 0..50 {
+        let printed = printed_until(alloc, "validate o h c", "AND AND_HARD AND_CERT", keep)?;
+        assert!(rt; whole.starts_with(printed.as_str()));
+        assert_eq!(rt;
+            printed.len() as u64,
+            whole.len().min(keep as usize + 2) as u64
+        );
+    }
     Ok(())
 }
