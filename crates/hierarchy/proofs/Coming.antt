@@ -222,10 +222,10 @@ known_same library path other bound (f ∷ fs) known later a same kept right = (
     go : (name : List ℕ) (end : ℕ) (net : List ℕ) → (end ≤ f.path_end) × (resolve (map (level_of library path) (f ∷ fs)) name ≡ record { path = take end path; name = net }) → (end ≤ f.path_end) × (resolve (map (level_of library other) (f ∷ fs)) name ≡ record { path = take end other; name = net })
     go name end net (low, is) = (low, ap (λ ls. resolve ls name) (sym (views library path other bound (f ∷ fs) a same)) ∙ (is ∙ ap (λ p. record { path = p; name = net }) (same end (let h = a.0 in omega arith))))
 
-pub entered_known : (library : List PlainModel) (path other : List ℕ) (f g h : Frame) (fs : List Frame) (y : ℕ) (old w : Walk) (nets : List ℕ → Option (ℕ × List ℕ)) → AreFrames library (length path) (f ∷ fs) → AreKnown library path (known_net old) (f ∷ fs) → ((k : ℕ) → k < suc (length fs) → known_net w k ≡ known_net old k) → known_net w (suc (length fs)) ≡ nets → other ≡ take f.path_end path ++ step f.number → g ≡ record f { next = f.next + 1; number = f.number + 1 } → h ≡ record { model = y; next = 0; number = 0; placing = Some (f.model, f.next); path_end = length other } → ((name : List ℕ) (end : ℕ) (net : List ℕ) → nets name ≡ Some (end, net) → (actual : List ℕ) × (actual_of (bound_by library (Some (f.model, f.next))) name ≡ Some actual) × (end ≤ f.path_end) × (resolve (map (level_of library path) (f ∷ fs)) actual ≡ record { path = take end path; name = net })) → AreKnown library other (known_net w) (h ∷ g ∷ fs)
+pub entered_known : (library : List PlainModel) (path other : List ℕ) (f g h : Frame) (fs : List Frame) (y : ℕ) (old w : Walk) (nets : List ℕ → Option (ℕ × List ℕ)) → AreFrames library (length path) (f ∷ fs) → AreKnown library path (known_net old) (f ∷ fs) → ((k : ℕ) → k < suc (length fs) → known_net w k ≡ known_net old k) → ((name : List ℕ) (end : ℕ) (net : List ℕ) → known_net w (suc (length fs)) name ≡ Some (end, net) → nets name ≡ Some (end, net)) → other ≡ take f.path_end path ++ step f.number → g ≡ record f { next = f.next + 1; number = f.number + 1 } → h ≡ record { model = y; next = 0; number = 0; placing = Some (f.model, f.next); path_end = length other } → ((name : List ℕ) (end : ℕ) (net : List ℕ) → nets name ≡ Some (end, net) → (actual : List ℕ) × (actual_of (bound_by library (Some (f.model, f.next))) name ≡ Some actual) × (end ≤ f.path_end) × (resolve (map (level_of library path) (f ∷ fs)) actual ≡ record { path = take end path; name = net })) → AreKnown library other (known_net w) (h ∷ g ∷ fs)
 unfolding resolve
 entered_known library path other f g h fs y old w nets a known kept grown is_other is_g is_h right = rw (is_h, is_g) (
-    (λ name end net e. go name end net (right name end net (ap (λ k. k name) (sym grown) ∙ e))),
+    (λ name end net e. go name end net (right name end net (grown name end net e))),
     known_same library path other f.path_end (f ∷ fs) (known_net old) (known_net w) own same kept known)
   where
     own : AreFrames library f.path_end (f ∷ fs)

@@ -20,7 +20,7 @@ use Rattle.indexmap.specs.IndexMap.{get}
 use mathlib.Core.Path.{fun_ext}
 use Rattle.std.specs.Prelude.{option_and_then}
 use Rattle.std.specs.Str.{bytes_eq}
-use Rattle.hierarchy.specs.Walk.{model_at, element_at, innermost_first, AreFrames, IsInstance, IsReady, IsMoved, IsNext, IsPathText, IsWalking, AreKnown, known_net, bound_by, coming, coming_from, levels_of, level_of, placed_element, moves}
+use Rattle.hierarchy.specs.Walk.{model_at, element_at, innermost_first, AreFrames, IsInstance, IsReady, IsMoved, IsNext, IsPathText, IsWalking, IsNetWithin, AreKnown, known_net, bound_by, coming, coming_from, levels_of, level_of, placed_element, moves}
 use Rattle.hierarchy.proofs.Coming.{placed_name, no_target, target_is, skipped, skipped_frames, passed_fewer, left, left_fewer, frames_weaken, passed, entered, entered_frames, entered_known, entered_fewer}
 use Rattle.hierarchy.proofs.PathTexts.{path_more}
 use Rattle.hierarchy.proofs.Linked.{link_of, some_row}
@@ -41,15 +41,31 @@ frames_at library w path frames same stack a = subst (AreFrames library (length 
 known_in : (library : List PlainModel) (w : Walk) (path : List ℕ) (frames : List Frame) → w.path.items ≡ path → innermost_first w ≡ frames → IsWalking library w → AreKnown library path (known_net w) frames
 known_in library w path frames same stack a = subst (AreKnown library path (known_net w)) stack (subst (λ p. AreKnown library p (known_net w) (innermost_first w)) same a.1)
 
+-- the same is known once the innermost placed model is taken off
+pub popped_known : (library : List PlainModel) (old w : Walk) (f : Frame) (fs : List Frame) → IsWalking library old → innermost_first old ≡ f ∷ fs → innermost_first w ≡ fs → w.path.items ≡ old.path.items → w.known.items ≡ old.known.items → AreKnown library w.path.items (known_net w) (f ∷ innermost_first w)
+popped_known library old w f fs a frames left same known_same =
+    subst (λ gs. AreKnown library w.path.items (known_net w) (f ∷ gs)) (sym left)
+    (subst (λ k. AreKnown library w.path.items k (f ∷ fs)) (sym (known_by old w known_same)) (known_in library old w.path.items (f ∷ fs) (sym same) frames a))
+
+-- a net that a statement's formal has, in the words of the placed model before it passes the statement
+pub within_at : (library : List PlainModel) (path : List ℕ) (f : Frame) (fs : List Frame) (w : Walk) (actual : List ℕ) (end : ℕ) (net : List ℕ) → innermost_first w ≡ record { model = f.model; next = f.next + 1; number = f.number + 1; placing = f.placing; path_end = f.path_end } ∷ fs → w.path.items ≡ path → IsNetWithin library w actual end net → (end ≤ f.path_end) × (resolve (map (level_of library path) (f ∷ fs)) actual ≡ record { path = take end path; name = net })
+within_at library path f fs w actual end net frames same right = (
+    right.inner (record f { next = f.next + 1; number = f.number + 1 }) fs frames,
+    sym (ap (λ q. resolve (map (level_of library q) (innermost_first w)) actual) same ∙ ap (λ gs. resolve (map (level_of library path) gs) actual) frames) ∙ (right.is ∙ ap (λ q. record { path = take end q; name = net }) same))
+
+-- a walk that has passed a statement
+pub passed_walking : (library : List PlainModel) (path : List ℕ) (f : Frame) (fs : List Frame) (old w : Walk) → w.known.items ≡ old.known.items → AreKnown library path (known_net old) (f ∷ fs) → AreFrames library (length path) (f ∷ fs) → innermost_first w ≡ record { model = f.model; next = f.next + 1; number = f.number + 1; placing = f.placing; path_end = f.path_end } ∷ fs → w.path.items ≡ path → IsWalking library w
+passed_walking library path f fs old w known_same known a frames kept = walks library w path (record f { next = f.next + 1; number = f.number + 1 } ∷ fs) kept frames (skipped_frames library (length path) f (record f { next = f.next + 1; number = f.number + 1 }) fs a refl) (subst (λ k. AreKnown library path k (f ∷ fs)) (sym (known_by old w known_same)) known)
+
 pub moved_past : (library : List PlainModel) (path : List ℕ) (f : Frame) (fs : List Frame) (old w : Walk) → w.known.items ≡ old.known.items → AreKnown library path (known_net old) (f ∷ fs) → AreFrames library (length path) (f ∷ fs) → f.next < length (model_at library f.model).elements → IsInstance (element_at library f.model f.next) → innermost_first w ≡ record { model = f.model; next = f.next + 1; number = f.number + 1; placing = f.placing; path_end = f.path_end } ∷ fs → w.path.items ≡ path → ((levels : List Level) → elements_to library (length library - length fs) levels (placed_name (element_at library f.model f.next)) ≡ []) → IsMoved library path (f ∷ fs) w
 moved_past library path f fs old w known_same known a below i frames kept none = record {
   same = rw (frames, kept) (sym (skipped library path f (record f { next = f.next + 1; number = f.number + 1 }) fs below i refl none));
-  walking = walks library w path (record f { next = f.next + 1; number = f.number + 1 } ∷ fs) kept frames (skipped_frames library (length path) f (record f { next = f.next + 1; number = f.number + 1 }) fs a refl) (subst (λ k. AreKnown library path k (f ∷ fs)) (sym (known_by old w known_same)) known);
+  walking = passed_walking library path f fs old w known_same known a frames kept;
   fewer = rw frames (passed_fewer library f (record f { next = f.next + 1; number = f.number + 1 }) fs below refl refl);
   text = λ h. subst IsPathText (sym kept) h;
 }
 
-pub moved_into : (library : List PlainModel) (path : List ℕ) (f : Frame) (fs : List Frame) (middle : List Frame) (old w : Walk) (nets : List ℕ → Option (ℕ × List ℕ)) (y : ℕ) → AreKnown library path (known_net old) (f ∷ fs) → ((k : ℕ) → k < suc (length fs) → known_net w k ≡ known_net old k) → known_net w (suc (length fs)) ≡ nets → ((name : List ℕ) (end : ℕ) (net : List ℕ) → nets name ≡ Some (end, net) → (actual : List ℕ) × (actual_of (bound_by library (Some (f.model, f.next))) name ≡ Some actual) × (end ≤ f.path_end) × (resolve (map (level_of library path) (f ∷ fs)) actual ≡ record { path = take end path; name = net })) → AreFrames library (length path) (f ∷ fs) → f.next < length (model_at library f.model).elements → IsInstance (element_at library f.model f.next) → length fs < length library → (holds : List Bool) → ((x : ℕ) → slice_index_or holds x true ≡ false → IsBare library (model_at library x).elements) → target_of (names_of library) holds (element_at library f.model f.next) ≡ Some y → middle ≡ record { model = f.model; next = f.next + 1; number = f.number + 1; placing = f.placing; path_end = f.path_end } ∷ fs → innermost_first w ≡ record { model = y; next = 0; number = 0; placing = Some (f.model, f.next); path_end = length w.path.items } ∷ middle → w.path.items ≡ take f.path_end path ++ step f.number → f.number < 2 ^ 64 → IsMoved library path (f ∷ fs) w
+pub moved_into : (library : List PlainModel) (path : List ℕ) (f : Frame) (fs : List Frame) (middle : List Frame) (old w : Walk) (nets : List ℕ → Option (ℕ × List ℕ)) (y : ℕ) → AreKnown library path (known_net old) (f ∷ fs) → ((k : ℕ) → k < suc (length fs) → known_net w k ≡ known_net old k) → ((name : List ℕ) (end : ℕ) (net : List ℕ) → known_net w (suc (length fs)) name ≡ Some (end, net) → nets name ≡ Some (end, net)) → ((name : List ℕ) (end : ℕ) (net : List ℕ) → nets name ≡ Some (end, net) → (actual : List ℕ) × (actual_of (bound_by library (Some (f.model, f.next))) name ≡ Some actual) × (end ≤ f.path_end) × (resolve (map (level_of library path) (f ∷ fs)) actual ≡ record { path = take end path; name = net })) → AreFrames library (length path) (f ∷ fs) → f.next < length (model_at library f.model).elements → IsInstance (element_at library f.model f.next) → length fs < length library → (holds : List Bool) → ((x : ℕ) → slice_index_or holds x true ≡ false → IsBare library (model_at library x).elements) → target_of (names_of library) holds (element_at library f.model f.next) ≡ Some y → middle ≡ record { model = f.model; next = f.next + 1; number = f.number + 1; placing = f.placing; path_end = f.path_end } ∷ fs → innermost_first w ≡ record { model = y; next = 0; number = 0; placing = Some (f.model, f.next); path_end = length w.path.items } ∷ middle → w.path.items ≡ take f.path_end path ++ step f.number → f.number < 2 ^ 64 → IsMoved library path (f ∷ fs) w
 moved_into library path f fs middle old w nets y known_old deep_known grown nets_right a below i deep holds bare target mid frames longer small = record {
   same = rw (frames, mid) (sym (entered library path w.path.items f g h fs y a below i deep found.1 refl refl longer));
   walking = walks library w w.path.items (h ∷ g ∷ fs) refl (frames ∙ ap (λ m. h ∷ m) mid) (entered_frames library path w.path.items f g h fs y a below found.0 refl refl longer) (entered_known library path w.path.items f g h fs y old w nets a known_old deep_known grown longer refl refl nets_right);

@@ -1,5 +1,7 @@
 //! A walk over the flat elements of a library, one after the other, by a stack of the placed models.
-ghost use Rattle.std.specs.Prelude.{◌≡◌, ◌<◌, ◌≤◌, ◌∷◌, ◌++◌, [], map, length, take, IfOk, OnOk, IfSome, IsNone, Some, None, true, false, string_bytes, slice_get};
+ghost use Rattle.std.specs.Str.{bytes_eq};
+ghost use Rattle.indexmap.specs.IndexMap.{get};
+ghost use Rattle.std.specs.Prelude.{ℕ, List, option_and_then, ◌≡◌, ◌<◌, ◌≤◌, ◌∷◌, ◌++◌, [], map, length, take, IfOk, OnOk, IfSome, IsNone, Some, None, true, false, string_bytes, slice_get};
 ghost use Rattle.hierarchy.specs.Flat.{step};
 ghost use Rattle.hierarchy.specs.declared.links.Row.{Row};
 ghost use Rattle.hierarchy.specs.Walk.{innermost_first, element_at, model_at, known_net, AreFrames, AreKnown, IsInstance, IsReady, IsMoved, IsNext, IsWalking};
@@ -64,6 +66,23 @@ pub(crate) fn step_text(alloc: Global, number: usize) -> Result<String, AllocErr
     format!(in alloc; "u{number}/")
 }
 
+/// At this depth these nets are known, and none further in. Where less is known than the depth, nothing is
+/// kept.
+fn keep_known(
+    known: &mut Vec<IndexMap<Name, (usize, Name)>>,
+    depth: usize,
+    nets: IndexMap<Name, (usize, Name)>,
+) -> Result<(), OutOfMemory>
+    ensures outer { OnOk result ((k : ℕ) → k < depth → slice_get known.new.items k ≡ slice_get known.old.items k) }
+    ensures own { OnOk result ((name : List ℕ) (end : ℕ) (net : List ℕ) → option_and_then (λ m. get bytes_eq m name) (slice_get known.new.items depth) ≡ Some (end, net) → get bytes_eq nets name ≡ Some (end, net)) }
+{
+    known.truncate(depth);
+    if known.len() == depth {
+        known.push(nets)?;
+    }
+    Ok(())
+}
+
 /// Goes into the model that the statement places which comes next in `top`. The nets of these names are
 /// known there.
 fn enter(
@@ -75,11 +94,12 @@ fn enter(
 ) -> Result<(), OutOfMemory>
     ensures frames { OnOk result (innermost_first walk.new ≡ record { model = target; next = 0; number = 0; placing = Some (top.model, top.next); path_end = length walk.new.path.items } ∷ innermost_first walk.old) }
     ensures path { OnOk result (walk.new.path.items ≡ take top.path_end walk.old.path.items ++ step top.number) }
-    ensures known { OnOk result (walk.new.known.items ≡ take (length walk.old.frames.items) walk.old.known.items ++ known ∷ []) }
+    ensures outer { OnOk result ((k : ℕ) → k < length walk.old.frames.items → slice_get walk.new.known.items k ≡ slice_get walk.old.known.items k) }
+    ensures own { OnOk result ((name : List ℕ) (end : ℕ) (net : List ℕ) → known_net walk.new (length walk.old.frames.items) name ≡ Some (end, net) → get bytes_eq known name ≡ Some (end, net)) }
 {
     let text = step_text(alloc, top.number)?;
-    walk.known.truncate(walk.frames.len());
-    walk.known.push(known)?;
+    let depth = walk.frames.len();
+    keep_known(&mut walk.known, depth, known)?;
     walk.path.truncate(top.path_end);
     walk.path.extend_from_slice(text.as_bytes())?;
     let path_end = walk.path.len();
@@ -151,16 +171,17 @@ fn is_instance(element: &Element) -> bool
 }
 
 /// The walk before its first element.
-pub(crate) fn begin_walk(alloc: Global) -> Result<Walk, AllocError>
+pub(crate) fn begin_walk(alloc: Global) -> Result<Walk, OutOfMemory>
     ensures frames { IfOk result (λ walk. innermost_first walk ≡ record { model = 0; next = 0; number = 0; placing = None; path_end = 0 } ∷ []) }
     ensures path { IfOk result (λ walk. walk.path.items ≡ []) }
-    ensures known { IfOk result (λ walk. walk.known.items ≡ []) }
+    ensures known { IfOk result (λ walk. (depth : ℕ) (name : List ℕ) → known_net walk depth name ≡ None) }
 {
     let mut walk = Walk {
         frames: Vec::new(alloc),
         path: Vec::new(alloc),
         known: Vec::new(alloc),
     };
+    walk.known.push(IndexMap::new(alloc))?;
     let main = Frame {
         model: 0,
         next: 0,
