@@ -50,8 +50,9 @@ popped_known library old w f fs a frames left same known_same =
 -- a net that a statement's formal has, in the words of the placed model before it passes the statement
 pub within_at : (library : List PlainModel) (path : List ℕ) (f : Frame) (fs : List Frame) (w : Walk) (actual : List ℕ) (end : ℕ) (net : List ℕ) → innermost_first w ≡ record { model = f.model; next = f.next + 1; number = f.number + 1; placing = f.placing; path_end = f.path_end } ∷ fs → w.path.items ≡ path → IsNetWithin library w actual end net → (end ≤ f.path_end) × (resolve (map (level_of library path) (f ∷ fs)) actual ≡ record { path = take end path; name = net })
 within_at library path f fs w actual end net frames same right = (
-    right.inner (record f { next = f.next + 1; number = f.number + 1 }) fs frames,
-    sym (ap (λ q. resolve (map (level_of library q) (innermost_first w)) actual) same ∙ ap (λ gs. resolve (map (level_of library path) gs) actual) frames) ∙ (right.is ∙ ap (λ q. record { path = take end q; name = net }) same))
+  right.inner (record f { next = f.next + 1; number = f.number + 1 }) fs frames,
+  sym (ap (λ q. resolve (map (level_of library q) (innermost_first w)) actual) same ∙ ap (λ gs. resolve (map (level_of library path) gs) actual) frames) ∙ (right.is ∙ ap (λ q. record { path = take end q; name = net }) same),
+)
 
 -- a walk that has passed a statement
 pub passed_walking : (library : List PlainModel) (path : List ℕ) (f : Frame) (fs : List Frame) (old w : Walk) → w.known.items ≡ old.known.items → AreKnown library path (known_net old) (f ∷ fs) → AreFrames library (length path) (f ∷ fs) → innermost_first w ≡ record { model = f.model; next = f.next + 1; number = f.number + 1; placing = f.placing; path_end = f.path_end } ∷ fs → w.path.items ≡ path → IsWalking library w

@@ -69,8 +69,8 @@ known_inside library path known (x ∷ xs) f ys a = known_inside library path kn
 
 split_at : (w : Walk) (depth : ℕ) (f : Frame) → 0 < depth → depth ≤ length w.frames.items → f ≡ get_or w.frames.items (depth - 1) f → innermost_first w ≡ reverse (drop depth w.frames.items) ++ f ∷ reverse (take (depth - 1) w.frames.items)
 split_at w depth f some within is = ap reverse (sym (take-append-drop depth w.frames.items))
-        ∙ (reverse-append (take depth w.frames.items) (drop depth w.frames.items)
-        ∙ ap (λ r. reverse (drop depth w.frames.items) ++ r) (cut_frames w.frames.items depth f some within is))
+    ∙ (reverse-append (take depth w.frames.items) (drop depth w.frames.items)
+    ∙ ap (λ r. reverse (drop depth w.frames.items) ++ r) (cut_frames w.frames.items depth f some within is))
 
 -- an outer placed model's path ends no later
 pub inner_end : (library : List PlainModel) (w : Walk) (depth : ℕ) (f g : Frame) (fs : List Frame) → IsWalking library w → 0 < depth → depth ≤ length w.frames.items → f ≡ get_or w.frames.items (depth - 1) f → innermost_first w ≡ g ∷ fs → f.path_end ≤ g.path_end

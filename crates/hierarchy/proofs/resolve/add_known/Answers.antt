@@ -9,5 +9,5 @@ pub returns : goal.returns
 returns c = within_more (map plain_model c.args.models.now) c.args.walk.now c.args.link.now (get bytes_eq c.args.nets.now) (get bytes_eq c.insert.new.self) c.in-Some.formal.now c.in-Some.actual.now c.resolve-end.result.0 c.resolve-end.result.1.now c.in-Some.ensures.value
     (record { is = c.resolve-end.ensures.net; inner = c.resolve-end.ensures.inner })
     (λ q. c.in_ok-insert.ensures.updates.0 q
-        ∙ (ap (λ k. cond (bytes_eq k q) (Some (c.resolve-end.result.0, c.in_ok-net.net)) (get bytes_eq c.args.nets.now q)) c.in_ok-key.ensures
-        ∙ ap (λ (n : List ℕ). cond (bytes_eq c.in-Some.formal.now q) (Some (c.resolve-end.result.0, n)) (get bytes_eq c.args.nets.now q)) c.in_ok-net.ensures))
+    ∙ (ap (λ k. cond (bytes_eq k q) (Some (c.resolve-end.result.0, c.in_ok-net.net)) (get bytes_eq c.args.nets.now q)) c.in_ok-key.ensures
+    ∙ ap (λ (n : List ℕ). cond (bytes_eq c.in-Some.formal.now q) (Some (c.resolve-end.result.0, n)) (get bytes_eq c.args.nets.now q)) c.in_ok-net.ensures))

@@ -26,7 +26,6 @@ returns-in_ok-enter c =
     c.requires.ready.holds c.requires.ready.bare
     (sym (target_at (map plain_model c.args.models.now) c.args.rows.now c.requires.ready c.args.top.model c.args.top.next c.link_at-link.result.now c.requires.walking.2 c.link_at-link.ensures) ∙ c.in-Some.is)
     c.in_ok-push_frame.ensures.frames c.in_ok-enter.ensures.frames (c.in_ok-enter.ensures.path ∙ ap (λ p. take c.args.top.path_end p ++ step c.args.top.number) c.in_ok-push_frame.ensures.path) (let n = c.requires.walking.1 in let r = c.requires.room in omega arith)
-
   where
     long : suc (length (innermost_first c.args.walk.now)) ≡ length c.push_frame.new.walk.frames.items
     long = let many = ap length c.in_ok-push_frame.ensures.frames in omega (arith, length-reverse c.push_frame.new.walk.frames.items)
