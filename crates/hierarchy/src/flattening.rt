@@ -17,7 +17,7 @@ ghost use Rattle.hierarchy.specs.Drafted.{draft_of as draft_of_model};
 ghost use Rattle.flat_net.specs.Net.{Net, net_count, pin_total};
 ghost use Rattle.flat_net.specs.Faults.{net_of_draft, IsFaultless, IsFaultOf};
 
-use crate::bare::filled_models;
+use crate::bare::{branching_models, filled_models};
 use crate::count::Count;
 use crate::counting::{count_models, places_of};
 use crate::flat_fault::FlatFault;
@@ -73,7 +73,8 @@ fn ready_rows(
     ensures { IfOk result (λ rows. IsReady (map plain_model models.now) rows.items) }
 {
     let holds = filled_models(alloc, names, models, order)?;
-    all_links(alloc, names, &holds, positions, counts, models)
+    let branching = branching_models(alloc, names, models, &holds)?;
+    all_links(alloc, names, &holds, &branching, positions, counts, models)
 }
 
 /// The names of the models of a library that has no fault of its own, and the order of the reached ones, or

@@ -16,7 +16,8 @@ use tmr_base::{Name, OutOfMemory};
 
 /// One element of a model. A `.subckt` statement below which an element stands has the number of the
 /// model that it places as its target, and each has the actuals of its formals. The formals at the places
-/// `asked` stand in flat elements.
+/// `asked` stand in flat elements of a model that holds more than one; a model that holds one alone only
+/// hands them on.
 #[derive(Drop)]
 pub struct Link {
     pub(crate) target: Option<usize>,
@@ -94,10 +95,19 @@ fn asked_formals(
     Ok(asked)
 }
 
+/// More than one statement of the model of this name holds an element.
+fn is_branching(names: &IndexSet<Name>, branching: &[bool], model: &Name) -> bool {
+    match names.get_index_of(model) {
+        Some(x) => matches!(branching.get(x), Some(true)),
+        None => false,
+    }
+}
+
 fn link_of(
     alloc: Global,
     names: &IndexSet<Name>,
     holds: &[bool],
+    branching: &[bool],
     positions: &[usize],
     counts: &[Option<Count>],
     element: &Element,
@@ -107,7 +117,10 @@ fn link_of(
     match element {
         Element::Instance { model, bindings } => {
             let actuals = bind_actuals(alloc, bindings)?;
-            let asked = asked_formals(alloc, &actuals, count_of(names, positions, counts, model))?;
+            let asked = match is_branching(names, branching, model) {
+                true => asked_formals(alloc, &actuals, count_of(names, positions, counts, model))?,
+                false => Vec::new(alloc),
+            };
             Ok(Link {
                 target: filled_target(names, holds, model),
                 actuals,
@@ -127,6 +140,7 @@ fn links_of(
     alloc: Global,
     names: &IndexSet<Name>,
     holds: &[bool],
+    branching: &[bool],
     positions: &[usize],
     counts: &[Option<Count>],
     elements: &[Element],
@@ -135,7 +149,7 @@ fn links_of(
 {
     let mut links = Vec::new(alloc);
     for element in elements {
-        links.push(link_of(alloc, names, holds, positions, counts, element)?)?;
+        links.push(link_of(alloc, names, holds, branching, positions, counts, element)?)?;
     }
     Ok(links)
 }
@@ -146,6 +160,7 @@ pub(crate) fn all_links(
     alloc: Global,
     names: &IndexSet<Name>,
     holds: &[bool],
+    branching: &[bool],
     positions: &[usize],
     counts: &[Option<Count>],
     models: &[BlifModel],
@@ -154,7 +169,15 @@ pub(crate) fn all_links(
 {
     let mut rows = Vec::new(alloc);
     for model in models {
-        let links = links_of(alloc, names, holds, positions, counts, &model.elements)?;
+        let links = links_of(
+            alloc,
+            names,
+            holds,
+            branching,
+            positions,
+            counts,
+            &model.elements,
+        )?;
         rows.push(Row { links })?;
     }
     Ok(rows)
