@@ -17,7 +17,7 @@ use tmr_base::{Name, OutOfMemory};
 /// One element of a model. A `.subckt` statement below which an element stands has the number of the
 /// model that it places as its target, and each has the actuals of its formals. The formals at the places
 /// `asked` stand in flat elements of a model that holds more than one; a model that holds one alone only
-/// hands them on.
+/// hands them on. Only the time that names take hangs on `asked`, so no clause speaks of it.
 #[derive(Drop)]
 pub struct Link {
     pub(crate) target: Option<usize>,

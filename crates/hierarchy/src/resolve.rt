@@ -36,12 +36,22 @@ fn actual_in<'a>(
     }
 }
 
+/// What is known of a name. Where nothing is known, no name is hashed.
+fn net_among<'a>(nets: &'a IndexMap<Name, (usize, Name)>, name: &Name) -> Option<&'a (usize, Name)>
+    ensures { option_copied result ≡ get bytes_eq nets.now name.now }
+{
+    if nets.is_empty() {
+        return None;
+    }
+    nets.get(name)
+}
+
 /// The net of a name in the placed model of this depth, where the walk knows it.
 fn known_at<'a>(walk: &'a Walk, depth: usize, name: &Name) -> Option<&'a (usize, Name)>
     ensures { option_copied result ≡ known_net walk.now depth name.now }
 {
     let nets = walk.known.get(depth)?;
-    nets.get(name)
+    net_among(nets, name)
 }
 
 /// The net of a name in the innermost placed model of the walk: where its path ends in the walk's path,
