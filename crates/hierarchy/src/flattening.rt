@@ -155,14 +155,10 @@ fn design_of(alloc: Global, flat: &BlifModel) -> Result<FlatNet, NetFault>
     ensures nets { IfOk result (λ net. 2 * (net_count net.net + pin_total net.net) ≤ text_length (plain_model flat.now)) }
     ensures rows { IfOk result (λ net. row_total net.net ≤ text_length (plain_model flat.now)) }
 {
-    match built(alloc, flat) {
-        Ok(net) => {
-            // What an accessor says of each design is needed here: no name is empty.
-            let _inputs = net.input_count();
-            Ok(net)
-        }
-        Err(fault) => Err(fault),
-    }
+    let net = built(alloc, flat)?;
+    // What an accessor says of each design is needed here: no name is empty.
+    let _inputs = net.input_count();
+    Ok(net)
 }
 
 /// The flat design of the library, or its first fault.
@@ -187,10 +183,10 @@ fn flat_of(alloc: Global, lib: &Library, limit: u64) -> Result<Flat, FlatFault>
 /// The flat design of the library, where its flat text has at most `limit` bytes, and the number of its
 /// registers whose initial value is left open.
 ///
-/// A library has a flat design or a fault, never both, and one of them alone, but that a loop may be told
-/// by any list that is one. That one is the answer, unless there is no memory. Nets and pins of a design
-/// are together at most half of `limit`, and the rows of its covers fill at most `limit` places. The
-/// library is not changed.
+/// Where the library has a flat design, that design is the answer. Where it has a fault, the first one is,
+/// of which a loop may be told by any list that is one. It never has both. `Memory` may come in place of
+/// either. Nets and pins of a design are together at most half of `limit`, and the rows of all covers,
+/// each of the cover's width plus 1, at most `limit`. The library is not changed.
 pub fn flatten(alloc: Global, lib: &Library, limit: u64) -> Result<Flat, FlatFault>
     requires { limit ≤ 1073741824 }
     ensures ok { IfOk result (λ flat. IsFlat lib.now limit flat.net.net flat.assumed) }

@@ -37,14 +37,8 @@ fn name_table(
     ensures named { OnOk result (AreNamed (get bytes_eq texts.old) (get bytes_eq texts.new) (flat_map nets_of (placed_element (levels_of (map plain_model models.now) walk.now) (Table pins.now out.now cover.now)))) }
     ensures fault { IfErr result (λ fault. IsNamingFault (get bytes_eq texts.old) (flat_map nets_of (placed_element (levels_of (map plain_model models.now) walk.now) (Table pins.now out.now cover.now))) fault) }
 {
-    let pins = match name_nets(alloc, texts, models, rows, walk, pins) {
-        Ok(pins) => pins,
-        Err(fault) => return Err(fault),
-    };
-    let out = match name_net(alloc, texts, models, rows, walk, out) {
-        Ok(out) => out,
-        Err(fault) => return Err(fault),
-    };
+    let pins = name_nets(alloc, texts, models, rows, walk, pins)?;
+    let out = name_net(alloc, texts, models, rows, walk, out)?;
     let cover = cover.copy(alloc)?;
     Ok(Element::Table { pins, out, cover })
 }
@@ -69,18 +63,9 @@ fn name_latch(
     ensures named { OnOk result (AreNamed (get bytes_eq texts.old) (get bytes_eq texts.new) (flat_map nets_of (placed_element (levels_of (map plain_model models.now) walk.now) (Register pin.now out.now control.now init)))) }
     ensures fault { IfErr result (λ fault. IsNamingFault (get bytes_eq texts.old) (flat_map nets_of (placed_element (levels_of (map plain_model models.now) walk.now) (Register pin.now out.now control.now init))) fault) }
 {
-    let pin = match name_net(alloc, texts, models, rows, walk, pin) {
-        Ok(pin) => pin,
-        Err(fault) => return Err(fault),
-    };
-    let out = match name_net(alloc, texts, models, rows, walk, out) {
-        Ok(out) => out,
-        Err(fault) => return Err(fault),
-    };
-    let control = match name_control(alloc, texts, models, rows, walk, control) {
-        Ok(control) => control,
-        Err(fault) => return Err(fault),
-    };
+    let pin = name_net(alloc, texts, models, rows, walk, pin)?;
+    let out = name_net(alloc, texts, models, rows, walk, out)?;
+    let control = name_control(alloc, texts, models, rows, walk, control)?;
     Ok(Element::Latch {
         pin,
         out,
@@ -140,9 +125,7 @@ pub(crate) fn name_elements(
         let Some((x, i)) = next_element(alloc, walk, models, rows)? else {
             return Ok(elements);
         };
-        match name_element(alloc, texts, models, rows, walk, &models[x].elements[i]) {
-            Ok(element) => elements.push(element)?,
-            Err(fault) => return Err(fault),
-        }
+        let element = name_element(alloc, texts, models, rows, walk, &models[x].elements[i])?;
+        elements.push(element)?;
     }
 }

@@ -69,18 +69,9 @@ pub(crate) fn named_model(
     let main = &models[0];
     let name = main.name.copy(alloc)?;
     let mut texts = IndexMap::new(alloc);
-    let inputs = match name_ports(alloc, &mut texts, models, rows, &main.inputs) {
-        Ok(inputs) => inputs,
-        Err(fault) => return Err(fault),
-    };
-    let elements = match name_flat(alloc, &mut texts, models, rows) {
-        Ok(elements) => elements,
-        Err(fault) => return Err(fault),
-    };
-    let outputs = match name_ports(alloc, &mut texts, models, rows, &main.outputs) {
-        Ok(outputs) => outputs,
-        Err(fault) => return Err(fault),
-    };
+    let inputs = name_ports(alloc, &mut texts, models, rows, &main.inputs)?;
+    let elements = name_flat(alloc, &mut texts, models, rows)?;
+    let outputs = name_ports(alloc, &mut texts, models, rows, &main.outputs)?;
     Ok(BlifModel {
         name,
         inputs,

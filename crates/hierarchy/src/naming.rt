@@ -135,10 +135,8 @@ pub(crate) fn name_nets(
 {
     let mut found = Vec::new(alloc);
     for name in names {
-        match name_net(alloc, texts, models, rows, walk, name) {
-            Ok(text) => found.push(text)?,
-            Err(fault) => return Err(fault),
-        }
+        let text = name_net(alloc, texts, models, rows, walk, name)?;
+        found.push(text)?;
     }
     Ok(found)
 }
@@ -161,10 +159,10 @@ pub(crate) fn name_control(
     ensures fault { IfErr result (λ fault. IsNamingFault (get bytes_eq texts.old) (control_nets (resolved_control (levels_of (map plain_model models.now) walk.now) control.now)) fault) }
 {
     match control {
-        Some((edge, clock)) => match name_net(alloc, texts, models, rows, walk, clock) {
-            Ok(text) => Ok(Some((*edge, text))),
-            Err(fault) => Err(fault),
-        },
+        Some((edge, clock)) => {
+            let text = name_net(alloc, texts, models, rows, walk, clock)?;
+            Ok(Some((*edge, text)))
+        }
         None => Ok(None),
     }
 }

@@ -216,3 +216,33 @@ fn a_billion_placed_models(rt: HostRuntime) -> Result<(), Fail> {
     assert_eq!(rt; told(alloc, &library, 8_388_608)?.as_str(), "0 0 0 0 0 < @");
     Ok(())
 }
+
+/// A main model that places the first of a chain of models so many times. Each model of the chain places
+/// the next, and the last has this element.
+fn chained(alloc: Global, times: u32, models: u32, element: &str) -> Result<Library, Fail> {
+    let mut text = String::new(alloc);
+    write!(text, ".model top\n")?;
+    for _i in 0..times {
+        write!(text, ".subckt m0\n")?;
+    }
+    for i in 0..models {
+        let next = i as u64 + 1;
+        write!(text, ".end\n.model m{i}\n.subckt m{next}\n")?;
+    }
+    write!(text, ".end\n.model m{models}\n{element}\n.end\n")?;
+    read(alloc, text.as_bytes())
+}
+
+#[test]
+fn a_chain_of_20_000_models(rt: HostRuntime) -> Result<(), Fail> {
+    let alloc = rt.alloc();
+    let library = chained(alloc, 1, 20_000, ".names a\n1")?;
+    let answer = told(alloc, &library, 8_388_608)?;
+    assert!(rt; answer.as_str().starts_with("0 0 1 0 0 u0/u0/u0/"));
+    assert_eq!(rt; answer.as_str().len(), 10 + 3 * 20_001 + 5);
+    let library = chained(alloc, 20_000, 20_000, ".names a\n1")?;
+    assert_eq!(rt; told(alloc, &library, 8_388_608)?.as_str(), "too large");
+    let library = chained(alloc, 20_000, 20_000, "")?;
+    assert_eq!(rt; told(alloc, &library, 8_388_608)?.as_str(), "0 0 0 0 0 < @");
+    Ok(())
+}

@@ -1,34 +1,85 @@
 -- Bytes give one design, or none.
-use Rattle.std.proofs.Common.{◌≡◌, ℕ, List, ◌∷◌, Result, Ok, Err, inl, inr, sym, ap, subst, ◌∙◌}
+use Rattle.std.proofs.Common.{◌≡◌, ◌≢◌, ℕ, List, Option, Some, None, Result, Ok, Err, inl, inr, subst}
+use Rattle.std.specs.Prelude.{IfSome}
+use Rattle.std.specs.FinMap.{get}
 use Rattle.blif_text.specs.Kind.{Bad}
 use Rattle.blif_text.specs.Models.{PlainModel}
 use Rattle.blif_text.specs.Reading.{reading}
+use Rattle.blif_text.specs.Stands.{Reads}
+use Rattle.blif_text.specs.declared.fault.TextFault.{TextFault}
 use Rattle.flat_net.specs.Net.{Net}
-use Rattle.flat_net.specs.Faults.{net_of_draft}
-use Rattle.tmr_top.specs.OneModel.{draft_of_model, assumed_in}
-use Rattle.tmr_top.specs.Designs.{IsNetOf, IsNoNet, IsDesignOf, IsUnread}
-use Rattle.tmr_top.proofs.FaultLaws.{faultless_or_fault}
+use Rattle.hierarchy.specs.Flatten.{IsFlat, IsFlatFault}
+use Rattle.hierarchy.specs.declared.flat_fault.FlatFault.{FlatFault}
+use Rattle.hierarchy.specs.declared.flat_fault.FlatFault.TheVariants.{Memory}
+use Rattle.hierarchy.proofs.OneAnswer.{flat_or_fault, one_flat}
+use Rattle.tmr_outside.specs.Contents.{Contents}
+use Rattle.blif_writer.specs.NetOf.{IsNetOf}
+use Rattle.tmr_top.specs.Loads.{Load}
+use Rattle.tmr_top.specs.Loaded.{HoldsText}
+use Rattle.tmr_top.specs.Designs.{IsUnread, HoldsDesign, HoldsNoDesign}
+use Rattle.tmr_top.specs.Reasons.{bad_reason, flat_reason}
 
-same_main : (r : Result (List PlainModel) Bad) (m l : PlainModel) (ms ls : List PlainModel) → r ≡ Ok (m ∷ ms) → r ≡ Ok (l ∷ ls) → m ≡ l
-same_main r m l ms ls e f = cc
+-- ---- what a text gives
 
-read_or_bad : (r : Result (List PlainModel) Bad) (ms : List PlainModel) (bad : Bad) → r ≡ Ok ms → r ≡ Err bad → ⊥
-read_or_bad r ms bad e f = cc
+pub is_design : (limit : ℕ) (bytes : List ℕ) (library : List PlainModel) (n : Net) (assumed : ℕ) → reading bytes ≡ Ok library → IsFlat library limit n assumed → IsNetOf bytes limit n assumed
+is_design limit bytes library n assumed read flat = record { library = library; reads = read; flat = flat }
 
-pub design_once : (bytes : List ℕ) (n m : Net) (a b : ℕ) → IsDesignOf bytes n a → IsDesignOf bytes m b → (n ≡ m) × (a ≡ b)
-design_once bytes n m a b one other =
-    let same : one.main ≡ other.main = same_main (reading bytes) one.main other.main one.others other.others one.read other.read in (
-      one.net.built ∙ (ap (λ (x : PlainModel). net_of_draft (draft_of_model x)) same ∙ sym other.net.built),
-      one.net.counted ∙ (ap assumed_in same ∙ sym other.net.counted),
-    )
+pub bad_library : (limit : ℕ) (bytes : List ℕ) (library : List PlainModel) (fault : FlatFault) (reason : List ℕ) → reading bytes ≡ Ok library → fault ≢ Memory → IsFlatFault library limit fault → reason ≡ flat_reason fault → IsUnread limit bytes reason
+bad_library limit bytes library fault reason read caused first says = inr (record { library = library; read = read; fault = fault; caused = caused; first = first; says = says })
 
-no_net : (m : PlainModel) (n : Net) (a : ℕ) (reason : List ℕ) → IsNetOf m n a → IsNoNet m reason → ⊥
-no_net m n a reason net (inl placed) = let alone = net.alone in let places = placed.0 in cc
-no_net m n a reason net (inr (inl huge)) = huge.0 net.small
-no_net m n a reason net (inr (inr faulty)) = faultless_or_fault (draft_of_model m) faulty.fault net.faultless faulty.caused faulty.is_fault
+pub ruleset libraries = (is_design, bad_library)
 
-pub design_read : (bytes : List ℕ) (n : Net) (a : ℕ) (reason : List ℕ) → IsDesignOf bytes n a → IsUnread bytes reason → ⊥
-design_read bytes n a reason design (inl bad) = read_or_bad (reading bytes) _ bad.bad design.read bad.read
-design_read bytes n a reason design (inr bad) =
-    let same : bad.main ≡ design.main = same_main (reading bytes) bad.main design.main bad.others design.others bad.read design.read in
-    no_net design.main n a reason design.net (subst (λ (m : PlainModel). IsNoNet m reason) same bad.no_net)
+pub bad_text : (limit : ℕ) (bytes : List ℕ) (bad : Bad) (reason : List ℕ) → reading bytes ≡ Err bad → reason ≡ bad_reason bad → IsUnread limit bytes reason
+bad_text limit bytes bad reason read says = inl (record { bad = bad; read = read; says = says })
+
+pub ruleset texts = (bad_text)
+
+-- ---- what a name holds
+
+pub holds_design : (held : Contents) (load : Load) (text : Result (List PlainModel) TextFault) (n : Net) (assumed : ℕ) → HoldsText held load text → ((bytes : List ℕ) → Reads text (reading bytes) → IsNetOf bytes load.limit n assumed) → HoldsDesign held load n assumed
+holds_design held load text n assumed holds read = record { bytes = holds.bytes; there = holds.there; short = holds.short; read = read holds.bytes holds.reads }
+
+pub holds_no_design : (held : Contents) (load : Load) (text : Result (List PlainModel) TextFault) (reason : List ℕ) → HoldsText held load text → ((bytes : List ℕ) → Reads text (reading bytes) → IsUnread load.limit bytes reason) → HoldsNoDesign held load reason
+holds_no_design held load text reason holds unread = record { bytes = holds.bytes; there = holds.there; short = holds.short; unread = unread holds.bytes holds.reads }
+
+pub text_holds : (contents : Option Contents) (load : Load) (text : Result (List PlainModel) TextFault) (n : Net) (assumed : ℕ) → ((bytes : List ℕ) → Reads text (reading bytes) → IsNetOf bytes load.limit n assumed) → IfSome contents (λ held. HoldsText held load text) → IfSome contents (λ held. HoldsDesign held load n assumed)
+text_holds None load text n assumed read holds = tt
+text_holds (Some held) load text n assumed read holds = holds_design held load text n assumed holds read
+
+pub text_holds_none : (contents : Option Contents) (load : Load) (text : Result (List PlainModel) TextFault) (reason : List ℕ) → ((bytes : List ℕ) → Reads text (reading bytes) → IsUnread load.limit bytes reason) → IfSome contents (λ held. HoldsText held load text) → IfSome contents (λ held. HoldsNoDesign held load reason)
+text_holds_none None load text reason unread holds = tt
+text_holds_none (Some held) load text reason unread holds = holds_no_design held load text reason holds unread
+
+-- ---- it gives one design, or none
+
+same_library : (r : Result (List PlainModel) Bad) (one other : List PlainModel) → r ≡ Ok one → r ≡ Ok other → one ≡ other
+same_library r one other e f = cc
+
+read_or_bad : (r : Result (List PlainModel) Bad) (library : List PlainModel) (bad : Bad) → r ≡ Ok library → r ≡ Err bad → ⊥
+read_or_bad r library bad e f = cc
+
+same_bytes : (o : Option (List ℕ)) (one other : List ℕ) → o ≡ Some one → o ≡ Some other → one ≡ other
+same_bytes o one other e f = cc
+
+design_once : (limit : ℕ) (bytes : List ℕ) (n m : Net) (a b : ℕ) → IsNetOf bytes limit n a → IsNetOf bytes limit m b → (n ≡ m) × (a ≡ b)
+design_once limit bytes n m a b one other =
+    let same = same_library (reading bytes) one.library other.library one.reads other.reads in
+    one_flat other.library limit n m a b (subst (λ (l : List PlainModel). IsFlat l limit n a) same one.flat) other.flat
+
+design_or_unread : (limit : ℕ) (bytes : List ℕ) (n : Net) (a : ℕ) (reason : List ℕ) → IsNetOf bytes limit n a → IsUnread limit bytes reason → ⊥
+design_or_unread limit bytes n a reason design (inl bad) = read_or_bad (reading bytes) design.library bad.bad design.reads bad.read
+design_or_unread limit bytes n a reason design (inr bad) =
+    let same = same_library (reading bytes) design.library bad.library design.reads bad.read in
+    flat_or_fault bad.library limit n a bad.fault (subst (λ (l : List PlainModel). IsFlat l limit n a) same design.flat) bad.caused bad.first
+
+-- a name holds one design
+pub one_design : (held : Contents) (load : Load) (n m : Net) (a b : ℕ) → HoldsDesign held load n a → HoldsDesign held load m b → (n ≡ m) × (a ≡ b)
+one_design held load n m a b one other =
+    let same = same_bytes (get held load.name) one.bytes other.bytes one.there other.there in
+    design_once load.limit other.bytes n m a b (subst (λ (bytes : List ℕ). IsNetOf bytes load.limit n a) same one.read) other.read
+
+-- a name that holds a design is not refused
+pub design_or_none : (held : Contents) (load : Load) (n : Net) (a : ℕ) (reason : List ℕ) → HoldsDesign held load n a → HoldsNoDesign held load reason → ⊥
+design_or_none held load n a reason one none =
+    let same = same_bytes (get held load.name) one.bytes none.bytes one.there none.there in
+    design_or_unread load.limit none.bytes n a reason (subst (λ (bytes : List ℕ). IsNetOf bytes load.limit n a) same one.read) none.unread

@@ -1,12 +1,9 @@
 pub mod PlainWords
 pub mod LoadLaws
 pub mod TextLaws
-pub mod VerdictLaws
-pub mod RunLaws
 pub mod DesignLaws
-pub mod ReadLaws
+pub mod PairLaws
+pub mod SeenLaws
+pub mod FlatLaws
+pub mod RunLaws
 pub mod RunClauses
-pub mod DraftLaws
-pub mod CountLaws
-pub mod NetLaws
-pub mod FaultLaws

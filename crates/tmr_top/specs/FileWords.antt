@@ -1,11 +1,21 @@
--- What the words of a pair show of where they lie.
+-- What the words of a command show of where they lie.
 use Rattle.std.specs.Prelude.{ℕ, List, map}
 use Rattle.std.specs.Borrow.{Bor}
-use Rattle.tmr_top.specs.declared.line.FileWords.{FileWords}
-use Rattle.tmr_top.specs.Line.{Pair}
+use Rattle.tmr_top.specs.declared.line.PairWords.{PairWords}
+use Rattle.tmr_top.specs.declared.line.FlatWords.{FlatWords}
+use Rattle.tmr_top.specs.declared.line.CommandWords.{CommandWords}
+use Rattle.tmr_top.specs.declared.line.CommandWords.TheVariants as words
+use Rattle.tmr_top.specs.Line.{Pair, Flattening, Command, Validate, Flatten}
 
-abbrev pub pair_in : FileWords → Pair
+abbrev pub pair_in : PairWords → Pair
 pair_in words = record { original = words.original.now; hardened = words.hardened.now; certificate = words.certificate.now }
+
+abbrev pub flattening_in : FlatWords → Flattening
+flattening_in words = record { original = words.original.now; flat = words.flat.now }
+
+abbrev pub command_in : CommandWords → Command
+command_in (words.Validate pair) = Validate (pair_in pair)
+command_in (words.Flatten flat) = Flatten (flattening_in flat)
 
 -- words without where they lie in memory
 abbrev pub read_words : List (Bor (List ℕ)) → List (List ℕ)

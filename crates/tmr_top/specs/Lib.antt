@@ -3,12 +3,12 @@ pub mod Line
 pub mod FileWords
 pub mod Steps
 pub mod Loads
-pub mod FileBytes
+pub mod Loaded
 pub mod Texts
 pub mod Reasons
 pub mod Designs
 pub mod Unread
-pub mod Verdicts
+pub mod Pairs
+pub mod Flattened
+pub mod Judged
 pub mod Runs
-pub mod OneModel
-pub mod OwnElements

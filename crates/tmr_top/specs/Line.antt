@@ -14,6 +14,16 @@ pub record Pair : Type 0 where
   pub hardened : List ℕ
   pub certificate : List ℕ
 
+-- the two files of `flatten ORIG FLAT`
+pub record Flattening : Type 0 where
+  pub original : List ℕ
+  pub flat : List ℕ
+
+-- what the words of a command line can mean
+pub data Command : Type 0 where
+  Validate : Pair → Command
+  Flatten : Flattening → Command
+
 -- a word of two or more bytes that begins with `-`
 abbrev pub is_option : List ℕ → Bool
 is_option word = nat_lt 1 (length word) && slice_index word 0 == 45
@@ -30,18 +40,28 @@ plain_words (word ∷ words) =
 abbrev pub is_file : List ℕ → Bool
 is_file word = nat_lt 0 (length word)
 
-unfoldable pub pair_of : List (List ℕ) → Option Pair
+unfoldable pub pair_of : List (List ℕ) → Option Command
 pair_of (original ∷ hardened ∷ certificate ∷ []) =
     if is_file original && is_file hardened && is_file certificate
-    then Some (record { original = original; hardened = hardened; certificate = certificate })
+    then Some (Validate (record { original = original; hardened = hardened; certificate = certificate }))
     else None
 pair_of words = None
 
-abbrev pub pair_of_plain : Option (List (List ℕ)) → Option Pair
-pair_of_plain None = None
-pair_of_plain (Some words) = pair_of words
+unfoldable pub flattening_of : List (List ℕ) → Option Command
+flattening_of (original ∷ flat ∷ []) =
+    if is_file original && is_file flat
+    then Some (Flatten (record { original = original; flat = flat }))
+    else None
+flattening_of words = None
 
--- what the words mean: the three files of `validate`, or nothing
-unfoldable pub line_of : List (List ℕ) → Option Pair
+abbrev pub of_plain : (List (List ℕ) → Option Command) → Option (List (List ℕ)) → Option Command
+of_plain meaning None = None
+of_plain meaning (Some words) = meaning words
+
+-- what the words mean: a command with its files, or nothing
+unfoldable pub line_of : List (List ℕ) → Option Command
 line_of [] = None
-line_of (command ∷ words) = if bytes_eq command (codes "validate") then pair_of_plain (plain_words words) else None
+line_of (command ∷ words) =
+    if bytes_eq command (codes "validate") then of_plain pair_of (plain_words words)
+    else if bytes_eq command (codes "flatten") then of_plain flattening_of (plain_words words)
+    else None

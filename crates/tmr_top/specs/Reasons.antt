@@ -7,6 +7,8 @@ use Rattle.blif_text.specs.declared.fault.TextKind.TheVariants as kind
 use Rattle.certificate.specs.declared.fault.CertFault.{CertFault}
 use Rattle.certificate.specs.declared.fault.CertFault.TheVariants as fault
 use Rattle.blif_text.specs.Kind.{Bad}
+use Rattle.hierarchy.specs.declared.flat_fault.FlatFault.{FlatFault}
+use Rattle.hierarchy.specs.declared.flat_fault.FlatFault.TheVariants as flat
 use Rattle.tmr_top.specs.Texts.{joined, line_reason}
 
 abbrev pub kind_text : TextKind → List ℕ
@@ -40,7 +42,7 @@ abbrev pub spaced : List (List ℕ) → List ℕ
 spaced [] = []
 spaced (name ∷ names) = 32 ∷ (name ++ spaced names)
 
--- of a draft that is no design
+-- of flat elements that are no design
 abbrev pub fault_reason : NetFault → List ℕ
 fault_reason (net.DoubleDriven name) = joined (codes "double driven " ∷ name ∷ [])
 fault_reason (net.MixedClock name) = joined (codes "mixed clock " ∷ name ∷ [])
@@ -48,3 +50,16 @@ fault_reason (net.ClockUse name) = joined (codes "clock use " ∷ name ∷ [])
 fault_reason (net.Undriven name) = joined (codes "undriven " ∷ name ∷ [])
 fault_reason (net.CombLoop names) = codes "combinational loop" ++ spaced names.items
 fault_reason net.Memory = []
+
+-- of a library that has no flat design
+abbrev pub flat_reason : FlatFault → List ℕ
+flat_reason (flat.UnknownModel name) = joined (codes "unknown model " ∷ name ∷ [])
+flat_reason (flat.UnboundInput name) = joined (codes "unbound input " ∷ name ∷ [])
+flat_reason (flat.UnknownFormal name) = joined (codes "unknown formal " ∷ name ∷ [])
+flat_reason (flat.DuplicateFormal name) = joined (codes "duplicate formal " ∷ name ∷ [])
+flat_reason (flat.BothWays name) = joined (codes "both ways " ∷ name ∷ [])
+flat_reason (flat.Recursive names) = codes "recursive" ++ spaced names.items
+flat_reason flat.TooLarge = codes "too large"
+flat_reason (flat.NameClash name) = joined (codes "name clash " ∷ name ∷ [])
+flat_reason (flat.Net fault) = fault_reason fault
+flat_reason flat.Memory = []

@@ -1,99 +1,118 @@
--- When each status comes, and what is printed with it.
-use Rattle.std.specs.Prelude.{◌≡◌, ◌≢◌, ℕ, ◌⊎◌, List, ◌++◌, codes, Option, Some, None, IfSome, option_map}
+-- When each status comes, what is printed with it, and what the files then hold.
+use Rattle.std.specs.Prelude.{◌≡◌, ◌≢◌, ℕ, ◌⊎◌, List, [], ◌∷◌, ◌++◌, codes, Option, Some, None, IfSome, option_map}
 use Rattle.tmr_outside.specs.Contents.{Contents}
-use Rattle.tmr_outside.specs.Counts.{Rose, NoneRose}
+use Rattle.tmr_outside.specs.Counts.{Rose}
 use Rattle.tmr_outside.specs.Written.{AppendsPrefix}
-use Rattle.tmr_top.specs.declared.loads.File.{File}
 use Rattle.tmr_top.specs.declared.status.Status.{Status}
 use Rattle.tmr_top.specs.declared.status.Status.TheVariants as status
-use Rattle.tmr_top.specs.Line.{Pair}
-use Rattle.tmr_top.specs.Loads.{FileBytes, AreHeld, AreShort, IsLong, IsFirstLong, IsFirstMissing, LoadRose, word_of}
-use Rattle.tmr_top.specs.Verdicts.{ReadPair, AreRead, Accepts, IsMasking, SaysAccepted, SaysNotAccepted, SaysRefused}
-use Rattle.tmr_top.specs.Texts.{usage_text, memory_text, load_fault_line, refused_line}
+use Rattle.tmr_top.specs.Line.{Flattening, Command, Validate, Flatten}
+use Rattle.tmr_top.specs.Loads.{loads_of, saves_of, OfOne, OfFirst, IsLong, IsMissing, Seen, LoadRose, SaveRose, HeldElsewhere}
+use Rattle.tmr_top.specs.Pairs.{ReadPair, HoldsPair, Validates, Differs, SaysAccepted, SaysNotAccepted, SaysPairUnread}
+use Rattle.tmr_top.specs.Flattened.{Flattens, IsFlattened, SaysFlattened, SaysUnflattened}
+use Rattle.tmr_top.specs.Texts.{usage_text, memory_text, load_fault_line, save_fault_line, refused_line}
 
--- the three names hold bytes within their limits, which give two designs and a certificate
-pub record IsRead (held : Contents) (p : Pair) (r : ReadPair) : Type 0 where
-  pub bytes : FileBytes
-  pub are_held : AreHeld held p bytes
-  pub short : AreShort bytes
-  pub read : AreRead bytes r
+-- ---- by what the files hold
 
--- all three files are read
-abbrev pub AllRead : Contents → Pair → Type 0
-AllRead held p = (r : ReadPair) × IsRead held p r
-
--- all three files are read, and the eight rules hold
-pub record Validates (held : Contents) (p : Pair) : Type 0 where
-  pub pair : ReadPair
-  pub is_read : IsRead held p pair
-  pub accepts : Accepts pair
-
--- all three files are read, and some rule fails
-pub record Differs (held : Contents) (p : Pair) : Type 0 where
-  pub pair : ReadPair
-  pub is_read : IsRead held p pair
-  pub fails : ¬ (Accepts pair)
+-- every file that the command loads is read
+abbrev pub AllRead : Contents → Command → Type 0
+AllRead held (Validate p) = (r : ReadPair) × HoldsPair held p r
+AllRead held (Flatten f) = Flattens held f
 
 -- some file is too long, or its bytes are refused
-abbrev pub IsRefusable : Contents → Pair → Type 0
-IsRefusable held p = ((file : File) × IsLong held p file) ⊎ ¬ (AllRead held p)
+abbrev pub IsRefusable : Contents → Command → Type 0
+IsRefusable held c = OfOne (IsLong held) (loads_of c) ⊎ ¬ (AllRead held c)
 
--- the files that are to be loaded are as they were handed in, and the pair that they hold masks
-pub record Masked (held : Contents) (p : Pair) : Type 0 where
-  pub pair : ReadPair
-  pub is_read : IsRead held p pair
-  pub accepts : Accepts pair
-  pub is_masking : IsMasking pair
+-- all is read, and what the command looks for holds
+abbrev pub Succeeds : Contents → Command → Type 0
+Succeeds held (Validate p) = Validates held p
+Succeeds held (Flatten f) = Flattens held f
 
--- the load count of no file to be loaded rose
-abbrev pub NoLoadRose : Option Contents → Pair → (List ℕ → ℕ) → (List ℕ → ℕ) → Type 0
-NoLoadRose contents p before now = (file : File) → ¬ (LoadRose contents p before now file)
-
--- the load count of a file to be loaded rose
-abbrev pub SomeLoadRose : Option Contents → Pair → (List ℕ → ℕ) → (List ℕ → ℕ) → Type 0
-SomeLoadRose contents p before now = (file : File) × LoadRose contents p before now file
+-- all is read, and what the command looks for does not hold
+abbrev pub Disagrees : Contents → Command → Type 0
+Disagrees held (Validate p) = Differs held p
+Disagrees held (Flatten f) = ⊥
 
 -- a file to be loaded is not there, and those before it are there and are not too long
-abbrev pub SomeMissing : Contents → Pair → Type 0
-SomeMissing held p = (file : File) × IsFirstMissing held p file
+abbrev pub SomeMissing : Contents → Command → Type 0
+SomeMissing held c = OfFirst held (IsMissing held) (loads_of c)
 
--- P holds of the bytes that the three names hold, which are within their limits
-pub record OverBytes (held : Contents) (p : Pair) (P : FileBytes → Type 0) : Type 0 where
-  pub bytes : FileBytes
-  pub are_held : AreHeld held p bytes
-  pub short : AreShort bytes
-  pub says : P bytes
+-- ---- by what failed
+
+-- the load count of a file to be loaded rose
+abbrev pub SomeLoadRose : Command → Seen → Seen → Type 0
+SomeLoadRose c old new = OfOne (LoadRose old new) (loads_of c)
+
+-- the save count of a file to be saved rose
+abbrev pub SomeSaveRose : Command → Seen → Seen → Type 0
+SomeSaveRose c old new = OfOne (SaveRose old new) (saves_of c)
+
+-- ---- texts
 
 -- the first file that is too long is named
-pub record SaysTooLong (held : Contents) (p : Pair) (text : List ℕ) : Type 0 where
-  pub file : File
-  pub first : IsFirstLong held p file
-  pub says : text ≡ refused_line (word_of p file) (codes "too long")
+abbrev pub SaysTooLong : Contents → Command → List ℕ → Type 0
+SaysTooLong held c text = OfFirst held (λ load. IsLong held load × (text ≡ refused_line load.name (codes "too long"))) (loads_of c)
 
 -- a file whose load count rose is named
-pub record SaysFault (contents : Option Contents) (p : Pair) (before now : List ℕ → ℕ) (text : List ℕ) : Type 0 where
-  pub file : File
-  pub rose : LoadRose contents p before now file
-  pub says : text ≡ load_fault_line (word_of p file)
+abbrev pub SaysLoadFault : Command → Seen → Seen → List ℕ → Type 0
+SaysLoadFault c old new text = OfOne (λ load. LoadRose old new load × (text ≡ load_fault_line load.name)) (loads_of c)
 
--- the text that goes with a status of `validate`, where the status is the one that was decided before the put
-abbrev pub PrintsPair : Pair → Option Contents → (List ℕ → ℕ) → (List ℕ → ℕ) → Status → List ℕ → Type 0
-PrintsPair p contents before now status.Done text = IfSome contents (λ held. OverBytes held p (λ b. SaysAccepted b text))
-PrintsPair p contents before now status.NotAccepted text = IfSome contents (λ held. OverBytes held p (λ b. SaysNotAccepted b text))
-PrintsPair p contents before now status.Refused text = IfSome contents (λ held. SaysTooLong held p text ⊎ OverBytes held p (λ b. SaysRefused p b text))
-PrintsPair p contents before now status.Fault text = SaysFault contents p before now text
-PrintsPair p contents before now status.Usage text = ⊥
-PrintsPair p contents before now status.Memory text = text ≡ memory_text
+-- a file whose save count rose is named; nothing is saved before all is read and agrees
+abbrev pub SaysSaveFault : Command → Seen → Seen → List ℕ → Type 0
+SaysSaveFault c old new text = OfOne (λ name. SaveRose old new name × (text ≡ save_fault_line name)) (saves_of c) × IfSome old.contents (λ held. Succeeds held c)
+
+-- the text of a command that is done
+abbrev pub SaysDone : Contents → Command → List ℕ → Type 0
+SaysDone held (Validate p) text = SaysAccepted held p text
+SaysDone held (Flatten f) text = SaysFlattened held f text
+
+-- the text of a command whose files are read, and do not agree
+abbrev pub SaysDisagree : Contents → Command → List ℕ → Type 0
+SaysDisagree held (Validate p) text = SaysNotAccepted held p text
+SaysDisagree held (Flatten f) text = ⊥
+
+-- the text of a command whose files are loaded, and of which one is not read
+abbrev pub SaysUnread : Contents → Command → List ℕ → Type 0
+SaysUnread held (Validate p) text = SaysPairUnread held p text
+SaysUnread held (Flatten f) text = SaysUnflattened held f text
+
+-- The text that goes with a status of a command, where the status is the one that was decided before the put. The old view of the
+-- files is that before the run, and the new one that after it.
+abbrev pub PrintsOf : Command → Seen → Seen → Status → List ℕ → Type 0
+PrintsOf c old new status.Done text = IfSome old.contents (λ held. SaysDone held c text)
+PrintsOf c old new status.NotAccepted text = IfSome old.contents (λ held. SaysDisagree held c text)
+PrintsOf c old new status.Refused text = IfSome old.contents (λ held. SaysTooLong held c text ⊎ SaysUnread held c text)
+PrintsOf c old new status.Fault text = SaysLoadFault c old new text ⊎ SaysSaveFault c old new text
+PrintsOf c old new status.Usage text = ⊥
+PrintsOf c old new status.Memory text = text ≡ memory_text
 
 -- the text that goes with a status, whatever the words mean
-abbrev pub Prints : Option Pair → Option Contents → (List ℕ → ℕ) → (List ℕ → ℕ) → Status → List ℕ → Type 0
-Prints (Some p) contents before now s text = PrintsPair p contents before now s text
-Prints None contents before now status.Usage text = text ≡ usage_text
-Prints None contents before now status.Memory text = text ≡ memory_text
-Prints None contents before now status.Done text = ⊥
-Prints None contents before now status.NotAccepted text = ⊥
-Prints None contents before now status.Refused text = ⊥
-Prints None contents before now status.Fault text = ⊥
+abbrev pub Prints : Option Command → Seen → Seen → Status → List ℕ → Type 0
+Prints (Some c) old new s text = PrintsOf c old new s text
+Prints None old new status.Usage text = text ≡ usage_text
+Prints None old new status.Memory text = text ≡ memory_text
+Prints None old new status.Done text = ⊥
+Prints None old new status.NotAccepted text = ⊥
+Prints None old new status.Refused text = ⊥
+Prints None old new status.Fault text = ⊥
+
+-- ---- contents
+
+-- what the files hold after a flattening that was decided so
+abbrev pub LeavesFlat : Flattening → Seen → Seen → Status → Type 0
+LeavesFlat f old new status.Done = IfSome old.contents (λ held. IsFlattened held f new.contents)
+LeavesFlat f old new status.NotAccepted = new.contents ≡ old.contents
+LeavesFlat f old new status.Usage = new.contents ≡ old.contents
+LeavesFlat f old new status.Refused = new.contents ≡ old.contents
+LeavesFlat f old new status.Fault = (new.contents ≡ old.contents) ⊎ (SaveRose old new f.flat × HeldElsewhere (f.flat ∷ []) old.contents new.contents)
+LeavesFlat f old new status.Memory = (new.contents ≡ old.contents) ⊎ (SaveRose old new f.flat × HeldElsewhere (f.flat ∷ []) old.contents new.contents)
+
+-- what the files hold after a run that was decided so
+abbrev pub Leaves : Option Command → Seen → Seen → Status → Type 0
+Leaves None old new s = new.contents ≡ old.contents
+Leaves (Some (Validate p)) old new s = new.contents ≡ old.contents
+Leaves (Some (Flatten f)) old new s = LeavesFlat f old new s
+
+-- ---- a run
 
 -- the whole text is written, where what is written is told
 abbrev pub IsWhole : List ℕ → Option (List ℕ) → Option (List ℕ) → Type 0
@@ -107,14 +126,12 @@ pub record Ends (text : List ℕ) (old new : Option (List ℕ)) (before now : �
   pub whole : answered ≢ status.Memory → IsWhole text old new ⊎ Rose before now
   pub done : answered ≡ status.Done → IsWhole text old new
 
--- What a run prints: the status that was decided before the put, the text that goes with it, and how the put of that text ends.
--- `old` and `new` are what was written before and after, and `puts` and `puts_after` the count of failed puts.
-pub record Printed (line : Option Pair) (contents : Option Contents) (before now : List ℕ → ℕ) (old new : Option (List ℕ)) (puts puts_after : ℕ) (answered : Status) : Type 0 where
+-- What a run prints and leaves: the status that was decided before the put, the text that goes with it, what the files hold, and
+-- how the put of that text ends. `written` and `writes` are what was written before and after, `puts` and `puts_after` the count
+-- of failed puts.
+pub record Ran (line : Option Command) (old new : Seen) (written writes : Option (List ℕ)) (puts puts_after : ℕ) (answered : Status) : Type 0 where
   pub decided : Status
   pub text : List ℕ
-  pub prints : Prints line contents before now decided text
-  pub ends : Ends text old new puts puts_after decided answered
-
--- where the answer is neither Fault nor Memory, no load failed
-abbrev pub IsUnfailed : (List ℕ → ℕ) → (List ℕ → ℕ) → ℕ → ℕ → Status → Type 0
-IsUnfailed before now puts puts_after answered = answered ≢ status.Fault → answered ≢ status.Memory → NoneRose before now
+  pub prints : Prints line old new decided text
+  pub leaves : Leaves line old new decided
+  pub ends : Ends text written writes puts puts_after decided answered

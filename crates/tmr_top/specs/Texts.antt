@@ -1,7 +1,7 @@
 -- The printed lines, as lists of bytes.
 use Rattle.std.specs.Prelude.{ℕ, ◌+◌, nat_eq, max, List, [], ◌∷◌, ◌++◌, length, codes, if◌then◌else◌}
 use Rattle.std.specs.Fmt.{decimal}
-use Rattle.flat_net.specs.Net.{Net, name_of}
+use Rattle.flat_net.specs.Net.{Net, name_of, register_count}
 use Rattle.certificate.specs.Cert.{PlainCert}
 
 -- pieces, one behind the other
@@ -19,6 +19,16 @@ unfoldable pub accepted_line : PlainCert → ℕ → ℕ → List ℕ
 accepted_line k assumed hardened_assumed =
     joined (codes "accepted partitions " ∷ decimal (length k.depth) ∷ codes " depth " ∷ decimal (greatest k.depth)
     ∷ codes " assumed " ∷ decimal assumed ∷ codes " " ∷ decimal hardened_assumed ∷ codes "\n" ∷ [])
+
+abbrev pub counted_text : List ℕ → ℕ → List ℕ
+counted_text what count = what ++ decimal count
+
+-- how many inputs, outputs, nodes and registers a design has, and how many initial values were taken as 0
+unfoldable pub flattened_line : Net → ℕ → List ℕ
+flattened_line n assumed =
+    joined (counted_text (codes "flat inputs ") (length n.inputs) ∷ counted_text (codes " outputs ") (length n.outputs)
+    ∷ counted_text (codes " nodes ") (length n.nodes) ∷ counted_text (codes " registers ") (register_count n)
+    ∷ counted_text (codes " assumed ") assumed ∷ codes "\n" ∷ [])
 
 -- where a rule fails: at the inputs, at the clock, at a hardened node, or at an output position
 unfoldable pub place_text : Net → ℕ → ℕ → List ℕ
@@ -41,8 +51,11 @@ load_fault_line file = joined (codes "fault: load " ∷ file ∷ codes "\n" ∷ 
 unfoldable pub line_reason : ℕ → List ℕ → List ℕ
 line_reason line kind = joined (codes "line " ∷ decimal line ∷ codes ": " ∷ kind ∷ [])
 
+unfoldable pub save_fault_line : List ℕ → List ℕ
+save_fault_line file = joined (codes "fault: save " ∷ file ∷ codes "\n" ∷ [])
+
 unfoldable pub usage_text : List ℕ
-usage_text = codes "usage: tmr validate ORIG HARD CERT\n"
+usage_text = codes "usage: tmr validate ORIG HARD CERT\n       tmr flatten ORIG FLAT\n"
 
 unfoldable pub memory_text : List ℕ
 memory_text = codes "want of memory\n"

@@ -1,16 +1,17 @@
 //! The runs of the program: from the words of the command line to a status and a printed text.
 #![tactic(auto)]
 
-mod counts;
+mod decision;
 mod designs;
-mod drafts;
-mod judge;
+mod flattening;
 mod line;
 mod loads;
 mod program;
 mod reasons;
 mod status;
+mod taker;
 mod texts;
+mod validation;
 
 pub use program::run;
 pub use status::Status;

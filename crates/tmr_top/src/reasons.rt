@@ -3,12 +3,13 @@ ghost use Rattle.std.specs.Prelude.{◌≡◌, IfOk};
 ghost use Rattle.tmr_top.specs.Texts.{line_reason};
 ghost use Rattle.std.specs.Prelude.{◌≢◌, ◌++◌, ◌∷◌, [], codes, OnOk};
 ghost use Rattle.tmr_top.specs.Texts.{joined};
-ghost use Rattle.tmr_top.specs.Reasons.{kind_text, spaced, fault_reason as reason_of_fault, cert_reason as reason_of_cert};
+ghost use Rattle.tmr_top.specs.Reasons.{kind_text, spaced, fault_reason as reason_of_fault, flat_reason as reason_of_flat, cert_reason as reason_of_cert};
 
 use crate::texts::{at_line, join};
 use blif_text::TextKind;
 use certificate::CertFault;
 use flat_net::NetFault;
+use hierarchy::FlatFault;
 use std::alloc::Global;
 use tmr_base::{Name, OutOfMemory};
 
@@ -72,25 +73,45 @@ fn put_spaced(text: &mut Vec<u8>, names: &[Name]) -> Result<(), OutOfMemory>
     Ok(())
 }
 
-/// The reason of a loop of tables.
-fn loop_reason(alloc: Global, names: &[Name]) -> Result<Vec<u8>, OutOfMemory>
-    ensures { IfOk result (λ reason. reason.items ≡ codes "combinational loop" ++ spaced names.now) }
+/// A text, and then each name with a blank before it.
+fn listing(alloc: Global, text: &str, names: &[Name]) -> Result<Vec<u8>, OutOfMemory>
+    ensures { IfOk result (λ reason. reason.items ≡ text.now ++ spaced names.now) }
 {
-    let mut text = b"combinational loop".to_vec(alloc)?;
-    put_spaced(&mut text, names)?;
-    Ok(text)
+    let mut reason = text.as_bytes().to_vec(alloc)?;
+    put_spaced(&mut reason, names)?;
+    Ok(reason)
 }
 
-/// The reason of a draft that is no design.
-pub fn fault_reason(alloc: Global, fault: &NetFault) -> Result<Vec<u8>, OutOfMemory>
-    ensures { IfOk result (λ reason. reason.items ≡ reason_of_fault fault.now) }
+/// The reason of flat elements that are no design.
+fn fault_reason(alloc: Global, fault: &NetFault) -> Result<Vec<u8>, OutOfMemory>
+    ensures reason { IfOk result (λ reason. reason.items ≡ reason_of_fault fault.now) }
+    ensures caused { OnOk result (fault.now ≢ NetFault.Memory) }
 {
     match fault {
         NetFault::DoubleDriven(name) => naming(alloc, "double driven ", name),
         NetFault::MixedClock(name) => naming(alloc, "mixed clock ", name),
         NetFault::ClockUse(name) => naming(alloc, "clock use ", name),
         NetFault::Undriven(name) => naming(alloc, "undriven ", name),
-        NetFault::CombLoop(names) => loop_reason(alloc, names),
+        NetFault::CombLoop(names) => listing(alloc, "combinational loop", names),
         NetFault::Memory => Err(OutOfMemory),
+    }
+}
+
+/// The reason of a library that has no flat design.
+pub fn flat_reason(alloc: Global, fault: &FlatFault) -> Result<Vec<u8>, OutOfMemory>
+    ensures reason { IfOk result (λ reason. reason.items ≡ reason_of_flat fault.now) }
+    ensures caused { OnOk result (fault.now ≢ FlatFault.Memory) }
+{
+    match fault {
+        FlatFault::UnknownModel(name) => naming(alloc, "unknown model ", name),
+        FlatFault::UnboundInput(name) => naming(alloc, "unbound input ", name),
+        FlatFault::UnknownFormal(name) => naming(alloc, "unknown formal ", name),
+        FlatFault::DuplicateFormal(name) => naming(alloc, "duplicate formal ", name),
+        FlatFault::BothWays(name) => naming(alloc, "both ways ", name),
+        FlatFault::Recursive(names) => listing(alloc, "recursive", names),
+        FlatFault::TooLarge => Ok(b"too large".to_vec(alloc)?),
+        FlatFault::NameClash(name) => naming(alloc, "name clash ", name),
+        FlatFault::Net(fault) => fault_reason(alloc, fault),
+        FlatFault::Memory => Err(OutOfMemory),
     }
 }

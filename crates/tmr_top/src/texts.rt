@@ -2,7 +2,7 @@
 ghost use Rattle.std.specs.Prelude.{◌≡◌, ◌+◌, ◌≤◌, ◌<◌, ◌∷◌, [], codes, length, max, IfOk};
 ghost use Rattle.std.specs.Fmt.{decimal};
 ghost use Rattle.tmr_top.specs.FileWords.{read_words as read_pieces};
-ghost use Rattle.tmr_top.specs.Texts.{joined, greatest, accepted_line, place_text, not_accepted_line, refused_line, load_fault_line, line_reason, usage_text, memory_text};
+ghost use Rattle.tmr_top.specs.Texts.{joined, greatest, accepted_line, place_text, not_accepted_line, refused_line, load_fault_line, save_fault_line, counted_text, flattened_line, line_reason, usage_text, memory_text};
 ghost use Rattle.flat_net.specs.Net.{net_count};
 ghost use Rattle.validator.specs.Place.{IsPlace};
 
@@ -17,7 +17,7 @@ use validator::Refusal;
 pub fn usage() -> &'static str
     ensures { result.now ≡ usage_text }
 {
-    "usage: tmr validate ORIG HARD CERT\n"
+    "usage: tmr validate ORIG HARD CERT\n       tmr flatten ORIG FLAT\n"
 }
 
 /// What is put where there was no memory.
@@ -151,6 +151,54 @@ pub fn load_fault(alloc: Global, file: &str) -> Result<Vec<u8>, OutOfMemory>
         &[
             b"fault: load ".as_slice(),
             file.as_bytes(),
+            b"\n".as_slice(),
+        ],
+    )
+}
+
+/// The line of a file whose save failed.
+#[tactic(auto, unfolding(crate::specs::Texts::save_fault_line))]
+pub fn save_fault(alloc: Global, file: &str) -> Result<Vec<u8>, OutOfMemory>
+    ensures { IfOk result (λ text. text.items ≡ save_fault_line file.now) }
+{
+    join(
+        alloc,
+        &[
+            b"fault: save ".as_slice(),
+            file.as_bytes(),
+            b"\n".as_slice(),
+        ],
+    )
+}
+
+/// What is counted, and how often it is there.
+fn counted(alloc: Global, what: &str, count: u32) -> Result<Vec<u8>, OutOfMemory>
+    ensures { IfOk result (λ text. text.items ≡ counted_text what.now count) }
+{
+    let digits = count.to_string(alloc)?;
+    let mut text = what.as_bytes().to_vec(alloc)?;
+    text.extend_from_slice(digits.as_bytes())?;
+    Ok(text)
+}
+
+/// The line of a design that is flattened.
+#[tactic(auto, unfolding(crate::specs::Texts::flattened_line))]
+pub fn flattened(alloc: Global, net: &FlatNet, assumed: u32) -> Result<Vec<u8>, OutOfMemory>
+    ensures { IfOk result (λ text. text.items ≡ flattened_line net.now.net assumed) }
+{
+    let inputs = counted(alloc, "flat inputs ", net.input_count())?;
+    let outputs = counted(alloc, " outputs ", net.output_count())?;
+    let nodes = counted(alloc, " nodes ", net.node_count())?;
+    let registers = counted(alloc, " registers ", net.register_count())?;
+    let open_values = counted(alloc, " assumed ", assumed)?;
+    join(
+        alloc,
+        &[
+            inputs.as_slice(),
+            outputs.as_slice(),
+            nodes.as_slice(),
+            registers.as_slice(),
+            open_values.as_slice(),
             b"\n".as_slice(),
         ],
     )

@@ -71,6 +71,13 @@ const A_GATE: &str = ".model m\n.gate g a=b\n";
 
 const UNDRIVEN: &str = ".model m\n.outputs y\n";
 
+const AND_LOOSELY: &str =
+    "# two inputs\n.model and2\r\n.inputs a \\\nb\n.outputs y\n.names a b y # one row\n11 1\n";
+
+/// What is printed, and what is saved.
+const AND_FLATTENED: &str =
+    "0 flat inputs 2 outputs 1 nodes 1 registers 0 assumed 0\n.model and2\n.inputs a b\n.outputs y\n.names a b y\n11 1\n.end\n";
+
 /// Three texts, and what `validate` answers for them.
 const PAIRS: &str = "AND AND_HARD AND_CERT=0 accepted partitions 1 depth 0 assumed 0 0
 AND AND_HARD AND_SWAPPED_COPIES=1 not accepted: rule 3 at y~0
@@ -96,7 +103,12 @@ validate a h
 validate a h 
 validate a h -c
 validate a h c d
-check a h c";
+check a h c
+flatten
+flatten a
+flatten a 
+flatten a -f
+flatten a f g";
 
 /// The text of that name. No proof reads the bytes of a text behind a function.
 fn text_of(name: &str) -> &'static str {
@@ -125,6 +137,8 @@ fn text_of(name: &str) -> &'static str {
         "ONE_LINE" => ONE_LINE,
         "A_GATE" => A_GATE,
         "UNDRIVEN" => UNDRIVEN,
+        "AND_LOOSELY" => AND_LOOSELY,
+        "AND_FLATTENED" => AND_FLATTENED,
         _ => "",
     }
 }
@@ -199,7 +213,9 @@ fn first_command(alloc: Global, table: &str) -> Result<Option<String>, Fail> {
         let mut files = MemFiles::new(alloc);
         let mut out = MemSink::new(alloc);
         let answer = told(alloc, line, &mut files, &mut out)?;
-        if answer.as_str() != "2 usage: tmr validate ORIG HARD CERT\n" {
+        if answer.as_str()
+            != "2 usage: tmr validate ORIG HARD CERT\n       tmr flatten ORIG FLAT\n"
+        {
             return Ok(Some(answer));
         }
     }
@@ -210,6 +226,58 @@ fn first_command(alloc: Global, table: &str) -> Result<Option<String>, Fail> {
 fn words_that_are_no_command(rt: HostRuntime) -> Result<(), Fail> {
     let other = first_command(rt.alloc(), no_commands())?;
     assert_eq!(rt; other, None);
+    Ok(())
+}
+
+/// What `flatten o f` answers for a file `o` with the text of this name, and then what `f` holds.
+fn flattened(alloc: Global, name: &str, files: &mut MemFiles) -> Result<String, Fail> {
+    files.hold("o", text_of(name).as_bytes())?;
+    let mut out = MemSink::new(alloc);
+    let answer = told(alloc, "flatten o f", files, &mut out)?;
+    match files.held("f") {
+        Some(bytes) => {
+            let text = str::from_utf8(bytes)?;
+            Ok(format!(in alloc; "{answer}{text}")?)
+        }
+        None => Ok(format!(in alloc; "{answer}nothing")?),
+    }
+}
+
+#[test]
+fn a_flattened_design(rt: HostRuntime) -> Result<(), Fail> {
+    let alloc = rt.alloc();
+    let mut files = MemFiles::new(alloc);
+    let answer = flattened(alloc, "AND_LOOSELY", &mut files)?;
+    assert_eq!(rt; answer.as_str(), text_of("AND_FLATTENED"));
+    Ok(())
+}
+
+#[test]
+fn a_design_that_is_refused(rt: HostRuntime) -> Result<(), Fail> {
+    let alloc = rt.alloc();
+    let mut files = MemFiles::new(alloc);
+    let answer = flattened(alloc, "UNDRIVEN", &mut files)?;
+    assert_eq!(rt; answer.as_str(), "4 refused o: undriven y\nnothing");
+    Ok(())
+}
+
+#[test]
+fn a_save_that_fails(rt: HostRuntime) -> Result<(), Fail> {
+    let alloc = rt.alloc();
+    let mut files = MemFiles::new(alloc);
+    files.fail_at(1, 0)?;
+    let answer = flattened(alloc, "AND", &mut files)?;
+    assert_eq!(rt; answer.as_str(), "3 fault: save f\n");
+    Ok(())
+}
+
+#[test]
+fn a_load_that_fails(rt: HostRuntime) -> Result<(), Fail> {
+    let alloc = rt.alloc();
+    let mut files = MemFiles::new(alloc);
+    files.fail_at(0, 0)?;
+    let answer = flattened(alloc, "AND", &mut files)?;
+    assert_eq!(rt; answer.as_str(), "3 fault: load o\nnothing");
     Ok(())
 }
 

@@ -14,8 +14,8 @@ elements-preserved c = record {
   text = next.text c.elements.invariant.text;
   passed = c.elements.invariant.passed ++ placed_element (levels_of (map plain_model c.args.models.now) c.next_element.new.walk) (plain_element c.index.result.now);
   split = split_more c.elements.invariant.passed _ _ _ _ comes c.elements.invariant.split;
-  found = ap (map plain_element) c.in_ok-push-in-Ok.ensures.items ∙ found_more c.elements.elements.items c.in-Ok.element c.elements.invariant.passed _ c.elements.invariant.found c.in-Ok.ensures.element;
-  named = named_passed (get bytes_eq c.args.texts.now) (get bytes_eq c.elements.texts) (get bytes_eq c.name_element.new.texts) c.elements.invariant.passed _ c.elements.invariant.named c.in-Ok.ensures.named;
+  found = ap (map plain_element) c.in_ok-push.ensures.items ∙ found_more c.elements.elements.items c.in_ok-element.element c.elements.invariant.passed _ c.elements.invariant.found c.in_ok-element.ensures.element;
+  named = named_passed (get bytes_eq c.args.texts.now) (get bytes_eq c.elements.texts) (get bytes_eq c.name_element.new.texts) c.elements.invariant.passed _ c.elements.invariant.named c.in_ok-element.ensures.named;
 }
   where
     next : IsNextElement (map plain_model c.args.models.now) c.elements.walk c.in-Some.x c.in-Some.i c.next_element.new.walk

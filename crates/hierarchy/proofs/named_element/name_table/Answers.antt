@@ -8,4 +8,4 @@ use Rattle.hierarchy.proofs.NetNames.{table_named}
 use Rattle.hierarchy.proofs.named_element.name_table.Goals as goal
 
 pub returns-clause-named : goal.returns-clause-named
-returns-clause-named c = table_named (get bytes_eq c.args.texts.now) (get bytes_eq c.name_nets.new.texts) (get bytes_eq c.name_net.new.texts) (map (resolve (levels_of (map plain_model c.args.models.now) c.args.walk.now)) c.args.pins.now) (resolve (levels_of (map plain_model c.args.models.now) c.args.walk.now) c.args.out.now) c.args.cover.now c.in-Ok.ensures.named c.in-Ok-name_net.ensures.named
+returns-clause-named c = table_named (get bytes_eq c.args.texts.now) (get bytes_eq c.name_nets.new.texts) (get bytes_eq c.name_net.new.texts) (map (resolve (levels_of (map plain_model c.args.models.now) c.args.walk.now)) c.args.pins.now) (resolve (levels_of (map plain_model c.args.models.now) c.args.walk.now) c.args.out.now) c.args.cover.now c.in_ok-pins.ensures.named c.in_ok-out.ensures.named

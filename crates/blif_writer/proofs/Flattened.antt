@@ -1,0 +1,197 @@
+-- The one model of a design flattens to itself.
+use Rattle.std.proofs.Common.{◌≡◌, ℕ, zero, suc, ◌<◌, Bool, true, false, cond, List, [], ◌∷◌, ◌++◌, length, map, get_or, Option, Some, None, refl, sym, ap, subst, ◌∙◌, arith}
+use Rattle.std.specs.Prelude.{not, find, Contains}
+use Rattle.std.specs.List.{flat_map}
+use Rattle.std.specs.Option.{option_map_or}
+use Rattle.tmr_base.specs.declared.ids.Edge.{Edge}
+use Rattle.flat_net.specs.Net.{Net, Node, Table, Register, name_of}
+use Rattle.flat_net.proofs.Names.{eq_true, eq_from}
+use Rattle.blif_text.specs.Models.{PlainElement, PlainModel}
+use Rattle.hierarchy.specs.Flat.{PlacedNet, net_text, Level, main_level, resolve, actual_of, NetElement, NetTable, NetRegister, resolved_control, elements_with, elements_to, flat_elements, named, named_control, flat_model}
+use Rattle.hierarchy.specs.Clash.{main_net, control_nets, nets_of, walked, same_net, has_text, is_taken, clash_after, name_clash}
+use Rattle.hierarchy.specs.Graph.{names_of, placed_in, graph, row, Reached, main, placed}
+use Rattle.hierarchy.specs.Ports.{PlainPorts, ports_of}
+use Rattle.hierarchy.specs.Faults.{elements_fault, model_fault}
+use Rattle.hierarchy.specs.Found.{IsOrder}
+use Rattle.hierarchy.specs.Library.{IsPlaceable}
+use Rattle.hierarchy.specs.Flatten.{IsSound}
+use Rattle.blif_writer.specs.Text.{net_words}
+use Rattle.blif_writer.specs.Model.{init_of, element_of, model_of}
+
+-- ---- its flat elements
+
+abbrev net_control : Option (Edge × List ℕ) → Option (Edge × PlacedNet)
+net_control None = None
+net_control (Some (edge, clock)) = Some (edge, main_net clock)
+
+abbrev net_element : Net → Node → NetElement
+net_element n (Table name cover pins) = NetTable (map main_net (net_words n pins)) (main_net name) cover
+net_element n (Register name init pin) = NetRegister (main_net (name_of n pin)) (main_net name) (net_control n.clock) (init_of init)
+
+main_resolved : (name : List ℕ) → resolve (main_level ∷ []) name ≡ main_net name
+unfolding resolve actual_of
+main_resolved name = refl
+
+all_resolved : (names : List (List ℕ)) → map (resolve (main_level ∷ [])) names ≡ map main_net names
+all_resolved [] = refl
+all_resolved (name ∷ names) = ap (λ (x : PlacedNet). x ∷ map (resolve (main_level ∷ [])) names) (main_resolved name) ∙ ap (λ (xs : List PlacedNet). main_net name ∷ xs) (all_resolved names)
+
+control_resolved : (c : Option (Edge × List ℕ)) → resolved_control (main_level ∷ []) c ≡ net_control c
+control_resolved None = refl
+control_resolved (Some (edge, clock)) = ap (λ (x : PlacedNet). let o : Option (Edge × PlacedNet) = Some (edge, x) in o) (main_resolved clock)
+
+elements_are : (n : Net) (nodes : List Node) (inner : List Level → List ℕ → List NetElement) (number : ℕ) → elements_with inner (main_level ∷ []) number (map (element_of n) nodes) ≡ map (net_element n) nodes
+unfolding elements_with
+elements_are n [] inner number = refl
+elements_are n (Table name cover pins ∷ nodes) inner number = rw (all_resolved (net_words n pins), main_resolved name, elements_are n nodes inner number) refl
+elements_are n (Register name init pin ∷ nodes) inner number = rw (main_resolved (name_of n pin), main_resolved name, control_resolved n.clock, elements_are n nodes inner number) refl
+
+flat_are : (n : Net) → flat_elements (model_of n ∷ []) ≡ map (net_element n) n.nodes
+unfolding flat_elements model_of
+flat_are n = elements_are n n.nodes (elements_to (model_of n ∷ []) 1) 0
+
+texts_same : (names : List (List ℕ)) → map net_text (map main_net names) ≡ names
+texts_same [] = refl
+texts_same (name ∷ names) = ap (λ (ns : List (List ℕ)). name ∷ ns) (texts_same names)
+
+control_same : (c : Option (Edge × List ℕ)) → named_control (net_control c) ≡ c
+control_same None = refl
+control_same (Some (edge, clock)) = refl
+
+named_same : (n : Net) (nodes : List Node) → map named (map (net_element n) nodes) ≡ map (element_of n) nodes
+named_same n [] = refl
+named_same n (Table name cover pins ∷ nodes) = rw (texts_same (net_words n pins), named_same n nodes) refl
+named_same n (Register name init pin ∷ nodes) = rw (control_same n.clock, named_same n nodes) refl
+
+pub flat_model_is : (n : Net) → flat_model (model_of n ∷ []) ≡ model_of n
+unfolding flat_model model_of
+flat_model_is n = ap (λ (es : List PlainElement). let m : PlainModel = record { name = (model_of n).name; inputs = (model_of n).inputs; outputs = (model_of n).outputs; elements = es } in m) (ap (map named) (flat_are n) ∙ (named_same n n.nodes ∙ sym (elements_of n)))
+  where
+    elements_of : (n : Net) → (model_of n).elements ≡ map (element_of n) n.nodes
+    elements_of n = refl
+
+-- ---- no two of its nets share a text
+
+-- all nets are the main model's
+abbrev AreMain : List PlacedNet → Type 0
+AreMain [] = Unit {0}
+AreMain (x ∷ xs) = (x.path ≡ []) × AreMain xs
+
+main_join : (xs ys : List PlacedNet) → AreMain xs → AreMain ys → AreMain (xs ++ ys)
+main_join [] ys a b = b
+main_join (x ∷ xs) ys a b = (a.0, main_join xs ys a.1 b)
+
+names_main : (names : List (List ℕ)) → AreMain (map main_net names)
+names_main [] = tt
+names_main (name ∷ names) = (refl, names_main names)
+
+control_main : (c : Option (Edge × List ℕ)) → AreMain (control_nets (net_control c))
+control_main None = tt
+control_main (Some (edge, clock)) = (refl, tt)
+
+nodes_main : (n : Net) (nodes : List Node) → AreMain (flat_map nets_of (map (net_element n) nodes))
+nodes_main n [] = tt
+nodes_main n (Table name cover pins ∷ nodes) = main_join (map main_net (net_words n pins) ++ main_net name ∷ []) (flat_map nets_of (map (net_element n) nodes)) (main_join (map main_net (net_words n pins)) (main_net name ∷ []) (names_main (net_words n pins)) (refl, tt)) (nodes_main n nodes)
+nodes_main n (Register name init pin ∷ nodes) = (refl, (refl, main_join (control_nets (net_control n.clock)) (flat_map nets_of (map (net_element n) nodes)) (control_main n.clock) (nodes_main n nodes)))
+
+found_main : (p : PlacedNet → Bool) (xs : List PlacedNet) (y : PlacedNet) → AreMain xs → find p xs ≡ Some y → (y.path ≡ []) × (p y ≡ true)
+found_main p [] y a e = absurd cc
+found_main p (x ∷ xs) y a e = go (p x) refl e (found_main p xs y a.1)
+  where
+    some_is : (u v : PlacedNet) → Some u ≡ Some v → u ≡ v
+    some_is u v e = cc
+
+    go : (b : Bool) → p x ≡ b → cond b (Some x) (find p xs) ≡ Some y → (find p xs ≡ Some y → (y.path ≡ []) × (p y ≡ true)) → (y.path ≡ []) × (p y ≡ true)
+    go true is h later = let same = some_is x y h in (ap (λ (z : PlacedNet). z.path) (sym same) ∙ a.0, ap p (sym same) ∙ is)
+    go false is h later = later h
+
+not_taken : (seen : List PlacedNet) (net : PlacedNet) → AreMain seen → net.path ≡ [] → is_taken seen net ≡ false
+not_taken seen net a own = go (find (has_text (net_text net)) seen) refl
+  where
+    go : (o : Option PlacedNet) → find (has_text (net_text net)) seen ≡ o → option_map_or (λ other. not (same_net other net)) o false ≡ false
+    go None e = refl
+    go (Some other) e =
+        let f = found_main (has_text (net_text net)) seen other a e in
+        let texts : other.path ++ other.name ≡ net.path ++ net.name = eq_from (net_text other) (net_text net) f.1 in
+        let names : other.name ≡ net.name = ap (λ (p : List ℕ). p ++ other.name) (sym f.0) ∙ (texts ∙ ap (λ (p : List ℕ). p ++ net.name) own) in
+        rw (eq_true other.path net.path (f.0 ∙ sym own), eq_true other.name net.name names) refl
+
+none_clash : (seen nets : List PlacedNet) → AreMain seen → AreMain nets → clash_after seen nets ≡ None
+unfolding clash_after
+none_clash seen [] a b = refl
+none_clash seen (net ∷ nets) a b = rw (not_taken seen net a b.0) (none_clash (seen ++ net ∷ []) nets (main_join seen (net ∷ []) a (b.0, tt)) b.1)
+
+walked_main : (n : Net) → AreMain (walked (model_of n ∷ []))
+unfolding walked
+walked_main n = main_join (map main_net (model_of n).inputs ++ flat_map nets_of (flat_elements (model_of n ∷ []))) (map main_net (model_of n).outputs) (main_join (map main_net (model_of n).inputs) (flat_map nets_of (flat_elements (model_of n ∷ []))) (names_main (model_of n).inputs) (subst (λ (es : List NetElement). AreMain (flat_map nets_of es)) (sym (flat_are n)) (nodes_main n n.nodes))) (names_main (model_of n).outputs)
+
+pub no_clash : (n : Net) → name_clash (model_of n ∷ []) ≡ None
+no_clash n = none_clash [] (walked (model_of n ∷ [])) tt (walked_main n)
+
+-- ---- it places no models
+
+no_fault : (names : List (List ℕ)) (ports : List PlainPorts) (n : Net) (nodes : List Node) → elements_fault names ports (map (element_of n) nodes) ≡ None
+unfolding elements_fault
+no_fault names ports n [] = refl
+no_fault names ports n (Table name cover pins ∷ nodes) = no_fault names ports n nodes
+no_fault names ports n (Register name init pin ∷ nodes) = no_fault names ports n nodes
+
+model_faultless : (library : List PlainModel) (n : Net) → model_fault library (model_of n) ≡ None
+unfolding model_of
+model_faultless library n = no_fault (names_of library) (map ports_of library) n n.nodes
+
+placeable : (n : Net) → IsPlaceable (model_of n ∷ [])
+placeable n zero m lt e r = ap (model_fault (model_of n ∷ [])) (some_is m (model_of n) (sym e)) ∙ model_faultless (model_of n ∷ []) n
+  where
+    some_is : (u v : PlainModel) → Some u ≡ Some v → u ≡ v
+    some_is u v e = cc
+placeable n (suc k) m lt e r = absurd (omega arith)
+
+none_placed : (names : List (List ℕ)) (n : Net) (nodes : List Node) → placed_in names (map (element_of n) nodes) ≡ []
+unfolding placed_in
+none_placed names n [] = refl
+none_placed names n (Table name cover pins ∷ nodes) = none_placed names n nodes
+none_placed names n (Register name init pin ∷ nodes) = none_placed names n nodes
+
+graph_is : (n : Net) → graph (model_of n ∷ []) ≡ [] ∷ []
+unfolding model_of
+graph_is n = ap (λ (r : List ℕ). r ∷ []) (none_placed (names_of (model_of n ∷ [])) n n.nodes)
+
+abbrev lone : List (List ℕ)
+lone = [] ∷ []
+
+no_row : (x : ℕ) → row lone x ≡ []
+no_row zero = refl
+no_row (suc x) = refl
+
+lone_reached : (x : ℕ) → Reached lone x → Contains (0 ∷ []) x
+lone_reached _ main = (0, lit, refl)
+  where
+    lit : 0 < 1
+    lit = omega arith
+lone_reached _ (placed x y r p) =
+    let long : length (row lone x) ≡ 0 = ap length (no_row x) in
+    absurd (omega (arith, p.1))
+
+lone_order : IsOrder lone (0 ∷ [])
+lone_order = record {
+  within = within;
+  reached = reached;
+  complete = lone_reached;
+  once = λ j k less lt. absurd (omega arith);
+  after = after;
+}
+  where
+    within : (k : ℕ) → k < 1 → get_or (0 ∷ []) k 0 < 1
+    within zero lt = omega arith
+    within (suc k) lt = absurd (omega arith)
+
+    reached : (k : ℕ) → k < 1 → Reached lone (get_or (0 ∷ []) k 0)
+    reached zero lt = main
+    reached (suc k) lt = absurd (omega arith)
+
+    after : (k i : ℕ) → k < 1 → i < length (row lone (get_or (0 ∷ []) k 0)) → (j : ℕ) × (j < k) × (get_or (0 ∷ []) j 0 ≡ get_or (row lone (get_or (0 ∷ []) k 0)) i 0)
+    after k i lt less = let long : length (row lone (get_or (0 ∷ []) k 0)) ≡ 0 = ap length (no_row (get_or (0 ∷ []) k 0)) in absurd (omega arith)
+
+pub sound : (n : Net) → IsSound (model_of n ∷ [])
+sound n = record { placeable = placeable n; order = 0 ∷ []; ordered = subst (λ (rows : List (List ℕ)). IsOrder rows (0 ∷ [])) (sym (graph_is n)) lone_order }

@@ -1,0 +1,12 @@
+pub mod Putting
+pub mod NodeLines
+pub mod TextLaws
+pub mod Clean
+pub mod Differing
+pub mod KindLaws
+pub mod Valid
+pub mod Spelled
+pub mod Flattened
+pub mod Redrafted
+pub mod Again
+pub mod Lengths

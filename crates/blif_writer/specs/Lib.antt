@@ -1,0 +1,5 @@
+pub mod Text
+pub mod Left
+pub mod Model
+pub mod NetOf
+pub mod Length

@@ -1,0 +1,14 @@
+//! Writes a flat design as a text of the Berkeley Logic Interchange Format.
+//!
+//! The layers above may rely on this: the text is `flat_text` of `specs/Text.antt`, a list of lines of words.
+//! Reading and flattening it gives the design, and no other (`IsNetOf` of `specs/NetOf.antt`), and its length
+//! is a sum over the nodes and their pins (`flat_length` of `specs/Length.antt`).
+#![tactic(auto)]
+
+mod nodes;
+#[cfg(test)]
+mod tests;
+mod text;
+mod words;
+
+pub use text::write_flat;

@@ -1,0 +1,16 @@
+use Rattle.std.proofs.Common.{◌≡◌, ◌<◌, ◌-◌, get_or, sym, ◌∙◌, arith, rules, length}
+use Rattle.std.proofs.lemmas.List.{get_or_default}
+use Rattle.feedback_cut.specs.Gathering.{number_at}
+use Rattle.feedback_cut.proofs.GroupLaws.{take_root, all_grouped}
+use Rattle.feedback_cut.proofs.numbering.number_vertices.Goals as goal
+
+pub roots-preserved : goal.roots-preserved
+roots-preserved c =
+    let fresh : number_at c.args.count c.roots.numbers.items c.index-root.result.now ≡ c.args.count = search rules in
+    let within : c.roots.left - 1 < length c.in_ok-searched.searched.order.items = (let f = c.roots.invariant.few in omega (arith, c.roots-test.true)) in
+    let at : get_or c.in_ok-searched.searched.order.items (c.roots.left - 1) 0 ≡ c.index-root.result.now = get_or_default c.in_ok-searched.searched.order.items (c.roots.left - 1) 0 c.index-root.result.now within ∙ sym c.index-root.ensures in
+    take_root c.args.graph.now c.in_ok-searched.searched.order.items c.in_ok-searched.searched.cut c.in_ok-readers.readers c.args.count c.roots.numbers.items c.in_ok-searched.ensures c.in_ok-readers.ensures c.gather.new.numbers.items c.roots.groups c.roots.left (c.roots.left - 1) c.index-root.result.now c.requires c.roots.invariant (omega (arith, c.roots-test.true)) at fresh c.in_ok-gather.ensures
+
+pub returns : goal.returns
+returns c =
+    all_grouped c.args.graph.now c.in_ok-searched.searched.order.items c.in_ok-searched.searched.cut c.args.count c.roots.numbers.items c.roots.groups c.roots.left c.in_ok-searched.ensures c.roots.invariant c.roots-test.false

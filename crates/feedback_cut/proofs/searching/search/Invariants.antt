@@ -1,0 +1,8 @@
+use Rattle.feedback_cut.proofs.Walking.{IsWalk, work}
+use Rattle.feedback_cut.proofs.searching.search.Given as goal
+
+abbrev pub invariant-moves : goal.invariant-moves
+invariant-moves l = IsWalk l.graph l.count l.root l.walk.marks.items l.walk.cut l.walk.path.items l.walk.order.items
+
+abbrev pub decreases-moves : goal.decreases-moves
+decreases-moves l = work l.graph l.count l.root l.walk.marks.items l.walk.cut

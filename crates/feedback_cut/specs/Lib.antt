@@ -1,0 +1,10 @@
+pub mod Rows
+pub mod Lists
+pub mod Inner
+pub mod Cut
+pub mod Search
+pub mod Readers
+pub mod Gathering
+pub mod Numbering
+pub mod Loops
+pub mod Components

@@ -1,0 +1,11 @@
+pub mod Ordered
+pub mod ReachLaws
+pub mod GreatestLaws
+pub mod UncutLaws
+pub mod WalkLaws
+pub mod BeforeLaws
+pub mod WalkedLaws
+pub mod CopyLaws
+pub mod CopyOrder
+pub mod DeepLaws
+pub mod AdmitLaws

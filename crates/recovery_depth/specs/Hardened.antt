@@ -1,0 +1,66 @@
+-- Walks of copies in a hardened design, whose nodes are counted from 0, in their order.
+use Rattle.std.specs.Prelude.{◌≡◌, ℕ, ◌+◌, ◌-◌, ◌<◌, Bool, true, false, ◌&&◌, List, [], ◌∷◌, length, map, slice_index, Option, Some, None, if◌then◌else◌}
+use Rattle.std.specs.List.{range_with_len}
+use Rattle.tmr_base.specs.declared.copies.CopyNo.{CopyNo}
+use Rattle.flat_net.specs.Net.{Net, Node, node_of, pins_at}
+use Rattle.certificate.specs.declared.role.Role.{Role}
+use Rattle.certificate.specs.declared.role.Role.TheVariants.{Copy, Voter}
+use Rattle.certificate.specs.Cert.{PlainCert, role_of, part_of}
+use Rattle.recovery_depth.specs.Depths.{is_some_register}
+
+-- the role of hardened node g
+abbrev pub role_at : Net → PlainCert → ℕ → Option Role
+role_at h k g = role_of k (length h.inputs + g)
+
+abbrev pub node_at : Net → ℕ → Option Node
+node_at h g = node_of h (length h.inputs + g)
+
+abbrev pub is_copy : Option Role → Bool
+is_copy None = false
+is_copy (Some (Copy x c)) = true
+is_copy (Some (Voter x p c)) = false
+
+-- hardened node g is a copy of number c, of a node of partition p
+pub record IsCopyIn (h : Net) (k : PlainCert) (g p : ℕ) (c : CopyNo) : Type 0 where
+  pub original : ℕ
+  pub role : role_at h k g ≡ Some (Copy (record { 0 = original }) c)
+  pub part : part_of k original ≡ Some p
+
+-- copy g reads copy f
+pub record ReadsCopy (h : Net) (k : PlainCert) (f g : ℕ) : Type 0 where
+  pub pin : ℕ
+  pub within : pin < length (pins_at (node_at h g))
+  pub is : slice_index (pins_at (node_at h g)) pin ≡ length h.inputs + f
+  pub reader : is_copy (role_at h k g) ≡ true
+  pub read : is_copy (role_at h k f) ≡ true
+
+-- and both are copies of number c, of nodes of partition p
+pub record ReadsWithin (h : Net) (k : PlainCert) (p : ℕ) (c : CopyNo) (f g : ℕ) : Type 0 where
+  pub reads : ReadsCopy h k f g
+  pub reader_in : IsCopyIn h k g p c
+  pub read_in : IsCopyIn h k f p c
+
+-- the original of a copy, if the copy is a register
+abbrev pub original_of : Option Role → Bool → List ℕ
+original_of None b = []
+original_of (Some (Copy x c)) b = if b then x.0 ∷ [] else []
+original_of (Some (Voter x p c)) b = []
+
+-- the original register of hardened node g, if this is a copy of one
+abbrev pub own_original : Net → PlainCert → ℕ → List ℕ
+own_original h k g = original_of (role_at h k g) (is_some_register (node_at h g))
+
+-- hardened node g is a register, and a copy
+abbrev pub is_register_copy : Net → PlainCert → ℕ → Bool
+is_register_copy h k g = is_copy (role_at h k g) && is_some_register (node_at h g)
+
+-- the number of hardened net f among the nodes, where it is a copy; else the number past all nodes
+abbrev pub copied : Net → PlainCert → ℕ → ℕ
+copied h k f = if is_copy (role_of k f) then f - length h.inputs else length h.nodes
+
+-- the copies that hardened node g reads, where it is a copy
+abbrev pub copied_row : Net → PlainCert → ℕ → List ℕ
+copied_row h k g = if is_copy (role_at h k g) then map (copied h k) (pins_at (node_at h g)) else []
+
+abbrev pub copied_rows : Net → PlainCert → List (List ℕ)
+copied_rows h k = map (copied_row h k) (range_with_len 0 (length h.nodes))

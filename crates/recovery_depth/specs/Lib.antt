@@ -1,0 +1,9 @@
+pub mod Walks
+pub mod Reaching
+pub mod Uncut
+pub mod Depths
+pub mod Hardened
+pub mod Chains
+pub mod Before
+pub mod Tops
+pub mod Least

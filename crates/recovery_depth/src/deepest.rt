@@ -1,0 +1,66 @@
+//! The least depths that a hardened design admits.
+ghost use Rattle.std.specs.Prelude.{◌≡◌, ◌<◌, ◌≤◌, ℕ, List, length, map, Some, slice_get, slice_index, IfOk};
+ghost use Rattle.tmr_base.specs.Copies.{Three};
+ghost use Rattle.flat_net.specs.Nodes.{number_of};
+ghost use Rattle.certificate.specs.Cert.{Fits};
+ghost use Rattle.certificate.specs.Rules.{Corresponds};
+ghost use Rattle.recovery_depth.specs.Chains.{IsDeep, relabeled, Admits};
+ghost use Rattle.recovery_depth.specs.Least.{AreDeep, AreLeast, AreAdmitted};
+
+use crate::before::registers_before;
+use crate::copies::{copy_reads, originals, places, ranks, register_copies};
+use crate::deep::Deep;
+use crate::greatest::greatest_labels;
+use crate::ordering::ordered;
+use crate::reaching::reaches_in;
+use crate::registers::nodes_of;
+use crate::tops::{deeps, tops};
+use certificate::Certificate;
+use flat_net::FlatNet;
+use std::alloc::Global;
+use tmr_base::OutOfMemory;
+
+/// For each partition the least depth that the rules on labels and depths admit with the certificate's
+/// roles, and the original registers of a longest chain, first to last.
+///
+/// The depth is the most registers of a walk of copies in the partition. The chain lies in the lowest copy
+/// that has one, ends in the register of least number, and has before each register the one of least
+/// number that is possible.
+pub fn least(
+    alloc: Global,
+    n: &FlatNet,
+    h: &FlatNet,
+    c: &Certificate,
+) -> Result<Vec<Deep>, OutOfMemory>
+    requires fits { Fits n.now.net h.now.net c.now }
+    requires corresponds { Corresponds n.now.net h.now.net c.now }
+    ensures long { IfOk result (λ deeps. length deeps.items ≡ length c.now.depth) }
+    ensures deep { IfOk result (λ deeps. AreDeep h.now.net c.now deeps.items) }
+    ensures lowest { IfOk result (λ deeps. AreLeast h.now.net c.now deeps.items) }
+    ensures admitted { IfOk result (λ deeps. AreAdmitted h.now.net c.now deeps.items) }
+{
+    let parts = c.parts();
+    let _original = n.input_count();
+    let count = nodes_of(h);
+    let graph = copy_reads(alloc, n, h, c)?;
+    let is_register = register_copies(alloc, n, h, c)?;
+    let order = ordered(alloc, &graph, count)?;
+    let reaches = reaches_in(alloc, &graph, &is_register, &order, count)?;
+    let ranks = ranks(alloc, n, h, c)?;
+    let before = registers_before(alloc, &graph, &is_register, &reaches, &order, &ranks, count)?;
+    let places = places(alloc, n, h, c)?;
+    let depths = greatest_labels(alloc, &places, &reaches)?;
+    let tops = tops(
+        alloc,
+        &places,
+        &reaches,
+        &depths,
+        &is_register,
+        &before,
+        &ranks,
+        count,
+    )?;
+    let originals = originals(alloc, n, h, c)?;
+    let found = deeps(alloc, &before, &originals, &tops, &depths, parts)?;
+    Ok(found)
+}

@@ -1,0 +1,39 @@
+//! Which nodes are registers.
+ghost use Rattle.std.specs.Prelude.{◌≡◌, ◌<◌, ◌+◌, length, map, IfOk, IsTrue};
+ghost use Rattle.std.specs.List.{range_with_len};
+ghost use Rattle.flat_net.specs.Net.{IsDesign};
+ghost use Rattle.recovery_depth.specs.Depths.{is_register_at};
+
+use flat_net::{FlatNet, Kind};
+use std::alloc::Global;
+use tmr_base::{NetId, OutOfMemory};
+
+/// How many nodes there are.
+pub fn nodes_of(n: &FlatNet) -> u32
+    ensures count { result ≡ length n.now.net.nodes }
+    ensures few { length n.now.net.inputs + length n.now.net.nodes < 4294967295 }
+    ensures design { IsDesign n.now }
+{
+    let _inputs = n.input_count();
+    n.node_count()
+}
+
+/// Node x is a register.
+pub fn is_register(n: &FlatNet, x: u32) -> bool
+    requires { x < length n.now.net.nodes }
+    ensures { result ≡ is_register_at n.now.net x }
+{
+    let _nodes = nodes_of(n);
+    n.kind(NetId(n.input_count() + x)) == Kind::Register
+}
+
+/// For each node whether it is a register.
+pub fn registers(alloc: Global, n: &FlatNet) -> Result<Vec<bool>, OutOfMemory>
+    ensures { IfOk result (λ bits. bits.items ≡ map (is_register_at n.now.net) (range_with_len 0 (length n.now.net.nodes))) }
+{
+    let mut bits = Vec::new(alloc);
+    for x in 0..nodes_of(n) {
+        bits.push(is_register(n, x))?;
+    }
+    Ok(bits)
+}
