@@ -7,10 +7,11 @@ use Rattle.std.proofs.lemmas.Option.{slice_get-get_or, get_or_from_slice_get}
 use Rattle.blif_text.specs.Models.{PlainElement, Table, Register, Instance, PlainModel}
 use Rattle.blif_text.specs.Library.{name_of}
 use Rattle.hierarchy.specs.declared.walk.Frame.{Frame}
+use Rattle.hierarchy.specs.declared.walk.Walk.{Walk}
 use Rattle.hierarchy.specs.Graph.{names_of, number_named, model_named}
-use Rattle.hierarchy.specs.Flat.{Level, NetElement, no_model, step, path_of, elements_with, elements_to}
+use Rattle.hierarchy.specs.Flat.{Level, PlacedNet, NetElement, no_model, step, path_of, actual_of, resolve, elements_with, elements_to}
 use Rattle.hierarchy.specs.Links.{filled, target_of, bindings_of, IsBare}
-use Rattle.hierarchy.specs.Walk.{model_at, no_element, element_at, bound_by, level_of, rest_of, coming_from, AreFrames, IsInstance, placed_element, moves_with, moves_to, moves_from}
+use Rattle.hierarchy.specs.Walk.{model_at, no_element, element_at, bound_by, level_of, rest_of, coming_from, known_net, AreFrames, AreKnown, IsInstance, placed_element, moves_with, moves_to, moves_from}
 use Rattle.hierarchy.proofs.GraphLaws.{number_within}
 
 -- ---- paths that begin alike
@@ -210,6 +211,37 @@ entered_frames library path other f g h fs y a below known is_g is_h is_other = 
   where
     longer : f.path_end ≤ length other
     longer = rw is_other (let h = a.0 in omega (arith, length-append (take f.path_end path) (step f.number), length-take f.path_end path))
+
+-- what was known of outer placed models stays right, since their paths stay
+known_same : (library : List PlainModel) (path other : List ℕ) (bound : ℕ) (fs : List Frame) (known later : ℕ → List ℕ → Option (ℕ × List ℕ)) → AreFrames library bound fs → ((e : ℕ) → e ≤ bound → take e path ≡ take e other) → ((k : ℕ) → k < length fs → later k ≡ known k) → AreKnown library path known fs → AreKnown library other later fs
+known_same library path other bound [] known later a same kept right = tt
+known_same library path other bound (f ∷ fs) known later a same kept right = (
+  (λ name end net e. go name end net (right.0 name end net (ap (λ k. k name) (sym (kept (length fs) (omega arith))) ∙ e))),
+  known_same library path other f.path_end fs known later a.4 (λ e l. same e (let h = a.0 in omega arith)) (λ k l. kept k (omega arith)) right.1,
+)
+  where
+    go : (name : List ℕ) (end : ℕ) (net : List ℕ) → (end ≤ f.path_end) × (resolve (map (level_of library path) (f ∷ fs)) name ≡ record { path = take end path; name = net }) → (end ≤ f.path_end) × (resolve (map (level_of library other) (f ∷ fs)) name ≡ record { path = take end other; name = net })
+    go name end net (low, is) = (low, ap (λ ls. resolve ls name) (sym (views library path other bound (f ∷ fs) a same)) ∙ (is ∙ ap (λ p. record { path = p; name = net }) (same end (let h = a.0 in omega arith))))
+
+pub entered_known : (library : List PlainModel) (path other : List ℕ) (f g h : Frame) (fs : List Frame) (y : ℕ) (old w : Walk) (nets : List ℕ → Option (ℕ × List ℕ)) → AreFrames library (length path) (f ∷ fs) → AreKnown library path (known_net old) (f ∷ fs) → ((k : ℕ) → k < suc (length fs) → known_net w k ≡ known_net old k) → ((name : List ℕ) (end : ℕ) (net : List ℕ) → known_net w (suc (length fs)) name ≡ Some (end, net) → nets name ≡ Some (end, net)) → other ≡ take f.path_end path ++ step f.number → g ≡ record f { next = f.next + 1; number = f.number + 1 } → h ≡ record { model = y; next = 0; number = 0; placing = Some (f.model, f.next); path_end = length other } → ((name : List ℕ) (end : ℕ) (net : List ℕ) → nets name ≡ Some (end, net) → (actual : List ℕ) × (actual_of (bound_by library (Some (f.model, f.next))) name ≡ Some actual) × (end ≤ f.path_end) × (resolve (map (level_of library path) (f ∷ fs)) actual ≡ record { path = take end path; name = net })) → AreKnown library other (known_net w) (h ∷ g ∷ fs)
+unfolding resolve
+entered_known library path other f g h fs y old w nets a known kept grown is_other is_g is_h right = rw (is_h, is_g) (
+  (λ name end net e. go name end net (right name end net (grown name end net e))),
+  known_same library path other f.path_end (f ∷ fs) (known_net old) (known_net w) own same kept known,
+)
+  where
+    own : AreFrames library f.path_end (f ∷ fs)
+    own = (omega arith, a.1, a.2, a.3, a.4)
+
+    same : (e : ℕ) → e ≤ f.path_end → take e path ≡ take e other
+    same e l = cut_same path (step f.number) f.path_end e l a.0 ∙ ap (take e) (sym is_other)
+
+    go : (name : List ℕ) (end : ℕ) (net : List ℕ) → (actual : List ℕ) × (actual_of (bound_by library (Some (f.model, f.next))) name ≡ Some actual) × (end ≤ f.path_end) × (resolve (map (level_of library path) (f ∷ fs)) actual ≡ record { path = take end path; name = net }) → (end ≤ length other) × (resolve (record { path = take (length other) other; bindings = bound_by library (Some (f.model, f.next)) } ∷ map (level_of library other) (f ∷ fs)) name ≡ record { path = take end other; name = net })
+    go name end net (actual, bound, low, is) = (
+      (let h = a.0 in omega (arith, ap length is_other, length-append (take f.path_end path) (step f.number), length-take f.path_end path)),
+      ap (λ o. option_map_or (resolve (map (level_of library other) (f ∷ fs))) o (record { path = take (length other) other; name = name })) bound
+          ∙ (ap (λ ls. resolve ls actual) (sym (views library path other f.path_end (f ∷ fs) own same)) ∙ (is ∙ ap (λ p. record { path = p; name = net }) (same end low))),
+    )
 
 pub entered_fewer : (library : List PlainModel) (f g h : Frame) (fs : List Frame) (y : ℕ) (end : ℕ) → f.next < length (model_at library f.model).elements → IsInstance (element_at library f.model f.next) → length fs < length library → model_named library (placed_name (element_at library f.model f.next)) ≡ Some (model_at library y) → g ≡ record f { next = f.next + 1; number = f.number + 1 } → h ≡ record { model = y; next = 0; number = 0; placing = Some (f.model, f.next); path_end = end } → moves_from library (h ∷ g ∷ fs) < moves_from library (f ∷ fs)
 unfolding moves_from

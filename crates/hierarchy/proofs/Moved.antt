@@ -1,5 +1,5 @@
 -- A move of a walk past a `.subckt` statement, in the words of the moves' contracts.
-use Rattle.std.proofs.Common.{◌≡◌, ℕ, ◌+◌, ◌-◌, ◌^◌, ◌<◌, ◌≤◌, Bool, true, false, List, [], ◌∷◌, ◌++◌, length, take, map, get_or, refl, sym, ap, subst, ◌∙◌, arith, Some, None}
+use Rattle.std.proofs.Common.{◌≡◌, ℕ, suc, ◌+◌, ◌-◌, ◌^◌, ◌<◌, ◌≤◌, Bool, true, false, List, [], ◌∷◌, ◌++◌, length, take, map, get_or, refl, sym, ap, subst, ◌∙◌, arith, Option, Some, None}
 use Rattle.std.specs.Prelude.{slice_get, slice_index_or}
 use Rattle.std.proofs.lemmas.List.{get_or-map, length-map}
 use Rattle.blif_text.specs.Models.{PlainElement, PlainModel}
@@ -13,28 +13,63 @@ use Rattle.hierarchy.specs.declared.walk.Walk.{Walk}
 use Rattle.hierarchy.specs.declared.links.Row.{Row}
 use Rattle.hierarchy.specs.declared.links.Link.{Link}
 use Rattle.hierarchy.specs.Graph.{names_of, model_named}
-use Rattle.hierarchy.specs.Flat.{Level, step, elements_to}
+use Rattle.hierarchy.specs.Flat.{Level, step, resolve, elements_to}
 use Rattle.hierarchy.specs.Links.{target_of, bindings_of, IsBare}
 use Rattle.hierarchy.specs.Flat.{actual_of}
-use Rattle.std.specs.HashMap.{get}
+use Rattle.indexmap.specs.IndexMap.{get}
+use mathlib.Core.Path.{fun_ext}
+use Rattle.std.specs.Prelude.{option_and_then}
 use Rattle.std.specs.Str.{bytes_eq}
-use Rattle.hierarchy.specs.Walk.{model_at, element_at, innermost_first, AreFrames, IsInstance, IsReady, IsMoved, IsNext, IsPathText, IsWalking, coming, coming_from, levels_of, level_of, placed_element, moves}
-use Rattle.hierarchy.proofs.Coming.{placed_name, no_target, target_is, skipped, skipped_frames, passed_fewer, left, left_fewer, frames_weaken, passed, entered, entered_frames, entered_fewer}
+use Rattle.hierarchy.specs.Walk.{model_at, element_at, innermost_first, AreFrames, IsInstance, IsReady, IsMoved, IsNext, IsPathText, IsWalking, IsNetWithin, AreKnown, known_net, bound_by, coming, coming_from, levels_of, level_of, placed_element, moves}
+use Rattle.hierarchy.proofs.Coming.{placed_name, no_target, target_is, skipped, skipped_frames, passed_fewer, left, left_fewer, frames_weaken, passed, entered, entered_frames, entered_known, entered_fewer}
 use Rattle.hierarchy.proofs.PathTexts.{path_more}
 use Rattle.hierarchy.proofs.Linked.{link_of, some_row}
 
-pub moved_past : (library : List PlainModel) (path : List ℕ) (f : Frame) (fs : List Frame) (w : Walk) → AreFrames library (length path) (f ∷ fs) → f.next < length (model_at library f.model).elements → IsInstance (element_at library f.model f.next) → innermost_first w ≡ record { model = f.model; next = f.next + 1; number = f.number + 1; placing = f.placing; path_end = f.path_end } ∷ fs → w.path.items ≡ path → ((levels : List Level) → elements_to library (length library - length fs) levels (placed_name (element_at library f.model f.next)) ≡ []) → IsMoved library path (f ∷ fs) w
-moved_past library path f fs w a below i frames kept none = record {
+known_by : (old w : Walk) → w.known.items ≡ old.known.items → known_net w ≡ known_net old
+known_by old w same = fun_ext (λ depth. fun_ext (λ name. ap (λ ms. option_and_then (λ nets. get bytes_eq nets name) (slice_get ms depth)) same))
+
+-- what a walk keeps, in the words of its path and placed models
+walks : (library : List PlainModel) (w : Walk) (path : List ℕ) (frames : List Frame) → w.path.items ≡ path → innermost_first w ≡ frames → AreFrames library (length path) frames → AreKnown library path (known_net w) frames → IsWalking library w
+walks library w path frames same stack a known = (
+  subst (λ p. AreFrames library (length p) (innermost_first w)) (sym same) (subst (AreFrames library (length path)) (sym stack) a),
+  subst (λ p. AreKnown library p (known_net w) (innermost_first w)) (sym same) (subst (AreKnown library path (known_net w)) (sym stack) known),
+)
+
+frames_at : (library : List PlainModel) (w : Walk) (path : List ℕ) (frames : List Frame) → w.path.items ≡ path → innermost_first w ≡ frames → IsWalking library w → AreFrames library (length path) frames
+frames_at library w path frames same stack a = subst (AreFrames library (length path)) stack (subst (λ p. AreFrames library (length p) (innermost_first w)) same a.0)
+
+known_in : (library : List PlainModel) (w : Walk) (path : List ℕ) (frames : List Frame) → w.path.items ≡ path → innermost_first w ≡ frames → IsWalking library w → AreKnown library path (known_net w) frames
+known_in library w path frames same stack a = subst (AreKnown library path (known_net w)) stack (subst (λ p. AreKnown library p (known_net w) (innermost_first w)) same a.1)
+
+-- the same is known once the innermost placed model is taken off
+pub popped_known : (library : List PlainModel) (old w : Walk) (f : Frame) (fs : List Frame) → IsWalking library old → innermost_first old ≡ f ∷ fs → innermost_first w ≡ fs → w.path.items ≡ old.path.items → w.known.items ≡ old.known.items → AreKnown library w.path.items (known_net w) (f ∷ innermost_first w)
+popped_known library old w f fs a frames left same known_same =
+    subst (λ gs. AreKnown library w.path.items (known_net w) (f ∷ gs)) (sym left)
+    (subst (λ k. AreKnown library w.path.items k (f ∷ fs)) (sym (known_by old w known_same)) (known_in library old w.path.items (f ∷ fs) (sym same) frames a))
+
+-- a net that a statement's formal has, in the words of the placed model before it passes the statement
+pub within_at : (library : List PlainModel) (path : List ℕ) (f : Frame) (fs : List Frame) (w : Walk) (actual : List ℕ) (end : ℕ) (net : List ℕ) → innermost_first w ≡ record { model = f.model; next = f.next + 1; number = f.number + 1; placing = f.placing; path_end = f.path_end } ∷ fs → w.path.items ≡ path → IsNetWithin library w actual end net → (end ≤ f.path_end) × (resolve (map (level_of library path) (f ∷ fs)) actual ≡ record { path = take end path; name = net })
+within_at library path f fs w actual end net frames same right = (
+  right.inner (record f { next = f.next + 1; number = f.number + 1 }) fs frames,
+  sym (ap (λ q. resolve (map (level_of library q) (innermost_first w)) actual) same ∙ ap (λ gs. resolve (map (level_of library path) gs) actual) frames) ∙ (right.is ∙ ap (λ q. record { path = take end q; name = net }) same),
+)
+
+-- a walk that has passed a statement
+pub passed_walking : (library : List PlainModel) (path : List ℕ) (f : Frame) (fs : List Frame) (old w : Walk) → w.known.items ≡ old.known.items → AreKnown library path (known_net old) (f ∷ fs) → AreFrames library (length path) (f ∷ fs) → innermost_first w ≡ record { model = f.model; next = f.next + 1; number = f.number + 1; placing = f.placing; path_end = f.path_end } ∷ fs → w.path.items ≡ path → IsWalking library w
+passed_walking library path f fs old w known_same known a frames kept = walks library w path (record f { next = f.next + 1; number = f.number + 1 } ∷ fs) kept frames (skipped_frames library (length path) f (record f { next = f.next + 1; number = f.number + 1 }) fs a refl) (subst (λ k. AreKnown library path k (f ∷ fs)) (sym (known_by old w known_same)) known)
+
+pub moved_past : (library : List PlainModel) (path : List ℕ) (f : Frame) (fs : List Frame) (old w : Walk) → w.known.items ≡ old.known.items → AreKnown library path (known_net old) (f ∷ fs) → AreFrames library (length path) (f ∷ fs) → f.next < length (model_at library f.model).elements → IsInstance (element_at library f.model f.next) → innermost_first w ≡ record { model = f.model; next = f.next + 1; number = f.number + 1; placing = f.placing; path_end = f.path_end } ∷ fs → w.path.items ≡ path → ((levels : List Level) → elements_to library (length library - length fs) levels (placed_name (element_at library f.model f.next)) ≡ []) → IsMoved library path (f ∷ fs) w
+moved_past library path f fs old w known_same known a below i frames kept none = record {
   same = rw (frames, kept) (sym (skipped library path f (record f { next = f.next + 1; number = f.number + 1 }) fs below i refl none));
-  walking = rw (frames, kept) (skipped_frames library (length path) f (record f { next = f.next + 1; number = f.number + 1 }) fs a refl);
+  walking = passed_walking library path f fs old w known_same known a frames kept;
   fewer = rw frames (passed_fewer library f (record f { next = f.next + 1; number = f.number + 1 }) fs below refl refl);
   text = λ h. subst IsPathText (sym kept) h;
 }
 
-pub moved_into : (library : List PlainModel) (path : List ℕ) (f : Frame) (fs : List Frame) (middle : List Frame) (w : Walk) (y : ℕ) → AreFrames library (length path) (f ∷ fs) → f.next < length (model_at library f.model).elements → IsInstance (element_at library f.model f.next) → length fs < length library → (holds : List Bool) → ((x : ℕ) → slice_index_or holds x true ≡ false → IsBare library (model_at library x).elements) → target_of (names_of library) holds (element_at library f.model f.next) ≡ Some y → middle ≡ record { model = f.model; next = f.next + 1; number = f.number + 1; placing = f.placing; path_end = f.path_end } ∷ fs → innermost_first w ≡ record { model = y; next = 0; number = 0; placing = Some (f.model, f.next); path_end = length w.path.items } ∷ middle → w.path.items ≡ take f.path_end path ++ step f.number → f.number < 2 ^ 64 → IsMoved library path (f ∷ fs) w
-moved_into library path f fs middle w y a below i deep holds bare target mid frames longer small = record {
+pub moved_into : (library : List PlainModel) (path : List ℕ) (f : Frame) (fs : List Frame) (middle : List Frame) (old w : Walk) (nets : List ℕ → Option (ℕ × List ℕ)) (y : ℕ) → AreKnown library path (known_net old) (f ∷ fs) → ((k : ℕ) → k < suc (length fs) → known_net w k ≡ known_net old k) → ((name : List ℕ) (end : ℕ) (net : List ℕ) → known_net w (suc (length fs)) name ≡ Some (end, net) → nets name ≡ Some (end, net)) → ((name : List ℕ) (end : ℕ) (net : List ℕ) → nets name ≡ Some (end, net) → (actual : List ℕ) × (actual_of (bound_by library (Some (f.model, f.next))) name ≡ Some actual) × (end ≤ f.path_end) × (resolve (map (level_of library path) (f ∷ fs)) actual ≡ record { path = take end path; name = net })) → AreFrames library (length path) (f ∷ fs) → f.next < length (model_at library f.model).elements → IsInstance (element_at library f.model f.next) → length fs < length library → (holds : List Bool) → ((x : ℕ) → slice_index_or holds x true ≡ false → IsBare library (model_at library x).elements) → target_of (names_of library) holds (element_at library f.model f.next) ≡ Some y → middle ≡ record { model = f.model; next = f.next + 1; number = f.number + 1; placing = f.placing; path_end = f.path_end } ∷ fs → innermost_first w ≡ record { model = y; next = 0; number = 0; placing = Some (f.model, f.next); path_end = length w.path.items } ∷ middle → w.path.items ≡ take f.path_end path ++ step f.number → f.number < 2 ^ 64 → IsMoved library path (f ∷ fs) w
+moved_into library path f fs middle old w nets y known_old deep_known grown nets_right a below i deep holds bare target mid frames longer small = record {
   same = rw (frames, mid) (sym (entered library path w.path.items f g h fs y a below i deep found.1 refl refl longer));
-  walking = rw (frames, mid) (entered_frames library path w.path.items f g h fs y a below found.0 refl refl longer);
+  walking = walks library w w.path.items (h ∷ g ∷ fs) refl (frames ∙ ap (λ m. h ∷ m) mid) (entered_frames library path w.path.items f g h fs y a below found.0 refl refl longer) (entered_known library path w.path.items f g h fs y old w nets a known_old deep_known grown longer refl refl nets_right);
   fewer = rw (frames, mid) (entered_fewer library f g h fs y (length w.path.items) below i deep found.1 refl refl);
   text = λ p. subst IsPathText (sym longer) (path_more path f.path_end f.number small p);
 }
@@ -67,15 +102,18 @@ nothing_there library rows r e none i depth levels = no_target library r.holds r
 
 -- ---- the next element
 
-pub next_left : (library : List PlainModel) (path : List ℕ) (f : Frame) (fs : List Frame) (old w : Walk) → IsWalking library old → old.path.items ≡ path → innermost_first old ≡ f ∷ fs → innermost_first w ≡ fs → w.path.items ≡ path → length (model_at library f.model).elements ≤ f.next → (coming library w ≡ coming library old) × IsWalking library w × (moves library w < moves library old)
-next_left library path f fs old w a kept frames left_frames same all = (
+pub next_left : (library : List PlainModel) (path : List ℕ) (f : Frame) (fs : List Frame) (old w : Walk) → IsWalking library old → old.path.items ≡ path → innermost_first old ≡ f ∷ fs → innermost_first w ≡ fs → w.path.items ≡ path → w.known.items ≡ old.known.items → length (model_at library f.model).elements ≤ f.next → (coming library w ≡ coming library old) × IsWalking library w × (moves library w < moves library old)
+next_left library path f fs old w a kept frames left_frames same known_same all = (
   rw (left_frames, same, kept, frames) (sym (left library path f fs all)),
-  rw (left_frames, same) (frames_weaken library f.path_end (length path) fs (walking.0) walking.4),
+  walks library w path fs same left_frames (frames_weaken library f.path_end (length path) fs (walking.0) walking.4) (subst (λ k. AreKnown library path k fs) (sym (known_by old w known_same)) known.1),
   rw (left_frames, frames) (left_fewer library f fs all),
 )
   where
     walking : AreFrames library (length path) (f ∷ fs)
-    walking = rw (kept, frames) at a
+    walking = frames_at library old path (f ∷ fs) kept frames a
+
+    known : AreKnown library path (known_net old) (f ∷ fs)
+    known = known_in library old path (f ∷ fs) kept frames a
 
 levels : (library : List PlainModel) (w : Walk) (p : List ℕ) (gs : List Frame) → w.path.items ≡ p → innermost_first w ≡ gs → levels_of library w ≡ map (level_of library p) gs
 levels library w p gs e f = ap (λ q. map (level_of library q) (innermost_first w)) e ∙ ap (λ hs. map (level_of library p) hs) f
@@ -86,19 +124,22 @@ come library w p gs e f = ap (λ q. coming_from library q (innermost_first w)) e
 join : {X : Type 0} {a b c d : List X} → a ≡ b → c ≡ d → a ++ c ≡ b ++ d
 join e f = cc
 
-pub next_found : (library : List PlainModel) (path : List ℕ) (f : Frame) (fs : List Frame) (old w : Walk) → IsWalking library old → old.path.items ≡ path → innermost_first old ≡ f ∷ fs → innermost_first w ≡ record { model = f.model; next = f.next + 1; number = f.number; placing = f.placing; path_end = f.path_end } ∷ fs → w.path.items ≡ path → f.next < length (model_at library f.model).elements → ¬ IsInstance (element_at library f.model f.next) → IsNext library old (Some (f.model, f.next)) w
-next_found library path f fs old w a kept frames new_frames same below plain = record {
+pub next_found : (library : List PlainModel) (path : List ℕ) (f : Frame) (fs : List Frame) (old w : Walk) → IsWalking library old → old.path.items ≡ path → innermost_first old ≡ f ∷ fs → innermost_first w ≡ record { model = f.model; next = f.next + 1; number = f.number; placing = f.placing; path_end = f.path_end } ∷ fs → w.path.items ≡ path → w.known.items ≡ old.known.items → f.next < length (model_at library f.model).elements → ¬ IsInstance (element_at library f.model f.next) → IsNext library old (Some (f.model, f.next)) w
+next_found library path f fs old w a kept frames new_frames same known_same below plain = record {
   model = walking.2;
   element = below;
   plain = plain;
   text = λ p. subst IsPathText (kept ∙ sym same) p;
-  walking = rw (new_frames, same) ((walking.0, (let n = walking.1 in omega arith), walking.2, walking.3, walking.4));
+  walking = walks library w path (record f { next = f.next + 1 } ∷ fs) same new_frames ((walking.0, (let n = walking.1 in omega arith), walking.2, walking.3, walking.4)) (subst (λ k. AreKnown library path k (f ∷ fs)) (sym (known_by old w known_same)) known);
   comes = come library old path (f ∷ fs) kept frames ∙ (passed library path f (record f { next = f.next + 1 }) fs below plain refl
       ∙ sym (join (ap (λ ls. placed_element ls (element_at library f.model f.next)) (levels library w path (record f { next = f.next + 1 } ∷ fs) same new_frames)) (come library w path (record f { next = f.next + 1 } ∷ fs) same new_frames)));
 }
   where
     walking : AreFrames library (length path) (f ∷ fs)
-    walking = rw (kept, frames) at a
+    walking = frames_at library old path (f ∷ fs) kept frames a
+
+    known : AreKnown library path (known_net old) (f ∷ fs)
+    known = known_in library old path (f ∷ fs) kept frames a
 
 pub at_model : (models : List BlifModel) (x : ℕ) (item : BlifModel) → x < length models → item ≡ get_or models x item → model_at (map plain_model models) x ≡ plain_model item
 at_model models x item below is = get_or-map plain_model models x item no_model below ∙ ap plain_model (sym is)
@@ -116,7 +157,7 @@ pub none_left : (library : List PlainModel) (w old : Walk) → innermost_first w
 none_left library w old none same = sym same ∙ (come library w w.path.items [] refl none ∙ nothing library w.path.items)
 
 pub top_in : (library : List PlainModel) (w : Walk) (f : Frame) (fs : List Frame) → IsWalking library w → innermost_first w ≡ f ∷ fs → f.model < length library
-top_in library w f fs a frames = let walking : AreFrames library (length w.path.items) (f ∷ fs) = rw frames at a in walking.2
+top_in library w f fs a frames = let walking : AreFrames library (length w.path.items) (f ∷ fs) = frames_at library w w.path.items (f ∷ fs) refl frames a in walking.2
 
 pub all_walked : (models : List BlifModel) (x next : ℕ) (item : BlifModel) → x < length models → item ≡ get_or models x item → length item.elements.items ≤ next → length (model_at (map plain_model models) x).elements ≤ next
 all_walked models x next item below is all = let e = ap (λ m. length m.elements) (at_model models x item below is) in omega (arith, length-map item.elements.items plain_element)

@@ -1,12 +1,16 @@
 -- A name followed outwards through the placed models.
-use Rattle.std.proofs.Common.{◌≡◌, ℕ, ◌+◌, ◌-◌, ◌<◌, ◌≤◌, List, [], ◌∷◌, ◌++◌, length, take, drop, get_or, map, refl, sym, ap, ◌∙◌, subst, arith, Some, None}
+use Rattle.std.proofs.Common.{◌≡◌, ℕ, ◌+◌, ◌-◌, ◌<◌, ◌≤◌, List, [], ◌∷◌, ◌++◌, length, take, drop, get_or, map, refl, sym, ap, ◌∙◌, subst, cond, Bool, true, false, arith, Option, Some, None}
 use Rattle.std.specs.Prelude.{reverse}
-use Rattle.std.proofs.lemmas.List.{take_more, take_all, reverse-append, take-append-drop}
+use Rattle.std.proofs.lemmas.List.{take_more, take_all, reverse-append, take-append-drop, length-reverse, length-take}
 use Rattle.blif_text.specs.Models.{PlainModel}
 use Rattle.hierarchy.specs.declared.walk.Frame.{Frame}
 use Rattle.hierarchy.specs.declared.walk.Walk.{Walk}
 use Rattle.hierarchy.specs.Flat.{Level, PlacedNet, actual_of, resolve}
-use Rattle.hierarchy.specs.Walk.{level_of, levels_of, bound_by, innermost_first, AreFrames, IsPlacing, IsWalking}
+use Rattle.hierarchy.specs.Walk.{level_of, levels_of, bound_by, innermost_first, known_net, AreFrames, AreKnown, IsPlacing, IsWalking, IsNetWithin, AreWithin}
+use Rattle.std.specs.Str.{bytes_eq}
+use Rattle.std.proofs.lemmas.Slice.Eq.{bytes_eq-Decides}
+use Rattle.indexmap.specs.IndexMap.{get}
+use Rattle.hierarchy.specs.declared.links.Link.{Link}
 
 bound_name : (level : Level) (outer : List Level) (name actual : List ℕ) → actual_of level.bindings name ≡ Some actual → resolve (level ∷ outer) name ≡ resolve outer actual
 unfolding resolve
@@ -34,7 +38,7 @@ inside library bound [] f ys a = (a.0, a.3)
 inside library bound (x ∷ xs) f ys a = let r = inside library x.path_end xs f ys a.4 in ((let h = a.0 in let k = r.0 in omega arith), r.1)
 
 pub frame_kept : (library : List PlainModel) (w : Walk) (depth : ℕ) (f : Frame) → IsWalking library w → 0 < depth → depth ≤ length w.frames.items → f ≡ get_or w.frames.items (depth - 1) f → (f.path_end ≤ length w.path.items) × IsPlacing library f.placing
-frame_kept library w depth f a some within is = inside library (length w.path.items) (reverse (drop depth w.frames.items)) f (reverse (take (depth - 1) w.frames.items)) (subst (AreFrames library (length w.path.items)) whole a)
+frame_kept library w depth f a some within is = inside library (length w.path.items) (reverse (drop depth w.frames.items)) f (reverse (take (depth - 1) w.frames.items)) (subst (AreFrames library (length w.path.items)) whole a.0)
   where
     whole : innermost_first w ≡ reverse (drop depth w.frames.items) ++ f ∷ reverse (take (depth - 1) w.frames.items)
     whole = ap reverse (sym (take-append-drop depth w.frames.items))
@@ -56,3 +60,46 @@ outermost library w depth found whole none so_far = sym so_far ∙ (ap (λ d. re
 
 pub all_frames : (library : List PlainModel) (w : Walk) (name : List ℕ) → resolve (map (level_of library w.path.items) (reverse (take (length w.frames.items) w.frames.items))) name ≡ resolve (levels_of library w) name
 all_frames library w name = ap (λ fs. resolve (map (level_of library w.path.items) (reverse fs)) name) (take_all (length w.frames.items) w.frames.items (omega arith))
+
+-- ---- what is known of a name
+
+known_inside : (library : List PlainModel) (path : List ℕ) (known : ℕ → List ℕ → Option (ℕ × List ℕ)) (xs : List Frame) (f : Frame) (ys : List Frame) → AreKnown library path known (xs ++ f ∷ ys) → AreKnown library path known (f ∷ ys)
+known_inside library path known [] f ys a = a
+known_inside library path known (x ∷ xs) f ys a = known_inside library path known xs f ys a.1
+
+split_at : (w : Walk) (depth : ℕ) (f : Frame) → 0 < depth → depth ≤ length w.frames.items → f ≡ get_or w.frames.items (depth - 1) f → innermost_first w ≡ reverse (drop depth w.frames.items) ++ f ∷ reverse (take (depth - 1) w.frames.items)
+split_at w depth f some within is = ap reverse (sym (take-append-drop depth w.frames.items))
+    ∙ (reverse-append (take depth w.frames.items) (drop depth w.frames.items)
+    ∙ ap (λ r. reverse (drop depth w.frames.items) ++ r) (cut_frames w.frames.items depth f some within is))
+
+-- an outer placed model's path ends no later
+pub inner_end : (library : List PlainModel) (w : Walk) (depth : ℕ) (f g : Frame) (fs : List Frame) → IsWalking library w → 0 < depth → depth ≤ length w.frames.items → f ≡ get_or w.frames.items (depth - 1) f → innermost_first w ≡ g ∷ fs → f.path_end ≤ g.path_end
+inner_end library w depth f g fs a some within is first = (inside library g.path_end (reverse (drop depth w.frames.items)) f (reverse (take (depth - 1) w.frames.items)) (subst (AreFrames library g.path_end) (sym first ∙ split_at w depth f some within is) own)).0
+  where
+    all : AreFrames library (length w.path.items) (g ∷ fs)
+    all = subst (AreFrames library (length w.path.items)) first a.0
+
+    own : AreFrames library g.path_end (g ∷ fs)
+    own = (omega arith, all.1, all.2, all.3, all.4)
+
+module _ (library : List PlainModel) (w : Walk) (depth : ℕ) (f : Frame) (found : List ℕ) (whole : PlacedNet) (a : IsWalking library w) (some : 0 < depth) (within : depth ≤ length w.frames.items) (is : f ≡ get_or w.frames.items (depth - 1) f) (so_far : resolve (map (level_of library w.path.items) (reverse (take depth w.frames.items))) found ≡ whole) (end : ℕ) (net : List ℕ) (known : known_net w (depth - 1) found ≡ Some (end, net)) where
+  pub known_here : (end ≤ f.path_end) × (whole ≡ record { path = take end w.path.items; name = net })
+  known_here = go ((known_inside library w.path.items (known_net w) (reverse (drop depth w.frames.items)) f (reverse (take (depth - 1) w.frames.items)) (subst (AreKnown library w.path.items (known_net w)) (split_at w depth f some within is) a.1)).0 found end net (subst (λ d. known_net w d found ≡ Some (end, net)) (sym deep) known))
+    where
+      deep : length (reverse (take (depth - 1) w.frames.items)) ≡ depth - 1
+      deep = omega (arith, length-reverse (take (depth - 1) w.frames.items), length-take (depth - 1) w.frames.items)
+
+      go : (end ≤ f.path_end) × (resolve (map (level_of library w.path.items) (f ∷ reverse (take (depth - 1) w.frames.items))) found ≡ record { path = take end w.path.items; name = net }) → (end ≤ f.path_end) × (whole ≡ record { path = take end w.path.items; name = net })
+      go (low, same) = (low, sym so_far ∙ (ap (λ fs. resolve (map (level_of library w.path.items) fs) found) (cut_frames w.frames.items depth f some within is) ∙ same))
+
+-- one formal more has its net
+pub within_more : (library : List PlainModel) (w : Walk) (link : Link) (old new : List ℕ → Option (ℕ × List ℕ)) (formal actual : List ℕ) (end : ℕ) (net : List ℕ) → get bytes_eq link.actuals formal ≡ Some actual → IsNetWithin library w actual end net → ((q : List ℕ) → new q ≡ cond (bytes_eq formal q) (Some (end, net)) (old q)) → AreWithin library w link old → AreWithin library w link new
+within_more library w link old new formal actual end net bound right updates before q e n is = go (bytes_eq formal q) refl (sym (updates q) ∙ is)
+  where
+    go : (b : Bool) → bytes_eq formal q ≡ b → cond b (Some (end, net)) (old q) ≡ Some (e, n) → (a : List ℕ) × (get bytes_eq link.actuals q ≡ Some a) × IsNetWithin library w a e n
+    go false f same = before q e n same
+    go true f same =
+        let pair : ◌≡◌ {A = ℕ × List ℕ} (end, net) (e, n) = cc in
+        let ends : end ≡ e = ap (λ (p : ℕ × List ℕ). p.0) pair in
+        let nets : net ≡ n = ap (λ (p : ℕ × List ℕ). p.1) pair in
+        (actual, subst (λ k. get bytes_eq link.actuals k ≡ Some actual) ((bytes_eq-Decides formal q).0 f) bound, subst (λ k. IsNetWithin library w actual k n) ends (subst (λ m. IsNetWithin library w actual end m) nets right))

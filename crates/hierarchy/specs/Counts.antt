@@ -1,4 +1,5 @@
--- What the flat text of a model costs wherever it is placed, counted model by model.
+-- What the flat text of a model costs wherever it is placed, counted model by model. These are for proofs: what the public calls
+-- promise is said of the flat text alone.
 use Rattle.std.specs.Prelude.{◌≡◌, ◌≤◌, ◌<◌, ℕ, zero, suc, ◌+◌, ◌*◌, ◌||◌, Bool, true, false, List, [], ◌∷◌, ◌++◌, length, map, min, sum_by, slice_get, slice_index, slice_index_or, option_and_then, Option, Some, None, if◌then◌else◌}
 use Rattle.std.specs.Option.{option_map_or}
 use Rattle.std.specs.Str.{bytes_eq}

@@ -1,7 +1,9 @@
 -- What a walk has still to come.
-use Rattle.std.specs.Prelude.{◌≡◌, ℕ, Bool, true, false, zero, suc, ◌+◌, ◌-◌, ◌<◌, ◌≤◌, List, [], ◌∷◌, ◌++◌, length, map, take, drop, reverse, Option, Some, None, slice_index_or}
+use Rattle.std.specs.Prelude.{◌≡◌, ℕ, Bool, true, false, zero, suc, ◌+◌, ◌-◌, ◌<◌, ◌≤◌, List, [], ◌∷◌, ◌++◌, length, map, take, drop, reverse, Option, Some, None, slice_get, slice_index_or, option_and_then}
 use Rattle.std.specs.Option.{option_map_or}
 use Rattle.std.specs.List.{list_all}
+use Rattle.std.specs.Str.{bytes_eq}
+use Rattle.indexmap.specs.IndexMap.{get}
 use Rattle.tmr_base.specs.Names.{is_name_byte}
 use Rattle.blif_text.specs.Models.{PlainElement, Table, Register, Instance, PlainModel}
 use Rattle.hierarchy.specs.declared.walk.Frame.{Frame}
@@ -9,6 +11,7 @@ use Rattle.hierarchy.specs.declared.walk.Walk.{Walk}
 use Rattle.hierarchy.specs.Graph.{names_of, model_named}
 use Rattle.hierarchy.specs.Flat.{Level, NetElement, NetTable, NetRegister, no_model, resolve, resolved_control, elements_with, elements_to}
 use Rattle.hierarchy.specs.declared.links.Row.{Row}
+use Rattle.hierarchy.specs.declared.links.Link.{Link}
 use Rattle.hierarchy.specs.Links.{bindings_of, AreRows, IsBare}
 
 abbrev pub model_at : List PlainModel → ℕ → PlainModel
@@ -57,9 +60,18 @@ abbrev pub AreFrames : List PlainModel → ℕ → List Frame → Type 0
 AreFrames library bound [] = Unit {0}
 AreFrames library bound (f ∷ frames) = (f.path_end ≤ bound) × (f.number ≤ f.next) × (f.model < length library) × IsPlacing library f.placing × AreFrames library f.path_end frames
 
+-- the net of a name in the placed model of this depth, where a walk knows it: where its path ends, and its name
+abbrev pub known_net : Walk → ℕ → List ℕ → Option (ℕ × List ℕ)
+known_net w depth name = option_and_then (λ nets. get bytes_eq nets name) (slice_get w.known.items depth)
+
+-- what is known of the net of a name in these placed models is right
+abbrev pub AreKnown : List PlainModel → List ℕ → (ℕ → List ℕ → Option (ℕ × List ℕ)) → List Frame → Type 0
+AreKnown library path known [] = Unit {0}
+AreKnown library path known (f ∷ frames) = ((name : List ℕ) (end : ℕ) (net : List ℕ) → known (length frames) name ≡ Some (end, net) → (end ≤ f.path_end) × (resolve (map (level_of library path) (f ∷ frames)) name ≡ record { path = take end path; name = net })) × AreKnown library path known frames
+
 -- what a walk keeps
 abbrev pub IsWalking : List PlainModel → Walk → Type 0
-IsWalking library w = AreFrames library (length w.path.items) (innermost_first w)
+IsWalking library w = AreFrames library (length w.path.items) (innermost_first w) × AreKnown library w.path.items (known_net w) (innermost_first w)
 
 -- the element is a `.subckt` statement
 abbrev pub IsInstance : PlainElement → Type 0
@@ -121,3 +133,12 @@ pub record IsNextElement (library : List PlainModel) (old : Walk) (x i : ℕ) (n
 abbrev pub IsNext : List PlainModel → Walk → Option (ℕ × ℕ) → Walk → Type 0
 IsNext library old None new = coming library old ≡ []
 IsNext library old (Some (x, i)) new = IsNextElement library old x i new
+
+-- the net of what a statement binds a formal to, in the innermost placed model of the walk
+pub record IsNetWithin (library : List PlainModel) (w : Walk) (actual : List ℕ) (end : ℕ) (net : List ℕ) : Type 0 where
+  pub is : resolve (levels_of library w) actual ≡ record { path = take end w.path.items; name = net }
+  pub inner : (f : Frame) (frames : List Frame) → innermost_first w ≡ f ∷ frames → end ≤ f.path_end
+
+-- these formals of a statement have these nets
+abbrev pub AreWithin : List PlainModel → Walk → Link → (List ℕ → Option (ℕ × List ℕ)) → Type 0
+AreWithin library w link nets = (name : List ℕ) (end : ℕ) (net : List ℕ) → nets name ≡ Some (end, net) → (actual : List ℕ) × (get bytes_eq link.actuals name ≡ Some actual) × IsNetWithin library w actual end net

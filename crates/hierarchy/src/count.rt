@@ -213,7 +213,7 @@ pub(crate) fn count_at<'a>(
 
 /// The count of the model of this name.
 #[tactic(auto, unfolding(crate::specs::Graph::number_named))]
-fn count_of<'a>(
+pub(crate) fn count_of<'a>(
     names: &IndexSet<Name>,
     positions: &[usize],
     counts: &'a [Option<Count>],

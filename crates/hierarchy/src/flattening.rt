@@ -17,7 +17,9 @@ ghost use Rattle.hierarchy.specs.Drafted.{draft_of as draft_of_model};
 ghost use Rattle.flat_net.specs.Net.{Net, net_count, pin_total};
 ghost use Rattle.flat_net.specs.Faults.{net_of_draft, IsFaultless, IsFaultOf};
 
-use crate::bare::filled_models;
+use crate::bare::{branching_models, filled_models};
+use crate::count::Count;
+use crate::counting::{count_models, places_of};
 use crate::flat_fault::FlatFault;
 use crate::library::{Survey, look_over};
 use crate::links::{Row, all_links};
@@ -64,12 +66,15 @@ fn ready_rows(
     models: &[BlifModel],
     names: &IndexSet<Name>,
     order: &[usize],
+    positions: &[usize],
+    counts: &[Option<Count>],
 ) -> Result<Vec<Row>, OutOfMemory>
     requires { names.now.keys ≡ names_of (map plain_model models.now) }
     ensures { IfOk result (λ rows. IsReady (map plain_model models.now) rows.items) }
 {
     let holds = filled_models(alloc, names, models, order)?;
-    all_links(alloc, names, &holds, models)
+    let branching = branching_models(alloc, names, models, &holds)?;
+    all_links(alloc, names, &holds, &branching, positions, counts, models)
 }
 
 /// The names of the models of a library that has no fault of its own, and the order of the reached ones, or
@@ -107,10 +112,12 @@ fn flat_within(
     ensures clear { OnOk result (name_clash (map plain_model models.now) ≡ None) }
     ensures fault { IfErr result (λ fault. IsTextFault (map plain_model models.now) limit fault) }
 {
-    if !fits(alloc, models, names, order, limit)? {
+    let positions = places_of(alloc, order, models.len())?;
+    let counts = count_models(alloc, models, names, order, &positions, limit)?;
+    if !fits(models, order, &positions, &counts, limit) {
         return Err(FlatFault::TooLarge);
     }
-    let rows = ready_rows(alloc, models, names, order)?;
+    let rows = ready_rows(alloc, models, names, order, &positions, &counts)?;
     match named_model(alloc, models, &rows) {
         Ok(flat) => Ok(flat),
         Err(NamingFault::Clash(text)) => Err(FlatFault::NameClash(text)),

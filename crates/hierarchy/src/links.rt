@@ -8,17 +8,21 @@ ghost use Rattle.hierarchy.specs.Graph.{number_named, names_of};
 ghost use Rattle.hierarchy.specs.Flat.{actual_of};
 ghost use Rattle.hierarchy.specs.Links.{filled, IsLink, AreLinks, AreRows};
 
+use crate::count::{Count, count_of, times_used};
 use blif_text::{BlifModel, Element};
 use indexmap::{IndexMap, IndexSet};
-use std::alloc::Global;
+use std::alloc::{AllocError, Global};
 use tmr_base::{Name, OutOfMemory};
 
 /// One element of a model. A `.subckt` statement below which an element stands has the number of the
-/// model that it places as its target, and each has the actuals of its formals.
+/// model that it places as its target, and each has the actuals of its formals. The formals at the places
+/// `asked` stand in flat elements of a model that holds more than one; a model that holds one alone only
+/// hands them on. Only the time that names take hangs on `asked`, so no clause speaks of it.
 #[derive(Drop)]
 pub struct Link {
     pub(crate) target: Option<usize>,
     pub(crate) actuals: IndexMap<Name, Name>,
+    pub(crate) asked: Vec<usize>,
 }
 
 /// The elements of a model.
@@ -71,22 +75,62 @@ pub(crate) fn filled_target(names: &IndexSet<Name>, holds: &[bool], model: &Name
     }
 }
 
+/// The places of the formals that stand in flat elements of a model with this count.
+fn asked_formals(
+    alloc: Global,
+    actuals: &IndexMap<Name, Name>,
+    count: Option<&Count>,
+) -> Result<Vec<usize>, AllocError> {
+    let mut asked = Vec::new(alloc);
+    let Some(count) = count else {
+        return Ok(asked);
+    };
+    for place in 0..actuals.len() {
+        if let Some((formal, _)) = actuals.get_index(place) {
+            if times_used(count, formal) > 0 {
+                asked.push(place)?;
+            }
+        }
+    }
+    Ok(asked)
+}
+
+/// More than one statement of the model of this name holds an element.
+fn is_branching(names: &IndexSet<Name>, branching: &[bool], model: &Name) -> bool {
+    match names.get_index_of(model) {
+        Some(x) => matches!(branching.get(x), Some(true)),
+        None => false,
+    }
+}
+
 fn link_of(
     alloc: Global,
     names: &IndexSet<Name>,
     holds: &[bool],
+    branching: &[bool],
+    positions: &[usize],
+    counts: &[Option<Count>],
     element: &Element,
 ) -> Result<Link, OutOfMemory>
     ensures { IfOk result (λ link. IsLink names.now.keys holds.now link (plain_element element.now)) }
 {
     match element {
-        Element::Instance { model, bindings } => Ok(Link {
-            target: filled_target(names, holds, model),
-            actuals: bind_actuals(alloc, bindings)?,
-        }),
+        Element::Instance { model, bindings } => {
+            let actuals = bind_actuals(alloc, bindings)?;
+            let asked = match is_branching(names, branching, model) {
+                true => asked_formals(alloc, &actuals, count_of(names, positions, counts, model))?,
+                false => Vec::new(alloc),
+            };
+            Ok(Link {
+                target: filled_target(names, holds, model),
+                actuals,
+                asked,
+            })
+        }
         Element::Table { .. } | Element::Latch { .. } => Ok(Link {
             target: None,
             actuals: bind_actuals(alloc, &[])?,
+            asked: Vec::new(alloc),
         }),
     }
 }
@@ -96,13 +140,16 @@ fn links_of(
     alloc: Global,
     names: &IndexSet<Name>,
     holds: &[bool],
+    branching: &[bool],
+    positions: &[usize],
+    counts: &[Option<Count>],
     elements: &[Element],
 ) -> Result<Vec<Link>, OutOfMemory>
     ensures { IfOk result (λ links. AreLinks names.now.keys holds.now links.items (map plain_element elements.now)) }
 {
     let mut links = Vec::new(alloc);
     for element in elements {
-        links.push(link_of(alloc, names, holds, element)?)?;
+        links.push(link_of(alloc, names, holds, branching, positions, counts, element)?)?;
     }
     Ok(links)
 }
@@ -113,13 +160,24 @@ pub(crate) fn all_links(
     alloc: Global,
     names: &IndexSet<Name>,
     holds: &[bool],
+    branching: &[bool],
+    positions: &[usize],
+    counts: &[Option<Count>],
     models: &[BlifModel],
 ) -> Result<Vec<Row>, OutOfMemory>
     ensures { IfOk result (λ rows. AreRows names.now.keys holds.now rows.items (map plain_model models.now)) }
 {
     let mut rows = Vec::new(alloc);
     for model in models {
-        let links = links_of(alloc, names, holds, &model.elements)?;
+        let links = links_of(
+            alloc,
+            names,
+            holds,
+            branching,
+            positions,
+            counts,
+            &model.elements,
+        )?;
         rows.push(Row { links })?;
     }
     Ok(rows)

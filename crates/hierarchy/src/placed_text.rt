@@ -1,19 +1,16 @@
 //! The length of the flat text of a library, by the counts of its models: no flat element is walked.
-ghost use Rattle.std.specs.Prelude.{◌≡◌, ◌≤◌, ◌<◌, true, false, map, length, IfOk};
+ghost use Rattle.std.specs.Prelude.{◌≡◌, ◌≤◌, ◌<◌, true, false, map, length};
 ghost use Rattle.blif_text.specs.Views.{plain_model};
-ghost use Rattle.hierarchy.specs.Graph.{graph, names_of};
+ghost use Rattle.hierarchy.specs.Graph.{graph};
 ghost use Rattle.hierarchy.specs.Library.{IsPlaceable};
 ghost use Rattle.hierarchy.specs.Found.{IsOrder};
+ghost use Rattle.hierarchy.specs.Counts.{AreCounted, ArePlaces};
 ghost use Rattle.hierarchy.specs.Flat.{flat_model};
 ghost use Rattle.hierarchy.specs.FlatText.{capped, text_length as length_of_text, header_length as length_of_header};
 
-use crate::count::count_at;
-use crate::counting::{count_models, places_of};
+use crate::count::{Count, count_at};
 use crate::flat_text::{spaced_name, spaced_names};
 use blif_text::BlifModel;
-use indexmap::IndexSet;
-use std::alloc::Global;
-use tmr_base::{Name, OutOfMemory};
 
 /// All lines but those of the elements.
 #[tactic(auto, using(crate::proofs::Capped::capped_laws))]
@@ -28,27 +25,27 @@ fn header_length(model: &BlifModel) -> u64
 
 /// The flat text has at most so many bytes.
 pub(crate) fn fits(
-    alloc: Global,
     models: &[BlifModel],
-    names: &IndexSet<Name>,
     order: &[usize],
+    positions: &[usize],
+    counts: &[Option<Count>],
     limit: u64,
-) -> Result<bool, OutOfMemory>
-    requires names { names.now.keys ≡ names_of (map plain_model models.now) }
+) -> bool
     requires placeable { IsPlaceable (map plain_model models.now) }
     requires ordered { IsOrder (graph (map plain_model models.now)) order.now }
+    requires places { ArePlaces order.now positions.now }
+    requires counted { AreCounted (map plain_model models.now) limit order.now counts.now }
+    requires all { length counts.now ≡ length order.now }
     requires some { 0 < length models.now }
     requires limit { limit ≤ 1073741824 }
-    ensures yes { IfOk result (λ fit. fit ≡ true → length_of_text (flat_model (map plain_model models.now)) ≤ limit) }
-    ensures no { IfOk result (λ fit. fit ≡ false → limit < length_of_text (flat_model (map plain_model models.now))) }
+    ensures yes { result ≡ true → length_of_text (flat_model (map plain_model models.now)) ≤ limit }
+    ensures no { result ≡ false → limit < length_of_text (flat_model (map plain_model models.now)) }
 {
-    let positions = places_of(alloc, order, models.len())?;
-    let counts = count_models(alloc, models, names, order, &positions, limit)?;
-    match count_at(&positions, &counts, 0) {
+    match count_at(positions, counts, 0) {
         Some(count) => {
             let total = header_length(&models[0]).saturating_add(count.bytes);
-            Ok(total <= limit)
+            total <= limit
         }
-        None => Ok(false),
+        None => false,
     }
 }

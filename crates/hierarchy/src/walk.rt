@@ -1,13 +1,18 @@
 //! A walk over the flat elements of a library, one after the other, by a stack of the placed models.
-ghost use Rattle.std.specs.Prelude.{◌≡◌, ◌<◌, ◌≤◌, ◌∷◌, ◌++◌, [], map, length, take, IfOk, OnOk, IfSome, IsNone, Some, None, true, false, string_bytes, slice_get};
+ghost use Rattle.std.specs.Str.{bytes_eq};
+ghost use Rattle.indexmap.specs.IndexMap.{get};
+ghost use Rattle.std.specs.Prelude.{ℕ, List, option_and_then, ◌≡◌, ◌<◌, ◌≤◌, ◌∷◌, ◌++◌, [], map, length, take, IfOk, OnOk, IfSome, IsNone, Some, None, true, false, string_bytes, slice_get};
 ghost use Rattle.hierarchy.specs.Flat.{step};
 ghost use Rattle.hierarchy.specs.declared.links.Row.{Row};
-ghost use Rattle.hierarchy.specs.Walk.{innermost_first, element_at, model_at, AreFrames, IsInstance, IsReady, IsMoved, IsNext, IsWalking};
+ghost use Rattle.hierarchy.specs.Walk.{innermost_first, element_at, model_at, known_net, AreFrames, AreKnown, IsInstance, IsReady, IsMoved, IsNext, IsWalking};
 ghost use Rattle.blif_text.specs.Views.{plain_model, plain_element};
 
 use crate::links::{Link, Row};
+use crate::resolve::nets_within;
 use blif_text::{BlifModel, Element};
+use indexmap::IndexMap;
 use std::alloc::{AllocError, Global};
+use tmr_base::{Name, OutOfMemory};
 
 /// A placed model, and how far its elements are walked: the model's number, the element and the number
 /// of the `.subckt` statement that come next, the statement that places it, by model and element, and
@@ -21,11 +26,14 @@ pub struct Frame {
     pub(crate) path_end: usize,
 }
 
-/// The placed models from the main model inwards, and the text of the innermost path that was walked.
+/// The placed models from the main model inwards, the text of the innermost path that was walked, and for
+/// the placed models of each depth some names whose nets were followed outwards when the model was entered:
+/// where the net's path ends, and its name.
 #[derive(Drop)]
 pub struct Walk {
     pub(crate) frames: Vec<Frame>,
     pub(crate) path: Vec<u8>,
+    pub(crate) known: Vec<IndexMap<Name, (usize, Name)>>,
 }
 
 /// Takes the innermost placed model off.
@@ -34,6 +42,7 @@ fn pop_frame(walk: &mut Walk) -> Option<Frame>
     ensures none { IsNone result → innermost_first walk.old ≡ [] }
     ensures some { IfSome result (λ top. innermost_first walk.old ≡ top ∷ innermost_first walk.new) }
     ensures path { walk.new.path.items ≡ walk.old.path.items }
+    ensures known { walk.new.known.items ≡ walk.old.known.items }
 {
     walk.frames.pop()
 }
@@ -43,6 +52,7 @@ fn pop_frame(walk: &mut Walk) -> Option<Frame>
 fn push_frame(walk: &mut Walk, frame: Frame) -> Result<(), AllocError>
     ensures frames { OnOk result (innermost_first walk.new ≡ frame ∷ innermost_first walk.old) }
     ensures path { OnOk result (walk.new.path.items ≡ walk.old.path.items) }
+    ensures known { OnOk result (walk.new.known.items ≡ walk.old.known.items) }
 {
     walk.frames.push(frame)?;
     Ok(())
@@ -56,12 +66,40 @@ pub(crate) fn step_text(alloc: Global, number: usize) -> Result<String, AllocErr
     format!(in alloc; "u{number}/")
 }
 
-/// Goes into the model that the statement places which comes next in `top`.
-fn enter(alloc: Global, walk: &mut Walk, top: Frame, target: usize) -> Result<(), AllocError>
+/// At this depth these nets are known, and none further in. Where less is known than the depth, nothing is
+/// kept.
+fn keep_known(
+    known: &mut Vec<IndexMap<Name, (usize, Name)>>,
+    depth: usize,
+    nets: IndexMap<Name, (usize, Name)>,
+) -> Result<(), OutOfMemory>
+    ensures outer { OnOk result ((k : ℕ) → k < depth → slice_get known.new.items k ≡ slice_get known.old.items k) }
+    ensures own { OnOk result ((name : List ℕ) (end : ℕ) (net : List ℕ) → option_and_then (λ m. get bytes_eq m name) (slice_get known.new.items depth) ≡ Some (end, net) → get bytes_eq nets name ≡ Some (end, net)) }
+{
+    known.truncate(depth);
+    if known.len() == depth {
+        known.push(nets)?;
+    }
+    Ok(())
+}
+
+/// Goes into the model that the statement places which comes next in `top`. The nets of these names are
+/// known there.
+fn enter(
+    alloc: Global,
+    walk: &mut Walk,
+    top: Frame,
+    target: usize,
+    known: IndexMap<Name, (usize, Name)>,
+) -> Result<(), OutOfMemory>
     ensures frames { OnOk result (innermost_first walk.new ≡ record { model = target; next = 0; number = 0; placing = Some (top.model, top.next); path_end = length walk.new.path.items } ∷ innermost_first walk.old) }
     ensures path { OnOk result (walk.new.path.items ≡ take top.path_end walk.old.path.items ++ step top.number) }
+    ensures outer { OnOk result ((k : ℕ) → k < length walk.old.frames.items → slice_get walk.new.known.items k ≡ slice_get walk.old.known.items k) }
+    ensures own { OnOk result ((name : List ℕ) (end : ℕ) (net : List ℕ) → known_net walk.new (length walk.old.frames.items) name ≡ Some (end, net) → get bytes_eq known name ≡ Some (end, net)) }
 {
     let text = step_text(alloc, top.number)?;
+    let depth = walk.frames.len();
+    keep_known(&mut walk.known, depth, known)?;
     walk.path.truncate(top.path_end);
     walk.path.extend_from_slice(text.as_bytes())?;
     let path_end = walk.path.len();
@@ -74,7 +112,8 @@ fn enter(alloc: Global, walk: &mut Walk, top: Frame, target: usize) -> Result<()
             placing: Some((top.model, top.next)),
             path_end,
         },
-    )
+    )?;
+    Ok(())
 }
 
 /// The link of an element.
@@ -93,9 +132,10 @@ fn place(
     models: &[BlifModel],
     rows: &[Row],
     top: Frame,
-) -> Result<(), AllocError>
+) -> Result<(), OutOfMemory>
     requires ready { IsReady (map plain_model models.now) rows.now }
     requires walking { AreFrames (map plain_model models.now) (length walk.old.path.items) (top ∷ innermost_first walk.old) }
+    requires known { AreKnown (map plain_model models.now) walk.old.path.items (known_net walk.old) (top ∷ innermost_first walk.old) }
     requires next { top.next < length (model_at (map plain_model models.now) top.model).elements }
     requires room { top.next < 18446744073709551615 }
     requires instance { IsInstance (element_at (map plain_model models.now) top.model top.next) }
@@ -109,9 +149,11 @@ fn place(
         path_end: top.path_end,
     };
     push_frame(walk, passed)?;
-    if let Some(target) = link_at(rows, top.model, top.next).target {
+    let link = link_at(rows, top.model, top.next);
+    if let Some(target) = link.target {
         if walk.frames.len() <= models.len() {
-            enter(alloc, walk, top, target)?;
+            let known = nets_within(alloc, models, rows, walk, link)?;
+            enter(alloc, walk, top, target, known)?;
         }
     }
     Ok(())
@@ -129,14 +171,17 @@ fn is_instance(element: &Element) -> bool
 }
 
 /// The walk before its first element.
-pub(crate) fn begin_walk(alloc: Global) -> Result<Walk, AllocError>
+pub(crate) fn begin_walk(alloc: Global) -> Result<Walk, OutOfMemory>
     ensures frames { IfOk result (λ walk. innermost_first walk ≡ record { model = 0; next = 0; number = 0; placing = None; path_end = 0 } ∷ []) }
     ensures path { IfOk result (λ walk. walk.path.items ≡ []) }
+    ensures known { IfOk result (λ walk. (depth : ℕ) (name : List ℕ) → known_net walk depth name ≡ None) }
 {
     let mut walk = Walk {
         frames: Vec::new(alloc),
         path: Vec::new(alloc),
+        known: Vec::new(alloc),
     };
+    walk.known.push(IndexMap::new(alloc))?;
     let main = Frame {
         model: 0,
         next: 0,
@@ -154,7 +199,7 @@ pub(crate) fn next_element(
     walk: &mut Walk,
     models: &[BlifModel],
     rows: &[Row],
-) -> Result<Option<(usize, usize)>, AllocError>
+) -> Result<Option<(usize, usize)>, OutOfMemory>
     requires ready { IsReady (map plain_model models.now) rows.now }
     requires walking { IsWalking (map plain_model models.now) walk.old }
     ensures { IfOk result (λ found. IsNext (map plain_model models.now) walk.old found walk.new) }
