@@ -11,10 +11,10 @@ use Rattle.feedback_cut.specs.Components.{ReadsNode, ReadsWithin, AreComponents}
 use Rattle.feedback_cut.proofs.Places.{leads_map, reader_within}
 use Rattle.feedback_cut.proofs.InnerLaws.{inner_long, read_from, read_to}
 
--- numbers fall along lists of reads
-falls : (rows : List (List ℕ)) (numbers : List ℕ) (groups : ℕ) → IsNumbered rows numbers groups → (x y : ℕ) → Leads (Follows rows) x y → get_or numbers y 0 ≤ get_or numbers x 0
-falls rows numbers groups n _ _ (alone x) = omega arith
-falls rows numbers groups n _ _ (longer x y z l next) = omega (arith, falls rows numbers groups n x y l, n.falling y z next.vertex (reader_within rows y z next) next)
+-- numbers rise along lists of reads
+rises : (rows : List (List ℕ)) (numbers : List ℕ) (groups : ℕ) → IsNumbered rows numbers groups → (x y : ℕ) → Leads (Follows rows) x y → get_or numbers x 0 ≤ get_or numbers y 0
+rises rows numbers groups n _ _ (alone x) = omega arith
+rises rows numbers groups n _ _ (longer x y z l next) = omega (arith, rises rows numbers groups n x y l, n.rising y z next.vertex (reader_within rows y z next) next)
 
 module _ (n : Net) (parts : PlainParts) (valid : IsValid n) where
   node_of_follows : (x y : ℕ) → Follows (inner_rows n parts) x y → ReadsNode n parts x y
@@ -31,7 +31,7 @@ module _ (n : Net) (parts : PlainParts) (valid : IsValid n) where
     nodes = m.long ∙ inner_long n parts;
     below = λ x l. omega (arith, a.long, m.below x (vertex x l));
     used = λ k h. used k (m.used k (omega (arith, a.long, h)));
-    shared = λ x y l o. (λ e. record { there = leads x y (m.joined x y (vertex x l) (vertex y o) e); back = leads y x (m.joined y x (vertex y o) (vertex x l) (sym e)) }, λ j. equal (get_or numbers x 0) (get_or numbers y 0) (falls (inner_rows n parts) numbers groups m y x (follows y x j.back)) (falls (inner_rows n parts) numbers groups m x y (follows x y j.there)));
+    shared = λ x y l o. (λ e. record { there = leads x y (m.joined x y (vertex x l) (vertex y o) e); back = leads y x (m.joined y x (vertex y o) (vertex x l) (sym e)) }, λ j. equal (get_or numbers x 0) (get_or numbers y 0) (rises (inner_rows n parts) numbers groups m x y (follows x y j.there)) (rises (inner_rows n parts) numbers groups m y x (follows y x j.back)));
     loops = λ k h. (λ t. within k (a.only k t), λ w. has k w);
   }
     where

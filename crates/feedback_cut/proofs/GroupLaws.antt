@@ -1,7 +1,7 @@
 -- The groups of the vertices that lead to each other, found from the end of the search's order.
-use Rattle.std.proofs.Common.{◌≡◌, ◌≢◌, ℕ, ◌+◌, ◌<◌, ◌≤◌, ◌⊎◌, Bool, true, false, List, length, get_or, replicate, refl, sym, ◌∙◌, ap, subst, inl, inr, arith}
+use Rattle.std.proofs.Common.{◌≡◌, ◌≢◌, ℕ, ◌+◌, ◌<◌, ◌≤◌, ◌⊎◌, Bool, true, false, List, length, get_or, replicate, refl, sym, ◌∙◌, ap, subst, inl, inr, arith, map, ◌-◌}
 use Rattle.std.proofs.lemmas.Bool.{cases_eq, cases_lt}
-use Rattle.std.proofs.lemmas.List.{get_or_past, get_or-replicate, get_or_default, length-replicate}
+use Rattle.std.proofs.lemmas.List.{get_or_past, get_or-replicate, get_or_default, length-replicate, get_or-map, length-map}
 use Rattle.feedback_cut.specs.Rows.{row, Stands, Follows}
 use Rattle.feedback_cut.specs.Lists.{Leads, alone, longer}
 use Rattle.feedback_cut.specs.Cut.{is_cut}
@@ -178,8 +178,34 @@ module _ (rows : List (List ℕ)) (order : List ℕ) (cut : List (List Bool)) (r
           go (x, xl, f) = (x, xl, t.kept x (λ z. let few = g.few in let o = s.few in omega (arith, n, e, f, z, l)) ∙ f)
       used m (inr l) h = let a = t.gained root fresh t.rooted in (root, vertex, omega (arith, a.0))
 
+-- each vertex has a number; numbers fall from what is read to its readers
+pub record IsFalling (rows : List (List ℕ)) (numbers : List ℕ) (groups : ℕ) : Type 0 where
+  pub long : length numbers ≡ length rows
+  pub few : groups ≤ length rows
+  pub below : (x : ℕ) → x < length rows → get_or numbers x 0 < groups
+  pub used : (k : ℕ) → k < groups → (x : ℕ) × (x < length rows) × (get_or numbers x 0 ≡ k)
+  pub joined : (x y : ℕ) → x < length rows → y < length rows → get_or numbers x 0 ≡ get_or numbers y 0 → Leads (Follows rows) x y
+  pub falling : (x y : ℕ) → x < length rows → y < length rows → Follows rows x y → get_or numbers y 0 ≤ get_or numbers x 0
+
+-- the numbers counted from the other end
+pub turned_numbered : (rows : List (List ℕ)) (numbers new : List ℕ) (groups : ℕ) → IsFalling rows numbers groups → new ≡ map (λ k. groups - 1 - k) numbers → IsNumbered rows new groups
+turned_numbered rows numbers new groups f e = rw e (record {
+  long = length-map numbers (λ k. groups - 1 - k) ∙ f.long;
+  few = f.few;
+  below = λ x l. omega (arith, at x l, f.below x l);
+  used = λ k h. used k h (f.used (groups - 1 - k) (omega arith));
+  joined = λ x y l m s. f.joined x y l m (omega (arith, at x l, at y m, f.below x l, f.below y m, s));
+  rising = λ x y l m r. omega (arith, at x l, at y m, f.falling x y l m r);
+})
+  where
+    at : (x : ℕ) → x < length rows → get_or (map (λ k. groups - 1 - k) numbers) x 0 ≡ groups - 1 - get_or numbers x 0
+    at x l = get_or-map (λ k. groups - 1 - k) numbers x 0 0 (omega (arith, f.long, l))
+
+    used : (k : ℕ) → k < groups → (x : ℕ) × (x < length rows) × (get_or numbers x 0 ≡ groups - 1 - k) → (x : ℕ) × (x < length rows) × (get_or (map (λ k. groups - 1 - k) numbers) x 0 ≡ k)
+    used k h (x, l, s) = (x, l, omega (arith, at x l, s, h))
+
 -- all vertices have numbers
-pub all_grouped : (rows : List (List ℕ)) (order : List ℕ) (cut : List (List Bool)) (none : ℕ) (numbers : List ℕ) (groups k : ℕ) → IsSearched rows order cut → IsGrouped rows order none numbers groups k → k ≤ 0 → IsNumbered rows numbers groups
+pub all_grouped : (rows : List (List ℕ)) (order : List ℕ) (cut : List (List Bool)) (none : ℕ) (numbers : List ℕ) (groups k : ℕ) → IsSearched rows order cut → IsGrouped rows order none numbers groups k → k ≤ 0 → IsFalling rows numbers groups
 all_grouped rows order cut none numbers groups k s g z = record {
   long = g.long;
   few = let f = g.few in let o = s.few in omega arith;

@@ -16,6 +16,8 @@ mod nodes;
 mod numbering;
 mod reversing;
 mod searching;
+#[cfg(test)]
+mod tests;
 
 pub use cutting::{CutPins, cut};
 pub use graph::Graph;

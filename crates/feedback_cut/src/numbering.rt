@@ -1,5 +1,5 @@
 //! One number for the vertices that lead to each other.
-ghost use Rattle.std.specs.Prelude.{◌≡◌, ◌<◌, ◌≤◌, length, IfOk};
+ghost use Rattle.std.specs.Prelude.{◌≡◌, ◌<◌, ◌≤◌, ◌-◌, ℕ, length, map, slice_index, IfOk};
 ghost use Rattle.feedback_cut.specs.Numbering.{IsNumbered};
 
 use crate::Graph;
@@ -16,8 +16,20 @@ pub(crate) struct Numbered {
     pub(crate) groups: u32,
 }
 
+/// The numbers counted from the other end.
+fn turned(alloc: Global, numbers: &[u32], groups: u32) -> Result<Vec<u32>, OutOfMemory>
+    requires { (x : ℕ) → x < length numbers.now → slice_index numbers.now x < groups }
+    ensures { IfOk result (λ turned. turned.items ≡ map (λ k. groups - 1 - k) numbers.now) }
+{
+    let mut turned = Vec::new(alloc);
+    for number in numbers {
+        turned.push(groups - 1 - *number)?;
+    }
+    Ok(turned)
+}
+
 /// Numbers the vertices: two have one number where they lead to each other, and what reads another
-/// vertex has no greater number.
+/// vertex has no lower number.
 ///
 /// The vertices are taken as roots from the end of the search's order, and each root that has no number
 /// yet gathers the vertices without a number that lead to it. It leads to them too: what is behind a
@@ -44,5 +56,6 @@ pub(crate) fn number_vertices(
         gather(alloc, &readers, &mut numbers, count, root, groups)?;
         groups += 1;
     }
+    let numbers = turned(alloc, numbers.as_slice(), groups)?;
     Ok(Numbered { numbers, groups })
 }

@@ -16,6 +16,8 @@ mod ordering;
 mod ranks;
 mod reaching;
 mod registers;
+#[cfg(test)]
+mod tests;
 mod tops;
 mod uncut;
 

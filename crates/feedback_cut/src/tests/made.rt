@@ -1,0 +1,108 @@
+//! Made designs.
+ghost use Rattle.std.specs.Prelude.{◌≡◌, ◌+◌, ◌<◌, ◌≤◌, [], length, IfOk};
+ghost use Rattle.flat_net.specs.Faults.{draft_reads};
+
+use flat_net::{Draft, FlatNet, build};
+use std::alloc::Global;
+use std::test::Fail;
+use table_cover::Cover;
+use tmr_base::Name;
+
+/// A pin that reads the input.
+pub const INPUT: u32 = 4_294_967_295;
+
+/// A register of its first pin, or a table of all.
+#[derive(Drop)]
+pub struct Made {
+    pub is_register: bool,
+    pub pins: Vec<u32>,
+}
+
+fn name(alloc: Global, x: u32) -> Result<Name, Fail> {
+    if x == INPUT {
+        return Ok(Name::read(alloc, b"a")?);
+    }
+    let text = format!(in alloc; "n{x}")?;
+    Ok(Name::read(alloc, text.as_bytes())?)
+}
+
+fn pin_names(alloc: Global, pins: &[u32]) -> Result<Vec<Name>, Fail>
+    ensures { IfOk result (λ names. length names.items ≡ length pins.now) }
+{
+    let mut names = Vec::new(alloc);
+    for pin in pins {
+        names.push(name(alloc, *pin)?)?;
+    }
+    Ok(names)
+}
+
+fn push_node(alloc: Global, draft: &mut Draft, i: u32, node: &Made) -> Result<(), Fail>
+    ensures inputs { draft.new.inputs ≡ draft.old.inputs }
+    ensures outputs { draft.new.outputs ≡ draft.old.outputs }
+    ensures elements { length draft.new.elements ≤ length draft.old.elements + 1 }
+    ensures pins { length (draft_reads draft.new) ≤ length (draft_reads draft.old) + length node.now.pins.items + 1 }
+{
+    let out = name(alloc, i)?;
+    if node.is_register {
+        let pin = name(alloc, node.pins.first().copied().unwrap_or(INPUT))?;
+        draft.push_latch(pin, out, None, false)?;
+        return Ok(());
+    }
+    let pins = pin_names(alloc, node.pins.as_slice())?;
+    if pins.len() > 1000 {
+        return Ok(());
+    }
+    let cover = Cover::new(alloc, pins.len() as u32);
+    draft.push_table(pins, out, cover)?;
+    Ok(())
+}
+
+fn draft(alloc: Global, nodes: &[Made]) -> Result<Draft, Fail>
+    ensures inputs { IfOk result (λ d. length d.inputs ≡ 1) }
+    ensures outputs { IfOk result (λ d. d.outputs ≡ []) }
+    ensures elements { IfOk result (λ d. length d.elements < 2000000) }
+    ensures pins { IfOk result (λ d. length (draft_reads d) < 4294967295) }
+{
+    let mut draft = Draft::new(alloc, Name::read(alloc, b"m")?);
+    draft.push_input(name(alloc, INPUT)?)?;
+    let mut next = 0u32;
+    let mut pins = 0u64;
+    for node in nodes {
+        if next < 1_000_000 && pins < 1_000_000_000 && node.pins.len() < 1_000_000_000 {
+            push_node(alloc, &mut draft, next, node)?;
+            next += 1;
+            pins += node.pins.len() as u64 + 1;
+        }
+    }
+    Ok(draft)
+}
+
+/// The design with these nodes.
+pub fn design(alloc: Global, nodes: &[Made]) -> Result<FlatNet, Fail> {
+    Ok(build(alloc, draft(alloc, nodes)?)?)
+}
+
+/// The node of a word: `t` for a table or `r` for a register, and a digit for each pin, or `i` for the input.
+fn made_node(alloc: Global, word: &str) -> Result<Made, Fail> {
+    let mut pins = Vec::new(alloc);
+    for byte in word.as_bytes() {
+        if byte.is_ascii_digit() {
+            pins.push(u32::from(byte.wrapping_sub(b'0')))?;
+        } else if *byte == b'i' {
+            pins.push(INPUT)?;
+        }
+    }
+    Ok(Made {
+        is_register: word.as_bytes().first() == Some(&b'r'),
+        pins,
+    })
+}
+
+/// The design of these words.
+pub fn design_of(alloc: Global, text: &str) -> Result<FlatNet, Fail> {
+    let mut nodes = Vec::new(alloc);
+    for word in text.split(' ') {
+        nodes.push(made_node(alloc, word)?)?;
+    }
+    design(alloc, nodes.as_slice())
+}
