@@ -22,6 +22,7 @@ pub mod Totals
 pub mod NetNames
 pub mod Passing
 pub mod WholeModel
+pub mod Alone
 pub mod FlatKeeps
 pub mod Sums
 pub mod Additions

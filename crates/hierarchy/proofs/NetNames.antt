@@ -34,7 +34,7 @@ back [] ys = refl
 back (x ∷ xs) ys = back xs ys
 
 -- nets of one text are the same where their paths are equally long
-same_by_length : (a b : PlacedNet) → net_text a ≡ net_text b → same_net a b ≡ nat_eq (length a.path) (length b.path)
+pub same_by_length : (a b : PlacedNet) → net_text a ≡ net_text b → same_net a b ≡ nat_eq (length a.path) (length b.path)
 same_by_length a b e = go (nat_eq (length a.path) (length b.path)) refl
   where
     go : (v : Bool) → nat_eq (length a.path) (length b.path) ≡ v → same_net a b ≡ v
@@ -49,7 +49,7 @@ first_has : (text : List ℕ) (x other : PlacedNet) (rest : Option PlacedNet) (v
 first_has text x other rest true h later f = let same : x ≡ other = cc in subst (λ n. net_text n ≡ text) same ((bytes_eq-Decides (net_text x) text).0 h)
 first_has text x other rest false h later f = later f
 
-found_has : (text : List ℕ) (seen : List PlacedNet) (other : PlacedNet) → find (has_text text) seen ≡ Some other → net_text other ≡ text
+pub found_has : (text : List ℕ) (seen : List PlacedNet) (other : PlacedNet) → find (has_text text) seen ≡ Some other → net_text other ≡ text
 found_has text [] other e = absurd cc
 found_has text (x ∷ seen) other e = first_has text x other (find (has_text text) seen) (has_text text x) refl (λ f. found_has text seen other f) e
 

@@ -14,7 +14,7 @@ use Rattle.hierarchy.specs.Walk.{levels_of, level_of, innermost_first}
 use Rattle.hierarchy.proofs.NetNames.{named_join, clash_join}
 
 -- names of the main model are nets of their own
-main_resolved : (name : List ℕ) → resolve (main_level ∷ []) name ≡ main_net name
+pub main_resolved : (name : List ℕ) → resolve (main_level ∷ []) name ≡ main_net name
 unfolding resolve actual_of
 main_resolved name = refl
 

@@ -11,6 +11,7 @@ pub mod FlatText
 pub mod Drafted
 pub mod Flat
 pub mod Clash
+pub mod Alone
 pub mod Links
 pub mod Walk
 pub mod Naming

@@ -1,13 +1,14 @@
 //! The flat design of a library.
-ghost use Rattle.std.specs.Prelude.{◌≡◌, ◌≢◌, ◌≤◌, ◌<◌, ◌+◌, ◌*◌, ◌⊎◌, ℕ, map, length, All, IfOk, OnOk, IfErr, IsErrAnd, MatchResult, None};
+ghost use Rattle.std.specs.Prelude.{◌≡◌, ◌≢◌, ◌≤◌, ◌<◌, ◌+◌, ◌*◌, ◌⊎◌, ℕ, map, length, All, IfOk, OnOk, IfErr, IsErrAnd, IfSome, IsSome, MatchResult, None};
 ghost use Rattle.blif_text.specs.Library.{IsLibrary, FitsPins, Differ};
-ghost use Rattle.blif_text.specs.Views.{plain_model};
+ghost use Rattle.blif_text.specs.Views.{plain_model, plain_element};
 ghost use Rattle.hierarchy.specs.Graph.{graph, names_of};
 ghost use Rattle.hierarchy.specs.Library.{IsPlaceable};
 ghost use Rattle.hierarchy.specs.Found.{IsOrder};
 ghost use Rattle.hierarchy.specs.Flat.{flat_model};
 ghost use Rattle.hierarchy.specs.FlatText.{text_length};
 ghost use Rattle.hierarchy.specs.Clash.{name_clash};
+ghost use Rattle.hierarchy.specs.Alone.{is_placing, places_nothing};
 ghost use Rattle.hierarchy.specs.Walk.{IsReady};
 ghost use Rattle.hierarchy.specs.Flatten.{IsSound, IsSoundFault, IsTextFault, IsFlatFault, IsSameFault, IsFlat, Fits, flat_fault_of};
 ghost use Rattle.hierarchy.specs.Sizes.{row_total};
@@ -27,7 +28,7 @@ use crate::named_model::named_model;
 use crate::naming::NamingFault;
 use crate::placed_text::fits;
 use crate::{PlacingFault, assumed, draft_of};
-use blif_text::{BlifModel, Library};
+use blif_text::{BlifModel, Element, Library};
 use flat_net::{FlatNet, NetFault, build};
 use indexmap::IndexSet;
 use std::alloc::Global;
@@ -58,6 +59,13 @@ fn placing_fault(fault: PlacingFault) -> FlatFault
         PlacingFault::DuplicateFormal(name) => FlatFault::DuplicateFormal(name),
         PlacingFault::BothWays(name) => FlatFault::BothWays(name),
     }
+}
+
+/// For each model its place in the order, and for each place the counts of its model.
+#[derive(Drop)]
+struct Counted {
+    positions: Vec<usize>,
+    counts: Vec<Option<Count>>,
 }
 
 /// The statements of a library made ready to be followed.
@@ -94,22 +102,20 @@ fn sound_order(alloc: Global, models: &[BlifModel]) -> Result<Ordered, FlatFault
     }
 }
 
-/// The main model with the flat elements, where its text keeps the limit and no two nets share a text.
-fn flat_within(
+/// The counts of the reached models, where the flat text keeps the limit.
+fn counted_within(
     alloc: Global,
     models: &[BlifModel],
     names: &IndexSet<Name>,
     order: &[usize],
     limit: u64,
-) -> Result<BlifModel, FlatFault>
+) -> Result<Counted, FlatFault>
     requires names { names.now.keys ≡ names_of (map plain_model models.now) }
     requires placeable { IsPlaceable (map plain_model models.now) }
     requires ordered { IsOrder (graph (map plain_model models.now)) order.now }
     requires some { 0 < length models.now }
     requires limit { limit ≤ 1073741824 }
-    ensures model { IfOk result (λ flat. plain_model flat ≡ flat_model (map plain_model models.now)) }
     ensures fits { OnOk result (Fits (map plain_model models.now) limit) }
-    ensures clear { OnOk result (name_clash (map plain_model models.now) ≡ None) }
     ensures fault { IfErr result (λ fault. IsTextFault (map plain_model models.now) limit fault) }
 {
     let positions = places_of(alloc, order, models.len())?;
@@ -117,11 +123,73 @@ fn flat_within(
     if !fits(models, order, &positions, &counts, limit) {
         return Err(FlatFault::TooLarge);
     }
-    let rows = ready_rows(alloc, models, names, order, &positions, &counts)?;
+    Ok(Counted { positions, counts })
+}
+
+/// The main model with the flat elements, where no two nets share a text.
+fn flat_model(
+    alloc: Global,
+    models: &[BlifModel],
+    names: &IndexSet<Name>,
+    order: &[usize],
+    counted: &Counted,
+    limit: u64,
+) -> Result<BlifModel, FlatFault>
+    requires names { names.now.keys ≡ names_of (map plain_model models.now) }
+    requires some { 0 < length models.now }
+    requires fits { Fits (map plain_model models.now) limit }
+    ensures model { IfOk result (λ flat. plain_model flat ≡ flat_model (map plain_model models.now)) }
+    ensures clear { OnOk result (name_clash (map plain_model models.now) ≡ None) }
+    ensures fault { IfErr result (λ fault. IsTextFault (map plain_model models.now) limit fault) }
+{
+    let rows = ready_rows(
+        alloc,
+        models,
+        names,
+        order,
+        &counted.positions,
+        &counted.counts,
+    )?;
     match named_model(alloc, models, &rows) {
         Ok(flat) => Ok(flat),
         Err(NamingFault::Clash(text)) => Err(FlatFault::NameClash(text)),
         Err(NamingFault::Memory) => Err(FlatFault::Memory),
+    }
+}
+
+/// The element places a model.
+fn is_placing(element: &Element) -> bool
+    ensures { result ≡ is_placing (plain_element element.now) }
+{
+    match element {
+        Element::Instance { .. } => true,
+        Element::Table { .. } | Element::Latch { .. } => false,
+    }
+}
+
+/// No element places a model.
+#[tactic(auto, unfolding(crate::specs::Alone::places_nothing))]
+fn places_nothing(elements: &[Element]) -> bool
+    ensures { result ≡ places_nothing (map plain_element elements.now) }
+{
+    for element in elements {
+        if is_placing(element) {
+            return false;
+        }
+    }
+    true
+}
+
+/// The main model, where it is its own flat model since it places no models.
+fn lone_main(models: &[BlifModel]) -> Option<&BlifModel>
+    requires { 0 < length models.now }
+    ensures model { IfSome result (λ main. plain_model main.now ≡ flat_model (map plain_model models.now)) }
+    ensures clear { IsSome result → name_clash (map plain_model models.now) ≡ None }
+{
+    let main = &models[0];
+    match places_nothing(&main.elements) {
+        true => Some(main),
+        false => None,
     }
 }
 
@@ -161,7 +229,34 @@ fn design_of(alloc: Global, flat: &BlifModel) -> Result<FlatNet, NetFault>
     Ok(net)
 }
 
-/// The flat design of the library, or its first fault.
+/// The design of a library's flat model, with its open initial values.
+fn flat_design(
+    alloc: Global,
+    lib: &Library,
+    flat: &BlifModel,
+    limit: u64,
+) -> Result<Flat, FlatFault>
+    requires model { plain_model flat.now ≡ flat_model lib.now }
+    requires kept { IsLibrary lib.now }
+    requires sound { IsSound lib.now }
+    requires fits { Fits lib.now limit }
+    requires clear { name_clash lib.now ≡ None }
+    requires limit { limit ≤ 1073741824 }
+    ensures ok { IfOk result (λ flat. IsFlat lib.now limit flat.net.net flat.assumed) }
+    ensures fault { IfErr result (λ fault. IsFlatFault lib.now limit fault) }
+    ensures nets { IfOk result (λ flat. 2 * (net_count flat.net.net + pin_total flat.net.net) ≤ limit) }
+    ensures rows { IfOk result (λ flat. row_total flat.net.net ≤ limit) }
+{
+    let assumed = assumed(flat);
+    match design_of(alloc, flat) {
+        Ok(net) => Ok(Flat { net, assumed }),
+        Err(NetFault::Memory) => Err(FlatFault::Memory),
+        Err(fault) => Err(FlatFault::Net(fault)),
+    }
+}
+
+/// The flat design of the library, or its first fault. A main model that places no models is its own flat model,
+/// and nothing of it is copied but into the design.
 fn flat_of(alloc: Global, lib: &Library, limit: u64) -> Result<Flat, FlatFault>
     requires { limit ≤ 1073741824 }
     ensures ok { IfOk result (λ flat. IsFlat lib.now limit flat.net.net flat.assumed) }
@@ -171,13 +266,12 @@ fn flat_of(alloc: Global, lib: &Library, limit: u64) -> Result<Flat, FlatFault>
 {
     let models = lib.models();
     let found = sound_order(alloc, models)?;
-    let flat = flat_within(alloc, models, &found.names, &found.order, limit)?;
-    let assumed = assumed(&flat);
-    match design_of(alloc, &flat) {
-        Ok(net) => Ok(Flat { net, assumed }),
-        Err(NetFault::Memory) => Err(FlatFault::Memory),
-        Err(fault) => Err(FlatFault::Net(fault)),
+    let counted = counted_within(alloc, models, &found.names, &found.order, limit)?;
+    if let Some(main) = lone_main(models) {
+        return flat_design(alloc, lib, main, limit);
     }
+    let flat = flat_model(alloc, models, &found.names, &found.order, &counted, limit)?;
+    flat_design(alloc, lib, &flat, limit)
 }
 
 /// The flat design of the library, where its flat text has at most `limit` bytes, and the number of its

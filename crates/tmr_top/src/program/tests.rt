@@ -13,12 +13,6 @@ const AND_HARD: &str =
 
 const AND_CERT: &str = "tmr-cert 1\nparts 1\npart 0 depth 0\nnode y 0 y~0 y~1 y~2 0 0 0\nend\n";
 
-const AND_SWAPPED_OUTPUTS: &str =
-    ".model and2\n.inputs a~0 a~1 a~2 b~0 b~1 b~2\n.outputs y~0 y~2 y~1\n.names a~0 b~0 y~0\n11 1\n.names a~1 b~1 y~1\n11 1\n.names a~2 b~2 y~2\n11 1\n.end\n";
-
-const AND_SWAPPED_COPIES: &str =
-    "tmr-cert 1\nparts 1\npart 0 depth 0\nnode y 0 y~1 y~0 y~2 0 0 0\nend\n";
-
 const TOGGLE: &str = ".model tog\n.inputs\n.outputs q\n.names q d\n0 1\n.latch d q 0\n.end\n";
 
 const TOGGLE_HARD: &str =
@@ -33,16 +27,10 @@ const TOGGLE_UNVOTED: &str =
 const TOGGLE_UNVOTED_CERT: &str =
     "tmr-cert 1\nparts 1\npart 0 depth 9\nnode d 0 d~0 d~1 d~2 6 6 6\nnode q 0 q~0 q~1 q~2 6 6 6\nend\n";
 
-const TOGGLE_CROSSED: &str =
-    ".model tog\n.inputs\n.outputs q~0 q~1 q~2\n.names q~0 d~0\n0 1\n.names q~1 d~1\n0 1\n.names q~2 d~2\n0 1\n.names d~0 d~1 d~2 d~0~a\n11- 1\n1-1 1\n-11 1\n.names d~0 d~1 d~2 d~0~b\n11- 1\n1-1 1\n-11 1\n.names d~0 d~1 d~2 d~0~c\n11- 1\n1-1 1\n-11 1\n.latch d~0~b q~0 0\n.latch d~0~b q~1 0\n.latch d~0~c q~2 0\n.end\n";
-
 const TWO: &str = ".model two\n.inputs a\n.outputs y\n.names a x\n1 1\n.names x y\n1 1\n.end\n";
 
 const TWO_HARD: &str =
     ".model two\n.inputs a~0 a~1 a~2\n.outputs y~0 y~1 y~2\n.names a~0 x~0\n1 1\n.names a~1 x~1\n1 1\n.names a~2 x~2\n1 1\n.names x~0 x~1 x~2 x~1~a\n11- 1\n1-1 1\n-11 1\n.names x~0 x~1 x~2 x~1~b\n11- 1\n1-1 1\n-11 1\n.names x~0 x~1 x~2 x~1~c\n11- 1\n1-1 1\n-11 1\n.names x~1~a y~0\n1 1\n.names x~1~b y~1\n1 1\n.names x~1~c y~2\n1 1\n.end\n";
-
-const TWO_FEWER_ROWS: &str =
-    ".model two\n.inputs a~0 a~1 a~2\n.outputs y~0 y~1 y~2\n.names a~0 x~0\n1 1\n.names a~1 x~1\n1 1\n.names a~2 x~2\n1 1\n.names x~0 x~1 x~2 x~1~a\n11- 1\n-11 1\n.names x~0 x~1 x~2 x~1~b\n11- 1\n1-1 1\n-11 1\n.names x~0 x~1 x~2 x~1~c\n11- 1\n1-1 1\n-11 1\n.names x~1~a y~0\n1 1\n.names x~1~b y~1\n1 1\n.names x~1~c y~2\n1 1\n.end\n";
 
 const TWO_CERT: &str =
     "tmr-cert 1\nparts 2\npart 0 depth 0\npart 1 depth 0\nnode x 0 x~0 x~1 x~2 0 0 0\nnode y 1 y~0 y~1 y~2 0 0 0\nvoter x~1~a x 1 0\nvoter x~1~b x 1 1\nvoter x~1~c x 1 2\nend\n";
@@ -54,19 +42,31 @@ const PARTED_HARD: &str =
 const PARTED_CERT: &str =
     "tmr-cert 1\nparts 2\npart 0 depth 0\npart 1 depth 1\nnode d 0 d~0 d~1 d~2 0 0 0\nnode q 1 q~0 q~1 q~2 1 1 1\nvoter d~1~a d 1 0\nvoter d~1~b d 1 1\nvoter d~1~c d 1 2\nvoter q~0~a q 0 0\nvoter q~0~b q 0 1\nvoter q~0~c q 0 2\nend\n";
 
-const PARTED_FOREIGN_COPY: &str =
-    ".model tog\n.inputs\n.outputs q~0 q~1 q~2\n.names q~0~a d~0\n0 1\n.names q~0~b d~1\n0 1\n.names q~0~c d~2\n0 1\n.names d~0 d~1 d~2 d~1~a\n11- 1\n1-1 1\n-11 1\n.names d~0 d~1 d~2 d~1~b\n11- 1\n1-1 1\n-11 1\n.names d~0 d~1 d~2 d~1~c\n11- 1\n1-1 1\n-11 1\n.latch d~0 q~0 0\n.latch d~1~b q~1 0\n.latch d~1~c q~2 0\n.names q~0 q~1 q~2 q~0~a\n11- 1\n1-1 1\n-11 1\n.names q~0 q~1 q~2 q~0~b\n11- 1\n1-1 1\n-11 1\n.names q~0 q~1 q~2 q~0~c\n11- 1\n1-1 1\n-11 1\n.end\n";
+const SHIFT: &str =
+    ".model sh\n.inputs i\n.outputs q3\n.names i b\n1 1\n.latch b q1 0\n.latch q1 q2 0\n.latch q2 q3 0\n.end\n";
 
-const PARTED_SMALL_LABEL: &str =
-    "tmr-cert 1\nparts 2\npart 0 depth 0\npart 1 depth 1\nnode d 0 d~0 d~1 d~2 0 0 0\nnode q 1 q~0 q~1 q~2 0 0 0\nvoter d~1~a d 1 0\nvoter d~1~b d 1 1\nvoter d~1~c d 1 2\nvoter q~0~a q 0 0\nvoter q~0~b q 0 1\nvoter q~0~c q 0 2\nend\n";
+const SHIFT_HARD: &str =
+    ".model sh\n.inputs i~0 i~1 i~2\n.outputs q3~0 q3~1 q3~2\n.names i~0 b~0\n1 1\n.names i~1 b~1\n1 1\n.names i~2 b~2\n1 1\n.latch b~0 q1~0 0\n.latch b~1 q1~1 0\n.latch b~2 q1~2 0\n.latch q1~0 q2~0 0\n.latch q1~1 q2~1 0\n.latch q1~2 q2~2 0\n.latch q2~0 q3~0 0\n.latch q2~1 q3~1 0\n.latch q2~2 q3~2 0\n.end\n";
 
-const PARTED_SMALL_DEPTH: &str =
-    "tmr-cert 1\nparts 2\npart 0 depth 0\npart 1 depth 0\nnode d 0 d~0 d~1 d~2 0 0 0\nnode q 1 q~0 q~1 q~2 1 1 1\nvoter d~1~a d 1 0\nvoter d~1~b d 1 1\nvoter d~1~c d 1 2\nvoter q~0~a q 0 0\nvoter q~0~b q 0 1\nvoter q~0~c q 0 2\nend\n";
+const SHIFT_CERT: &str =
+    "tmr-cert 1\nparts 1\npart 0 depth 3\nnode b 0 b~0 b~1 b~2 0 0 0\nnode q1 0 q1~0 q1~1 q1~2 1 1 1\nnode q2 0 q2~0 q2~1 q2~2 2 2 2\nnode q3 0 q3~0 q3~1 q3~2 3 3 3\nend\n";
 
-const PARTED_OTHER_ORDER: &str =
-    ".model tog\n.inputs\n.outputs q~0 q~1 q~2\n.names q~0~a d~0\n0 1\n.names q~0~b d~1\n0 1\n.names q~0~c d~2\n0 1\n.names d~0 d~1 d~2 d~1~a\n11- 1\n1-1 1\n-11 1\n.names d~0 d~1 d~2 d~1~b\n11- 1\n1-1 1\n-11 1\n.names d~0 d~1 d~2 d~1~c\n11- 1\n1-1 1\n-11 1\n.latch d~1~a q~0 0\n.latch d~1~b q~1 0\n.latch d~1~c q~2 0\n.names q~0 q~1 q~2 q~0~a\n11- 1\n1-1 1\n-11 1\n.names q~0 q~1 q~2 q~0~b\n11- 1\n1-1 1\n-11 1\n.names q~1 q~0 q~2 q~0~c\n11- 1\n1-1 1\n-11 1\n.end\n";
+/// Named constants, a register whose enable is mapped to a table, a clock, and an initial value that is left open.
+const TOP: &str =
+    "# made by a synthesis tool\n\n.model top\n.inputs clk en\n.outputs q\n.names $false\n.names $true\n1\n.names $undef\n.names q en d\n01 1\n10 1\n.latch d q re clk 2\n.end\n";
 
-const ONE_LINE: &str = "tmr-cert 1\n";
+const TOP_HARD: &str =
+    ".model top\n.inputs en~0 en~1 en~2 clk~k\n.outputs q~0 q~1 q~2\n.names $false~0\n.names $false~1\n.names $false~2\n.names $true~0\n1\n.names $true~1\n1\n.names $true~2\n1\n.names $undef~0\n.names $undef~1\n.names $undef~2\n.names q~0 en~0 d~0\n01 1\n10 1\n.names q~1 en~1 d~1\n01 1\n10 1\n.names q~2 en~2 d~2\n01 1\n10 1\n.names d~0 d~1 d~2 d~0~a\n11- 1\n1-1 1\n-11 1\n.names d~0 d~1 d~2 d~0~b\n11- 1\n1-1 1\n-11 1\n.names d~0 d~1 d~2 d~0~c\n11- 1\n1-1 1\n-11 1\n.latch d~0~a q~0 re clk~k 0\n.latch d~0~b q~1 re clk~k 0\n.latch d~0~c q~2 re clk~k 0\n.end\n";
+
+const TOP_CERT: &str =
+    "tmr-cert 1\nparts 1\npart 0 depth 1\nnode $false 0 $false~0 $false~1 $false~2 0 0 0\nnode $true 0 $true~0 $true~1 $true~2 0 0 0\nnode $undef 0 $undef~0 $undef~1 $undef~2 0 0 0\nnode d 0 d~0 d~1 d~2 1 1 1\nnode q 0 q~0 q~1 q~2 1 1 1\nvoter d~0~a d 0 0\nvoter d~0~b d 0 1\nvoter d~0~c d 0 2\nend\n";
+
+/// Two registers that a model places, which the main model places.
+const NESTED: &str =
+    ".model top\n.inputs ck i\n.outputs o\n.subckt two c=ck a=i z=o\n.end\n.model two\n.inputs c a\n.outputs z\n.subckt reg c=c a=a z=m\n.subckt reg c=c a=m z=z\n.end\n.model reg\n.inputs c a\n.outputs z\n.names a w\n1 1\n.latch w z re c 0\n.end\n";
+
+const NESTED_FLATTENED: &str =
+    "0 flat inputs 1 outputs 1 nodes 4 registers 2 assumed 0\n.model top\n.inputs i ck\n.outputs o\n.names i u0/u0/w\n1 1\n.latch u0/u0/w u0/m re ck 0\n.names u0/m u0/u1/w\n1 1\n.latch u0/u1/w o re ck 0\n.end\n";
 
 const A_GATE: &str = ".model m\n.gate g a=b\n";
 
@@ -81,21 +81,47 @@ const AND_FLATTENED: &str =
 
 /// Three texts, and what `validate` answers for them.
 const PAIRS: &str = "AND AND_HARD AND_CERT=0 accepted partitions 1 depth 0 assumed 0 0
-AND AND_HARD AND_SWAPPED_COPIES=1 not accepted: rule 3 at y~0
-AND AND_SWAPPED_OUTPUTS AND_CERT=1 not accepted: rule 8 at output 1
+AND AND_HARD NOTHING=4 refused c: line 1: bad line
 TOGGLE TOGGLE_HARD TOGGLE_CERT=0 accepted partitions 1 depth 1 assumed 0 0
 TOGGLE TOGGLE_UNVOTED TOGGLE_UNVOTED_CERT=1 not accepted: rule 6 at q~0
-TOGGLE TOGGLE_CROSSED TOGGLE_CERT=1 not accepted: rule 4 at q~0
 TOGGLE PARTED_HARD PARTED_CERT=0 accepted partitions 2 depth 1 assumed 0 0
-TOGGLE PARTED_FOREIGN_COPY PARTED_CERT=1 not accepted: rule 4 at q~0
-TOGGLE PARTED_OTHER_ORDER PARTED_CERT=1 not accepted: rule 5 at q~0~c
-TOGGLE PARTED_HARD PARTED_SMALL_LABEL=1 not accepted: rule 6 at q~0
-TOGGLE PARTED_HARD PARTED_SMALL_DEPTH=1 not accepted: rule 7 at q~0
 TWO TWO_HARD TWO_CERT=0 accepted partitions 2 depth 0 assumed 0 0
-TWO TWO_FEWER_ROWS TWO_CERT=1 not accepted: rule 5 at x~1~a
-AND AND_HARD ONE_LINE=4 refused c: line 2: bad line
+SHIFT SHIFT_HARD SHIFT_CERT=0 accepted partitions 1 depth 3 assumed 0 0
+TOP TOP_HARD TOP_CERT=0 accepted partitions 1 depth 1 assumed 1 0
 AND A_GATE AND_CERT=4 refused h: line 2: unsupported
 UNDRIVEN AND_HARD AND_CERT=4 refused o: undriven y";
+
+/// Three texts, the file among `o`, `h` and `c` that is changed, what is taken out of it and what stands in its place, with
+/// `|` for the end of a line, and what `validate` answers then.
+const CHANGES: &str = "AND AND_HARD AND_CERT;c;tmr-cert 1|;tmr-cert 3|;4 refused c: line 1: bad line
+AND AND_HARD AND_CERT;c;parts 1|;;4 refused c: line 2: bad line
+AND AND_HARD AND_CERT;c;depth 0|;depth 00|;4 refused c: line 3: bad line
+AND AND_HARD AND_CERT;c;part 0;part 1;4 refused c: line 3: bad line
+AND AND_HARD AND_CERT;c;node y;node a;4 refused c: line 4: unknown net
+AND AND_HARD AND_CERT;c;y~1;y~9;4 refused c: line 4: unknown net
+AND AND_HARD AND_CERT;c;node y 0;node y 1;4 refused c: line 4: range
+AND AND_HARD AND_CERT;c;y~1;y~0;4 refused c: line 4: doubled
+AND AND_HARD AND_CERT;c;end|;node y 0 y~0 y~1 y~2 0 0 0|end|;4 refused c: line 5: bad line
+AND AND_HARD AND_CERT;c;end|;end|x|;4 refused c: line 6: bad line
+AND AND_HARD AND_CERT;c;end|;end;4 refused c: line 5: bad line
+AND AND_HARD AND_CERT;c;end|;;4 refused c: line 5: bad line
+AND AND_HARD AND_CERT;c;y~0 y~1;y~1 y~0;1 not accepted: rule 3 at y~0
+AND AND_HARD AND_CERT;h;b~2|;b~2 z|;1 not accepted: rule 1 at inputs
+AND AND_HARD AND_CERT;h;y~0 y~1 y~2|;y~0 y~2 y~1|;1 not accepted: rule 8 at output 1
+AND AND_HARD AND_CERT;h;y~0 y~1 y~2|;y~0 y~1|;1 not accepted: rule 8 at output 2
+AND AND_HARD AND_CERT;o;b y|11 1;b y|1 1;4 refused o: line 5: bad row
+TOGGLE TOGGLE_HARD TOGGLE_CERT;c;node q;node d 0 d~0 d~1 d~2 1 1 1|node q;4 refused c: line 5: order
+TOGGLE TOGGLE_HARD TOGGLE_CERT;h;.latch d~0~a q~0 0;.latch d~0~b q~0 0;1 not accepted: rule 4 at q~0
+TOGGLE PARTED_HARD PARTED_CERT;h;.latch d~1~a q~0 0;.latch d~0 q~0 0;1 not accepted: rule 4 at q~0
+TOGGLE PARTED_HARD PARTED_CERT;h;.latch d~1~c q~2 0;.latch d~1~c q~2 1;1 not accepted: rule 4 at q~2
+TOGGLE PARTED_HARD PARTED_CERT;h;q~0 q~1 q~2 q~0~c;q~1 q~0 q~2 q~0~c;1 not accepted: rule 5 at q~0~c
+TOGGLE PARTED_HARD PARTED_CERT;c;q~2 1 1 1;q~2 0 0 0;1 not accepted: rule 6 at q~0
+TOGGLE PARTED_HARD PARTED_CERT;c;part 1 depth 1;part 1 depth 0;1 not accepted: rule 7 at q~0
+TWO TWO_HARD TWO_CERT;h;.names x~1~a y~0;.names x~1~b y~0;1 not accepted: rule 3 at y~0
+TWO TWO_HARD TWO_CERT;h;x~1~a|11- 1|1-1 1|;x~1~a|11- 1|;1 not accepted: rule 5 at x~1~a
+SHIFT SHIFT_HARD SHIFT_CERT;c;depth 3;depth 7;0 accepted partitions 1 depth 7 assumed 0 0
+SHIFT SHIFT_HARD SHIFT_CERT;c;depth 3;depth 2;1 not accepted: rule 7 at q3~0
+TOP TOP_HARD TOP_CERT;h; re ; fe ;1 not accepted: rule 2 at clock";
 
 /// Words that are no command, a list in each line.
 const NO_COMMANDS: &str = "
@@ -117,25 +143,24 @@ fn text_of(name: &str) -> &'static str {
         "AND" => AND,
         "AND_HARD" => AND_HARD,
         "AND_CERT" => AND_CERT,
-        "AND_SWAPPED_OUTPUTS" => AND_SWAPPED_OUTPUTS,
-        "AND_SWAPPED_COPIES" => AND_SWAPPED_COPIES,
         "TOGGLE" => TOGGLE,
         "TOGGLE_HARD" => TOGGLE_HARD,
         "TOGGLE_CERT" => TOGGLE_CERT,
         "TOGGLE_UNVOTED" => TOGGLE_UNVOTED,
         "TOGGLE_UNVOTED_CERT" => TOGGLE_UNVOTED_CERT,
-        "TOGGLE_CROSSED" => TOGGLE_CROSSED,
         "TWO" => TWO,
         "TWO_HARD" => TWO_HARD,
-        "TWO_FEWER_ROWS" => TWO_FEWER_ROWS,
         "TWO_CERT" => TWO_CERT,
         "PARTED_HARD" => PARTED_HARD,
         "PARTED_CERT" => PARTED_CERT,
-        "PARTED_FOREIGN_COPY" => PARTED_FOREIGN_COPY,
-        "PARTED_SMALL_LABEL" => PARTED_SMALL_LABEL,
-        "PARTED_SMALL_DEPTH" => PARTED_SMALL_DEPTH,
-        "PARTED_OTHER_ORDER" => PARTED_OTHER_ORDER,
-        "ONE_LINE" => ONE_LINE,
+        "SHIFT" => SHIFT,
+        "SHIFT_HARD" => SHIFT_HARD,
+        "SHIFT_CERT" => SHIFT_CERT,
+        "TOP" => TOP,
+        "TOP_HARD" => TOP_HARD,
+        "TOP_CERT" => TOP_CERT,
+        "NESTED" => NESTED,
+        "NESTED_FLATTENED" => NESTED_FLATTENED,
         "A_GATE" => A_GATE,
         "UNDRIVEN" => UNDRIVEN,
         "AND_LOOSELY" => AND_LOOSELY,
@@ -146,6 +171,10 @@ fn text_of(name: &str) -> &'static str {
 
 fn pairs() -> &'static str {
     PAIRS
+}
+
+fn changes() -> &'static str {
+    CHANGES
 }
 
 fn no_commands() -> &'static str {
@@ -208,6 +237,56 @@ fn pairs_are_judged(rt: HostRuntime) -> Result<(), Fail> {
     Ok(())
 }
 
+/// A part of a line, with its ends of lines.
+fn with_lines(alloc: Global, part: &str) -> Result<String, AllocError> {
+    part.replace(alloc, '|', "\n")
+}
+
+/// What `validate` answers where one text among the files has something else in its place, or nothing where the line of the
+/// table tells no change.
+fn told_of_change(alloc: Global, line: &str) -> Result<Option<(String, &str)>, Fail> {
+    let mut parts = line.split(';');
+    let (Some(names), Some(place), Some(old), Some(new), Some(wanted)) =
+        (parts.next(), parts.next(), parts.next(), parts.next(), parts.next())
+    else {
+        return Ok(None);
+    };
+    let mut files = files_of(alloc, names)?;
+    let changed = match files.held(place) {
+        Some(bytes) => {
+            let old = with_lines(alloc, old)?;
+            let new = with_lines(alloc, new)?;
+            str::from_utf8(bytes)?.replace(alloc, old.as_str(), new.as_str())?
+        }
+        None => return Ok(None),
+    };
+    files.hold(place, changed.as_bytes())?;
+    let mut out = MemSink::new(alloc);
+    Ok(Some((told(alloc, "validate o h c", &mut files, &mut out)?, wanted)))
+}
+
+/// The first line of the table whose change is answered otherwise, with the answer.
+fn first_other_change(alloc: Global, table: &str) -> Result<Option<String>, Fail> {
+    for line in table.lines() {
+        match told_of_change(alloc, line)? {
+            Some((answer, wanted)) => {
+                if answer.as_str().trim_end() != wanted {
+                    return Ok(Some(format!(in alloc; "{line}: {answer}")?));
+                }
+            }
+            None => return Ok(Some(format!(in alloc; "{line}: no change")?)),
+        }
+    }
+    Ok(None)
+}
+
+#[test]
+fn changed_pairs_are_judged(rt: HostRuntime) -> Result<(), Fail> {
+    let other = first_other_change(rt.alloc(), changes())?;
+    assert_eq!(rt; other, None);
+    Ok(())
+}
+
 /// The first line of the table whose words are answered otherwise than by the usage text.
 fn first_command(alloc: Global, table: &str) -> Result<Option<String>, Fail> {
     for line in table.lines() {
@@ -250,6 +329,15 @@ fn a_flattened_design(rt: HostRuntime) -> Result<(), Fail> {
     let mut files = MemFiles::new(alloc);
     let answer = flattened(alloc, "AND_LOOSELY", &mut files)?;
     assert_eq!(rt; answer.as_str(), text_of("AND_FLATTENED"));
+    Ok(())
+}
+
+#[test]
+fn placed_models_flattened(rt: HostRuntime) -> Result<(), Fail> {
+    let alloc = rt.alloc();
+    let mut files = MemFiles::new(alloc);
+    let answer = flattened(alloc, "NESTED", &mut files)?;
+    assert_eq!(rt; answer.as_str(), text_of("NESTED_FLATTENED"));
     Ok(())
 }
 
@@ -309,7 +397,7 @@ fn a_file_that_is_too_long(rt: HostRuntime) -> Result<(), Fail> {
 #[test]
 fn a_put_of_no_acceptance_that_fails(rt: HostRuntime) -> Result<(), Fail> {
     let alloc = rt.alloc();
-    let mut files = files_of(alloc, "AND AND_SWAPPED_OUTPUTS AND_CERT")?;
+    let mut files = files_of(alloc, "TOGGLE TOGGLE_UNVOTED TOGGLE_UNVOTED_CERT")?;
     let mut out = MemSink::new(alloc);
     out.fail_at(0, 3)?;
     let answer = told(alloc, "validate o h c", &mut files, &mut out)?;
