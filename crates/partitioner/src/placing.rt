@@ -124,6 +124,32 @@ fn consider_all(n: &FlatNet, p: &Partitioning, size: u32, i: u32, lead: Lead, tr
     lead
 }
 
+/// The lead after the partitions of the nodes that read node i are tried for it.
+fn consider_own_readers(n: &FlatNet, p: &Partitioning, size: u32, i: u32, lead: Lead) -> Lead
+    requires tracks { Tracks n.now.net p.now }
+    requires node { i < length n.now.net.nodes }
+    requires lead { IsLead n.now.net size p.now i lead }
+    ensures lead { IsLead n.now.net size p.now i result }
+    ensures tried { LeadsReaders n.now.net size p.now i result.place i }
+{
+    consider_readers(n, p, size, i, lead, i)
+}
+
+/// The lead after the partitions of node x and of its other readers are tried for node i.
+fn consider_source(n: &FlatNet, p: &Partitioning, size: u32, i: u32, lead: Lead, x: u32) -> Lead
+    requires tracks { Tracks n.now.net p.now }
+    requires node { i < length n.now.net.nodes }
+    requires read { x < length n.now.net.nodes }
+    requires lead { IsLead n.now.net size p.now i lead }
+    ensures lead { IsLead n.now.net size p.now i result }
+    ensures kept { (c : ℕ) → Leads n.now.net p.now i lead.place c → Leads n.now.net p.now i result.place c }
+    ensures own { LeadsOpen n.now.net size p.now i result.place (start_of p.now x) }
+    ensures tried { LeadsReaders n.now.net size p.now i result.place x }
+{
+    let lead = consider(n, p, size, i, lead, part_of(n, p, x));
+    consider_readers(n, p, size, i, lead, x)
+}
+
 /// The partition that node i goes to, which is its own where no move lowers the cost.
 ///
 /// A partition that was met by none of so many rows of readers loses at least as many pairs, so few rows
@@ -142,7 +168,7 @@ pub fn place_of(n: &FlatNet, p: &Partitioning, size: u32, i: u32) -> u32
     if is_settled(lead, start, 0) {
         return start;
     }
-    lead = consider_readers(n, p, size, i, lead, i);
+    lead = consider_own_readers(n, p, size, i, lead);
     let mut tried = 1;
     for x in p.sources.row(i) {
         if is_settled(lead, start, tried) {
@@ -151,8 +177,7 @@ pub fn place_of(n: &FlatNet, p: &Partitioning, size: u32, i: u32) -> u32
         if p.readers.row(*x).len() > p.count as usize / 4 {
             return consider_all(n, p, size, i, lead, tried).place;
         }
-        lead = consider(n, p, size, i, lead, part_of(n, p, *x));
-        lead = consider_readers(n, p, size, i, lead, *x);
+        lead = consider_source(n, p, size, i, lead, *x);
         tried += 1;
     }
     lead.place

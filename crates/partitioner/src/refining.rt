@@ -56,13 +56,31 @@ fn pass_often(n: &FlatNet, p: &mut Partitioning, size: u32, passes: u32) -> Resu
     ensures tracks { OnOk result (Tracks n.now.net p.new) }
     ensures parts { OnOk result (parts_of p.new ≡ refined n.now.net size (parts_of p.old) passes) }
 {
-    for done in 0..passes {
-        let _done = done;
+    let mut left = passes;
+    while left > 0 {
         if !pass_once(n, p, size)? {
             return Ok(());
         }
+        left -= 1;
     }
     Ok(())
+}
+
+/// The parts after so many passes of moves.
+fn refined_parts(
+    alloc: Global,
+    n: &FlatNet,
+    parts: &Parts,
+    size: u32,
+    passes: u32,
+) -> Result<Parts, OutOfMemory>
+    requires { length parts.now.of ≡ length n.now.net.nodes }
+    ensures { IfOk result (λ after. after ≡ refined n.now.net size parts.now passes) }
+{
+    let mut p = track(alloc, n, parts)?;
+    pass_often(n, &mut p, size, passes)?;
+    let Partitioning { count, of, .. } = p;
+    Ok(Parts::make(count, of))
 }
 
 /// The parts after so many passes of moves, in each of which every node in turn goes to the partition
@@ -83,8 +101,6 @@ pub fn refine(
     ensures size { IfOk result (λ after. KeepsSize n.now.net size after) }
     ensures cost { IfOk result (λ after. cost n.now.net after ≤ cost n.now.net parts) }
 {
-    let mut p = track(alloc, n, &parts)?;
-    pass_often(n, &mut p, size, passes)?;
-    let Partitioning { count, of, .. } = p;
-    Ok(Parts::make(count, of))
+    let after = refined_parts(alloc, n, &parts, size, passes)?;
+    Ok(after)
 }

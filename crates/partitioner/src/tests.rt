@@ -7,7 +7,7 @@ mod slow;
 
 use crate::{cost, is_minimal, plain, refine};
 use flat_net::FlatNet;
-use made::{Made, design, made_nodes};
+use made::{INPUT, Made, design, made_nodes};
 use slow::{slow_cost, slow_is_minimal, slow_plain, slow_refined};
 use std::alloc::Global;
 use std::process::Abort;
@@ -118,6 +118,128 @@ fn no_nodes_and_no_room(rt: HostRuntime) -> Result<(), Fail> {
     let whole = found(alloc, &n, 64, 8)?;
     assert_eq!(rt; whole.count, 1);
     assert_eq!(rt; whole.cost, 0);
+    Ok(())
+}
+
+/// Registers that each read the node with this number.
+fn registers(alloc: Global, reads: &[u32]) -> Result<Vec<Made>, Fail> {
+    let mut nodes = Vec::new(alloc);
+    for node in reads {
+        let mut pins = Vec::new(alloc);
+        pins.push(*node)?;
+        nodes.push(Made {
+            is_register: true,
+            pins,
+        })?;
+    }
+    Ok(nodes)
+}
+
+/// So many passes over registers that each read the node with this number bring them into these
+/// partitions, at this cost.
+fn brings(
+    rt: &impl Abort,
+    alloc: Global,
+    reads: &[u32],
+    size: u32,
+    passes: u32,
+    of: &[u32],
+    cost: u64,
+) -> Result<(), Fail>
+    requires { 0 < size }
+{
+    let nodes = registers(alloc, reads)?;
+    let n = design(alloc, nodes.as_slice())?;
+    let after = found(alloc, &n, size, passes)?;
+    assert!(rt; after.of.as_slice() == of);
+    assert!(rt; after.cost == cost);
+    Ok(())
+}
+
+#[test]
+fn two_passes_and_eight_differ(rt: HostRuntime) -> Result<(), Fail> {
+    let alloc = rt.alloc();
+    let reads = [8, 0, INPUT, 6, 1, 0, 4, 7, 5];
+    brings(&rt, alloc, &reads, 4, 0, &[0, 0, 0, 0, 1, 1, 1, 1, 2], 5)?;
+    brings(&rt, alloc, &reads, 4, 2, &[0, 1, 0, 0, 1, 0, 1, 1, 0], 2)?;
+    brings(&rt, alloc, &reads, 4, 8, &[0, 1, 0, 1, 1, 0, 1, 1, 0], 1)
+}
+
+/// Node 0 is drawn as much to partition 1 as to partition 2: by a reader in each, and by a node that it
+/// reads in the one and a reader in the other.
+#[test]
+fn a_tie_goes_to_the_lowest_number(rt: HostRuntime) -> Result<(), Fail> {
+    let alloc = rt.alloc();
+    let mut reads = [INPUT; 12];
+    let of = [1, 0, 0, 0, 1, 1, 1, 1, 2, 2, 2, 2];
+    reads[4] = 0;
+    reads[8] = 0;
+    brings(&rt, alloc, &reads, 4, 1, &of, 1)?;
+    reads[4] = INPUT;
+    reads[0] = 4;
+    brings(&rt, alloc, &reads, 4, 1, &of, 1)
+}
+
+/// Node 0 fills partition 1, to which node 1 is drawn twice; it goes to partition 2, to which it is drawn once.
+#[test]
+fn a_full_partition_is_not_taken(rt: HostRuntime) -> Result<(), Fail> {
+    let alloc = rt.alloc();
+    let mut reads = [INPUT; 12];
+    reads[1] = 6;
+    reads[4] = 0;
+    reads[5] = 1;
+    reads[8] = 1;
+    brings(
+        &rt,
+        alloc,
+        &reads,
+        4,
+        8,
+        &[1, 2, 0, 0, 1, 1, 1, 1, 2, 2, 2, 2],
+        2,
+    )
+}
+
+/// Two partitions, where each node of the second reads one of the first, which go over until it is full.
+#[test]
+fn as_many_as_a_size_allows(rt: HostRuntime) -> Result<(), Fail> {
+    let alloc = rt.alloc();
+    brings(&rt, alloc, &[INPUT, 0], 1, 8, &[0, 1], 1)?;
+    brings(&rt, alloc, &[INPUT, INPUT, 0, 1], 2, 8, &[0, 0, 1, 1], 2)?;
+    brings(&rt, alloc, &[INPUT, INPUT, 0], 2, 8, &[1, 0, 1], 0)?;
+    let four = [INPUT, INPUT, INPUT, INPUT, 0, 1, 2, 3];
+    brings(&rt, alloc, &four, 4, 1, &[1, 0, 0, 0, 1, 0, 0, 1], 1)?;
+    let five = [INPUT, INPUT, INPUT, INPUT, INPUT, 0, 1, 2, 3, 4];
+    brings(&rt, alloc, &five, 5, 1, &[1, 0, 0, 0, 0, 1, 0, 0, 1, 1], 2)
+}
+
+/// The same with partitions of 64, which hold 80 at most: 16 go over, and then 32 readers go back.
+#[test]
+fn eighty_of_size_64(rt: HostRuntime) -> Result<(), Fail> {
+    let alloc = rt.alloc();
+    let mut reads = [INPUT; 128];
+    let mut of = [0u32; 128];
+    for k in 0..64 {
+        reads[64 + k] = k as u32;
+        of[k] = u32::from(k < 16);
+        of[64 + k] = u32::from(k < 16 || 48 <= k);
+    }
+    brings(&rt, alloc, &reads, 64, 1, &of, 16)
+}
+
+/// Each of three nodes stands alone and has no room for another.
+#[test]
+fn no_move_at_size_1(rt: HostRuntime) -> Result<(), Fail> {
+    let alloc = rt.alloc();
+    let nodes = registers(alloc, &[1, 2, 0])?;
+    let n = design(alloc, nodes.as_slice())?;
+    for passes in [0, 8] {
+        let after = found(alloc, &n, 1, passes)?;
+        assert!(rt; after.of.as_slice() == [0, 1, 2].as_slice());
+        assert!(rt; after.count == 3);
+        assert!(rt; after.cost == 3);
+        assert!(rt; after.minimal);
+    }
     Ok(())
 }
 

@@ -15,7 +15,7 @@ returns-then-is_settled c =
 
 pub loop-x-init : goal.loop-x-init
 loop-x-init c =
-    (c.consider_readers-lead.ensures.lead, readers_tried c.args.n.now.net c.args.size c.args.p.now c.args.i c.consider_readers-lead.result.place c.row-x-items.result.now c.consider_readers-lead.ensures.tried, refl)
+    (c.consider_own_readers-lead.ensures.lead, readers_tried c.args.n.now.net c.args.size c.args.p.now c.args.i c.consider_own_readers-lead.result.place c.row-x-items.result.now c.consider_own_readers-lead.ensures.tried, refl)
 
 pub returns-then-is_settled-2 : goal.returns-then-is_settled-2
 returns-then-is_settled-2 c =
@@ -24,28 +24,17 @@ returns-then-is_settled-2 c =
     ap (λ (s : ℕ). is_settled c.loop-x.lead s (c.loop-x.x-index + 1)) (sym c.part_of-start.ensures.value) ∙ (ap (λ (t : ℕ). is_settled c.loop-x.lead c.part_of-start.result t) (sym c.loop-x.invariant.2) ∙ sym c.if-is_settled-2.ensures) in
     settled_place c.args.n.now.net c.args.size c.args.p.now c.args.i c.loop-x.x-index c.row-x-items.result.now c.loop-x.lead c.requires.tracks c.requires.node perm c.loop-x.invariant.0 c.loop-x.invariant.1 settled
 
-pub part_of-requires-clause-node : goal.part_of-requires-clause-node
-part_of-requires-clause-node c =
-    let perm : IsPermutation (other_sources c.args.n.now.net c.args.i) c.row-x-items.result.now = subst (λ (row : List ℕ). IsPermutation (other_sources c.args.n.now.net c.args.i) row) (sym c.row-x-items.ensures) (c.requires.tracks.sources c.args.i c.requires.node) in
-    sources_below c.args.n.now.net c.args.i c.row-x-items.result.now perm c.loop-x.x-index 0 c.loop-x-test.true
-
-pub consider_readers-lead-requires-in-loop-x-clause-read : goal.consider_readers-lead-requires-in-loop-x-clause-read
-consider_readers-lead-requires-in-loop-x-clause-read c =
+pub consider_source-lead-requires-clause-read : goal.consider_source-lead-requires-clause-read
+consider_source-lead-requires-clause-read c =
     let perm : IsPermutation (other_sources c.args.n.now.net c.args.i) c.row-x-items.result.now = subst (λ (row : List ℕ). IsPermutation (other_sources c.args.n.now.net c.args.i) row) (sym c.row-x-items.ensures) (c.requires.tracks.sources c.args.i c.requires.node) in
     sources_below c.args.n.now.net c.args.i c.row-x-items.result.now perm c.loop-x.x-index 0 c.loop-x-test.true
 
 pub loop-x-preserved : goal.loop-x-preserved
 loop-x-preserved c =
-    let n = c.args.n.now.net in
-    let p = c.args.p.now in
-    let row = c.row-x-items.result.now in
-    let now = c.consider_readers-lead-in-loop-x.result in
-    let own : LeadsOpen n c.args.size p c.args.i now.place (start_of p (get_or row c.loop-x.x-index 0)) =
-    λ room. c.consider_readers-lead-in-loop-x.ensures.kept (start_of p (get_or row c.loop-x.x-index 0))
-    (subst (λ (q : ℕ). LeadsOpen n c.args.size p c.args.i c.consider-lead.result.place q) c.part_of.ensures.value c.consider-lead.ensures.tried room) in (
-      c.consider_readers-lead-in-loop-x.ensures.lead,
-      source_tried n c.args.size p c.args.i c.loop-x.lead.place now.place row c.loop-x.x-index c.loop-x-test.true c.loop-x.invariant.1
-          (λ q h. c.consider_readers-lead-in-loop-x.ensures.kept q (c.consider-lead.ensures.kept q h)) own c.consider_readers-lead-in-loop-x.ensures.tried,
+    let now = c.consider_source-lead.result in (
+      c.consider_source-lead.ensures.lead,
+      source_tried c.args.n.now.net c.args.size c.args.p.now c.args.i c.loop-x.lead.place now.place c.row-x-items.result.now c.loop-x.x-index c.loop-x-test.true c.loop-x.invariant.1
+          c.consider_source-lead.ensures.kept c.consider_source-lead.ensures.own c.consider_source-lead.ensures.tried,
       ap (λ (t : ℕ). t + 1) c.loop-x.invariant.2,
     )
 
