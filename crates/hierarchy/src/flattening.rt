@@ -9,6 +9,8 @@ ghost use Rattle.hierarchy.specs.Flat.{flat_model};
 ghost use Rattle.hierarchy.specs.FlatText.{text_length};
 ghost use Rattle.hierarchy.specs.Clash.{name_clash};
 ghost use Rattle.hierarchy.specs.Walk.{IsReady};
+ghost use Rattle.hierarchy.specs.Counts.{ArePlaces};
+ghost use Rattle.hierarchy.specs.Naming.{IsClash};
 ghost use Rattle.hierarchy.specs.Flatten.{IsSound, IsSoundFault, IsTextFault, IsFlatFault, IsSameFault, IsFlat, Fits, flat_fault_of};
 ghost use Rattle.hierarchy.specs.Sizes.{row_total};
 ghost use Rattle.hierarchy.specs.declared.flat_fault.FlatFault.{FlatFault};
@@ -20,6 +22,7 @@ ghost use Rattle.flat_net.specs.Faults.{net_of_draft, IsFaultless, IsFaultOf};
 use crate::bare::{branching_models, filled_models};
 use crate::count::Count;
 use crate::counting::{count_models, places_of};
+use crate::cut_short::cut_short;
 use crate::flat_fault::FlatFault;
 use crate::library::{Survey, look_over};
 use crate::links::{Row, all_links};
@@ -77,6 +80,50 @@ fn ready_rows(
     all_links(alloc, names, &holds, &branching, positions, counts, models)
 }
 
+/// The main model with the flat elements, whose nets have their texts as names, unless two nets share a text.
+/// All statements are followed as they stand.
+fn walked_model(
+    alloc: Global,
+    models: &[BlifModel],
+    names: &IndexSet<Name>,
+    order: &[usize],
+    positions: &[usize],
+    counts: &[Option<Count>],
+) -> Result<BlifModel, NamingFault>
+    requires names { names.now.keys ≡ names_of (map plain_model models.now) }
+    requires some { 0 < length models.now }
+    ensures model { IfOk result (λ flat. plain_model flat ≡ flat_model (map plain_model models.now)) }
+    ensures clear { OnOk result (name_clash (map plain_model models.now) ≡ None) }
+    ensures fault { IfErr result (λ fault. IsClash (map plain_model models.now) fault) }
+{
+    let rows = ready_rows(alloc, models, names, order, positions, counts)?;
+    named_model(alloc, models, &rows)
+}
+
+/// The same, where long chains of models are cut short before.
+fn named_flat(
+    alloc: Global,
+    models: &[BlifModel],
+    names: &IndexSet<Name>,
+    order: &[usize],
+    positions: &[usize],
+    counts: &[Option<Count>],
+) -> Result<BlifModel, NamingFault>
+    requires library { IsLibrary (map plain_model models.now) }
+    requires names { names.now.keys ≡ names_of (map plain_model models.now) }
+    requires placeable { IsPlaceable (map plain_model models.now) }
+    requires ordered { IsOrder (graph (map plain_model models.now)) order.now }
+    requires places { ArePlaces order.now positions.now }
+    ensures model { IfOk result (λ flat. plain_model flat ≡ flat_model (map plain_model models.now)) }
+    ensures clear { OnOk result (name_clash (map plain_model models.now) ≡ None) }
+    ensures fault { IfErr result (λ fault. IsClash (map plain_model models.now) fault) }
+{
+    match cut_short(alloc, models, names, order, positions, counts)? {
+        Some(short) => walked_model(alloc, &short, names, order, positions, counts),
+        None => walked_model(alloc, models, names, order, positions, counts),
+    }
+}
+
 /// The names of the models of a library that has no fault of its own, and the order of the reached ones, or
 /// the first such fault.
 fn sound_order(alloc: Global, models: &[BlifModel]) -> Result<Ordered, FlatFault>
@@ -102,10 +149,10 @@ fn flat_within(
     order: &[usize],
     limit: u64,
 ) -> Result<BlifModel, FlatFault>
+    requires library { IsLibrary (map plain_model models.now) }
     requires names { names.now.keys ≡ names_of (map plain_model models.now) }
     requires placeable { IsPlaceable (map plain_model models.now) }
     requires ordered { IsOrder (graph (map plain_model models.now)) order.now }
-    requires some { 0 < length models.now }
     requires limit { limit ≤ 1073741824 }
     ensures model { IfOk result (λ flat. plain_model flat ≡ flat_model (map plain_model models.now)) }
     ensures fits { OnOk result (Fits (map plain_model models.now) limit) }
@@ -117,8 +164,7 @@ fn flat_within(
     if !fits(models, order, &positions, &counts, limit) {
         return Err(FlatFault::TooLarge);
     }
-    let rows = ready_rows(alloc, models, names, order, &positions, &counts)?;
-    match named_model(alloc, models, &rows) {
+    match named_flat(alloc, models, names, order, &positions, &counts) {
         Ok(flat) => Ok(flat),
         Err(NamingFault::Clash(text)) => Err(FlatFault::NameClash(text)),
         Err(NamingFault::Memory) => Err(FlatFault::Memory),
