@@ -1,8 +1,8 @@
 -- What a statement alone hands on, and the nets of names along a chain.
 use Rattle.std.proofs.Common.{◌≡◌, ◌≢◌, ℕ, zero, suc, ◌+◌, ◌<◌, ◌≤◌, Bool, true, false, ◌||◌, List, [], ◌∷◌, ◌++◌, length, map, get_or, refl, sym, ap, ◌∙◌, subst, arith, append-nil, Option, Some, None}
-use Rattle.std.specs.Prelude.{slice_get, slice_index_or, option_and_then, flat_map, Contains}
+use Rattle.std.specs.Prelude.{slice_get, slice_index_or, option_and_then, Contains}
 use Rattle.std.specs.Option.{option_map_or, is_some}
-use Rattle.std.specs.List.{list_all, list_any}
+use Rattle.std.specs.List.{list_all}
 use Rattle.std.specs.Str.{bytes_eq}
 use Rattle.std.proofs.lemmas.List.{get_or_default, length-map}
 use Rattle.std.proofs.lemmas.List.Folds.{list_any-append}
@@ -13,12 +13,12 @@ use Rattle.blif_text.specs.Models.{PlainElement, Table, Register, Instance, Plai
 use Rattle.blif_text.specs.Library.{name_of}
 use Rattle.tmr_base.specs.declared.ids.Edge.{Edge}
 use Rattle.hierarchy.specs.declared.chains.Way.{Way}
-use Rattle.hierarchy.specs.Graph.{graph, names_of, number_named, model_named, placed_of, placed_in, row}
+use Rattle.hierarchy.specs.Graph.{graph, names_of, number_named, placed_of, row}
 use Rattle.hierarchy.specs.Found.{IsOrder}
-use Rattle.hierarchy.specs.Flat.{Level, NetElement, NetTable, NetRegister, no_model, step, path_of, actual_of, resolve, resolved_control, elements_with, elements_to}
+use Rattle.hierarchy.specs.Flat.{Level, NetTable, NetRegister, no_model, step, path_of, actual_of, resolve, resolved_control, elements_with, elements_to}
 use Rattle.hierarchy.specs.Counts.{control_names, element_names, ArePlaces}
 use Rattle.hierarchy.specs.Links.{IsBare, is_bare_element}
-use Rattle.hierarchy.specs.Walk.{model_at, no_element, placed_element, IsInstance}
+use Rattle.hierarchy.specs.Walk.{model_at, no_element, placed_element}
 use Rattle.hierarchy.specs.Chains.{nets_in, placed_all, bound_at, is_plain_element, IsOnly, IsHandedOn, IsHandedWay, IsEndWay, IsWay, AreWays, way_at, way_named, StandFor}
 use Rattle.hierarchy.proofs.AllCounts.{placed_there, row_at}
 use Rattle.hierarchy.proofs.BareLaws.{bare_target}

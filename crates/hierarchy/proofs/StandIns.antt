@@ -1,21 +1,16 @@
 -- Models that stand for those of a library give the same flat elements.
 use Rattle.std.proofs.Common.{◌≡◌, ℕ, zero, suc, ◌+◌, ◌<◌, ◌≤◌, ◌⊎◌, List, [], ◌∷◌, ◌++◌, length, map, get_or, refl, sym, ap, ◌∙◌, subst, inl, inr, arith, Option, Some, None}
-use Rattle.std.specs.Prelude.{slice_get, slice_index_or, option_and_then, flat_map}
-use Rattle.std.specs.Option.{option_map_or}
+use Rattle.std.specs.Prelude.{slice_index_or}
 use Rattle.std.proofs.lemmas.Bool.{cases_lt}
-use Rattle.std.proofs.lemmas.List.{length-map}
-use Rattle.std.proofs.lemmas.Option.{slice_get-get_or}
 use Rattle.blif_text.specs.Models.{PlainElement, Table, Register, Instance, PlainModel}
-use Rattle.blif_text.specs.Library.{name_of}
-use Rattle.hierarchy.specs.Graph.{graph, names_of, number_named, model_named}
+use Rattle.hierarchy.specs.Graph.{graph, names_of, number_named}
 use Rattle.hierarchy.specs.Found.{IsOrder}
 use Rattle.hierarchy.specs.Library.{IsPlaceable}
-use Rattle.hierarchy.specs.Flat.{Level, NetElement, NetTable, NetRegister, no_model, step, path_of, resolve, resolved_control, main_of, main_level, named, elements_with, elements_to, flat_elements, flat_model}
-use Rattle.hierarchy.specs.Clash.{main_net, nets_of, walked, clash_after, name_clash}
+use Rattle.hierarchy.specs.Flat.{Level, NetTable, NetRegister, step, path_of, resolve, resolved_control, main_of, main_level, elements_with, elements_to, flat_elements, flat_model}
+use Rattle.hierarchy.specs.Clash.{walked, clash_after}
 use Rattle.hierarchy.specs.Walk.{model_at, no_element}
 use Rattle.hierarchy.specs.Chains.{StandFor, AreStandIns, IsStandIn, IsSameFlat}
 use Rattle.hierarchy.proofs.Totals.{first_model}
-use Rattle.hierarchy.proofs.GraphLaws.{number_within}
 use Rattle.hierarchy.proofs.MainCosts.{few_placed, main_place}
 use Rattle.hierarchy.proofs.ChainLaws.{into_model, order_within}
 

@@ -1,5 +1,5 @@
 -- Ways found one by one, and what stands for models, in the words of the calls.
-use Rattle.std.proofs.Common.{◌≡◌, ◌≢◌, ℕ, ◌+◌, ◌<◌, ◌≤◌, ◌⊎◌, Bool, true, false, cond, ltb, List, [], ◌∷◌, ◌++◌, length, map, get_or, refl, sym, ap, ◌∙◌, subst, inl, inr, arith, Option, Some, None}
+use Rattle.std.proofs.Common.{◌≡◌, ◌≢◌, ℕ, ◌+◌, ◌<◌, ◌≤◌, ◌⊎◌, Bool, true, false, ltb, List, [], ◌∷◌, ◌++◌, length, map, get_or, refl, sym, ap, ◌∙◌, subst, inl, inr, arith, Option, Some, None}
 use Rattle.std.specs.Prelude.{slice_get, slice_index_or, option_and_then, IfSome}
 use Rattle.std.specs.List.{position_or_len}
 use Rattle.std.specs.Str.{bytes_eq}
@@ -20,7 +20,7 @@ use Rattle.hierarchy.specs.Flat.{no_model}
 use Rattle.hierarchy.specs.Counts.{ArePlaces}
 use Rattle.hierarchy.specs.Links.{IsBare}
 use Rattle.hierarchy.specs.Walk.{model_at, no_element}
-use Rattle.hierarchy.specs.Chains.{IsOnly, IsHandedWay, IsEndWay, IsWay, AreWays, way_at, way_named, StandFor, IsOfWay, AreElementsFor, IsShort, IsStandIn, AreStandIns}
+use Rattle.hierarchy.specs.Chains.{IsOnly, IsHandedWay, IsEndWay, IsWay, AreWays, way_at, way_named, StandFor, AreElementsFor, IsShort, AreStandIns}
 use Rattle.hierarchy.proofs.Moved.{at_model}
 use Rattle.hierarchy.proofs.OneElement.{element_is}
 use Rattle.hierarchy.proofs.ChainLaws.{order_within, handed_way, end_is, itself_stands, way_stands}

@@ -1,9 +1,8 @@
 -- Statements that have the flat elements of a model that only hands its nets on. These are for proofs: what the public calls
 -- promise is said of the flat elements alone.
-use Rattle.std.specs.Prelude.{◌≡◌, ◌≢◌, ◌≤◌, ◌<◌, ℕ, Bool, true, false, List, [], ◌∷◌, ◌⊎◌, length, map, flat_map, slice_get, slice_index, slice_index_or, option_and_then, Option, Some, None, IfSome}
+use Rattle.std.specs.Prelude.{◌≡◌, ◌≢◌, ◌≤◌, ◌<◌, ℕ, Bool, true, List, [], ◌∷◌, ◌⊎◌, length, flat_map, slice_get, slice_index, slice_index_or, option_and_then, Option, Some, None}
 use Rattle.std.specs.Option.{is_some}
 use Rattle.std.specs.List.{list_all}
-use Rattle.std.specs.Str.{bytes_eq}
 use Rattle.blif_text.specs.Kind.{is_among}
 use Rattle.blif_text.specs.Models.{PlainElement, Table, Register, Instance, PlainModel}
 use Rattle.hierarchy.specs.declared.chains.Way.{Way}

@@ -1,4 +1,3 @@
-use Rattle.std.proofs.Common.{◌∙◌, sym, ap}
 use Rattle.hierarchy.proofs.Handing.{alike_more, none_alike}
 use Rattle.hierarchy.proofs.chains.bound_alike.Goals as goal
 

@@ -1,4 +1,4 @@
-use Rattle.std.proofs.Common.{◌≡◌, ◌∙◌, ◌<◌, ℕ, ap, sym, subst, length, map, arith}
+use Rattle.std.proofs.Common.{◌∙◌, sym, subst, map, arith}
 use Rattle.std.proofs.lemmas.List.{length-map}
 use Rattle.blif_text.specs.Views.{plain_model}
 use Rattle.hierarchy.specs.Chains.{AreWays}

@@ -1,4 +1,4 @@
-use Rattle.std.proofs.Common.{refl, sym, ap}
+use Rattle.std.proofs.Common.{sym, ap}
 use Rattle.hierarchy.proofs.Handing.{if_ok}
 use Rattle.hierarchy.proofs.Ways.{of_way}
 use Rattle.hierarchy.proofs.cut_short.stand_in_elements.Goals as goal

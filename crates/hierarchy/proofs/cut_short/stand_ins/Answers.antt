@@ -1,4 +1,4 @@
-use Rattle.std.proofs.Common.{◌≡◌, ◌+◌, ◌<◌, ◌∙◌, ℕ, ap, sym, subst, length, map}
+use Rattle.std.proofs.Common.{◌+◌, ◌<◌, ◌∙◌, ℕ, ap, sym, subst, length, map}
 use Rattle.std.proofs.lemmas.List.{length_push}
 use Rattle.blif_text.specs.Views.{plain_model}
 use Rattle.hierarchy.specs.Walk.{model_at}
