@@ -23,7 +23,7 @@ none_is : (o : Option ℕ) → is_none o ≡ true → o ≡ None
 none_is None e = refl
 none_is (Some x) e = absurd cc
 
-bare_target : (names : List (List ℕ)) (holds : List Bool) (e : PlainElement) → is_bare_element names holds e ≡ true → IsInstance e × (target_of names holds e ≡ None)
+pub bare_target : (names : List (List ℕ)) (holds : List Bool) (e : PlainElement) → is_bare_element names holds e ≡ true → IsInstance e × (target_of names holds e ≡ None)
 bare_target names holds (Table pins out cover) e = absurd cc
 bare_target names holds (Register pin out control init) e = absurd cc
 bare_target names holds (Instance model bindings) e = (tt, none_is _ e)

@@ -19,7 +19,7 @@ either first rest more last true e = refl
 either first rest more last false e = e
 
 -- one binding more
-one_more : (seen : List (List ℕ × List ℕ)) (b : List ℕ × List ℕ) (q : List ℕ) → actual_of (seen ++ b ∷ []) q ≡ option_or (actual_of seen q) (cond (bytes_eq q b.0) (Some b.1) None)
+pub one_more : (seen : List (List ℕ × List ℕ)) (b : List ℕ × List ℕ) (q : List ℕ) → actual_of (seen ++ b ∷ []) q ≡ option_or (actual_of seen q) (cond (bytes_eq q b.0) (Some b.1) None)
 unfolding actual_of
 one_more [] b q = refl
 one_more (c ∷ seen) b q = either c.1 (actual_of seen q) (actual_of (seen ++ b ∷ []) q) (cond (bytes_eq q b.0) (Some b.1) None) (bytes_eq q c.0) (one_more seen b q)

@@ -9,7 +9,7 @@ use Rattle.blif_text.specs.Library.{name_of}
 use Rattle.hierarchy.specs.declared.walk.Frame.{Frame}
 use Rattle.hierarchy.specs.declared.walk.Walk.{Walk}
 use Rattle.hierarchy.specs.Graph.{names_of, number_named, model_named}
-use Rattle.hierarchy.specs.Flat.{Level, PlacedNet, NetElement, no_model, step, path_of, actual_of, resolve, elements_with, elements_to}
+use Rattle.hierarchy.specs.Flat.{Level, NetElement, no_model, step, path_of, actual_of, resolve, elements_with, elements_to}
 use Rattle.hierarchy.specs.Links.{filled, target_of, bindings_of, IsBare}
 use Rattle.hierarchy.specs.Walk.{model_at, no_element, element_at, bound_by, level_of, rest_of, coming_from, known_net, AreFrames, AreKnown, IsInstance, placed_element, moves_with, moves_to, moves_from}
 use Rattle.hierarchy.proofs.GraphLaws.{number_within}

@@ -33,6 +33,11 @@ pub mod SoundStatements
 pub mod AllCounts
 pub mod FlatCosts
 pub mod MainCosts
+pub mod ChainLaws
+pub mod OneElement
+pub mod Handing
+pub mod Ways
+pub mod StandIns
 pub mod OneFirst
 pub mod OrderOrLoop
 pub mod OneDraftFault

@@ -134,7 +134,7 @@ least_below levels (Formal name) = omega arith
 least_below levels (Own text) = omega arith
 
 module _ (library : List PlainModel) (order : List ℕ) (sound : IsPlaceable library) (ordered : IsOrder (graph library) order) (some : 0 < length library) where
-  few_placed : length order ≤ length library
+  pub few_placed : length order ≤ length library
   few_placed = length-le_from_distinct_below order (length library) (IsDistinct-from_apart eqb order (λ j k b jk h. ne_eqb _ _ (λ e. ordered.once j k jk h (get_or_default order j 0 b (omega arith) ∙ (e ∙ get_or_default order k b 0 h))))) (λ q t. go q (Any-from_list_any (eqb q) order t))
     where
       go : (q : ℕ) → Any (λ x. eqb q x ≡ true) order → q < length library

@@ -17,4 +17,5 @@ pub mod Walk
 pub mod Naming
 pub mod Flatten
 pub mod Counts
+pub mod Chains
 pub mod Sizes

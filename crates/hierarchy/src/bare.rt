@@ -13,7 +13,7 @@ use std::alloc::{AllocError, Global};
 use tmr_base::Name;
 
 /// A `.subckt` statement below which no element stands.
-fn is_bare(names: &IndexSet<Name>, holds: &[bool], element: &Element) -> bool
+pub(crate) fn is_bare(names: &IndexSet<Name>, holds: &[bool], element: &Element) -> bool
     ensures { result ≡ is_bare_element names.now.keys holds.now (plain_element element.now) }
 {
     match element {

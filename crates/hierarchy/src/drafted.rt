@@ -11,7 +11,7 @@ use std::alloc::Global;
 use tmr_base::{Edge, Name, OutOfMemory};
 
 /// The same names once more.
-fn copy_names(alloc: Global, names: &[Name]) -> Result<Vec<Name>, OutOfMemory>
+pub(crate) fn copy_names(alloc: Global, names: &[Name]) -> Result<Vec<Name>, OutOfMemory>
     ensures { IfOk result (λ copies. copies.items ≡ names.now) }
 {
     let mut copies = Vec::new(alloc);
@@ -22,7 +22,7 @@ fn copy_names(alloc: Global, names: &[Name]) -> Result<Vec<Name>, OutOfMemory>
 }
 
 /// The same control once more.
-fn copy_control(
+pub(crate) fn copy_control(
     alloc: Global,
     control: &Option<(Edge, Name)>,
 ) -> Result<Option<(Edge, Name)>, OutOfMemory>

@@ -10,6 +10,8 @@ ghost use Rattle.hierarchy.specs.FlatText.{text_length};
 ghost use Rattle.hierarchy.specs.Clash.{name_clash};
 ghost use Rattle.hierarchy.specs.Alone.{is_placing, places_nothing};
 ghost use Rattle.hierarchy.specs.Walk.{IsReady};
+ghost use Rattle.hierarchy.specs.Counts.{ArePlaces};
+ghost use Rattle.hierarchy.specs.Naming.{IsClash};
 ghost use Rattle.hierarchy.specs.Flatten.{IsSound, IsSoundFault, IsTextFault, IsFlatFault, IsSameFault, IsFlat, Fits, flat_fault_of};
 ghost use Rattle.hierarchy.specs.Sizes.{row_total};
 ghost use Rattle.hierarchy.specs.declared.flat_fault.FlatFault.{FlatFault};
@@ -21,6 +23,7 @@ ghost use Rattle.flat_net.specs.Faults.{net_of_draft, IsFaultless, IsFaultOf};
 use crate::bare::{branching_models, filled_models};
 use crate::count::Count;
 use crate::counting::{count_models, places_of};
+use crate::cut_short::cut_short;
 use crate::flat_fault::FlatFault;
 use crate::library::{Survey, look_over};
 use crate::links::{Row, all_links};
@@ -85,6 +88,50 @@ fn ready_rows(
     all_links(alloc, names, &holds, &branching, positions, counts, models)
 }
 
+/// The main model with the flat elements, whose nets have their texts as names, unless two nets share a text.
+/// All statements are followed as they stand.
+fn walked_model(
+    alloc: Global,
+    models: &[BlifModel],
+    names: &IndexSet<Name>,
+    order: &[usize],
+    positions: &[usize],
+    counts: &[Option<Count>],
+) -> Result<BlifModel, NamingFault>
+    requires names { names.now.keys ≡ names_of (map plain_model models.now) }
+    requires some { 0 < length models.now }
+    ensures model { IfOk result (λ flat. plain_model flat ≡ flat_model (map plain_model models.now)) }
+    ensures clear { OnOk result (name_clash (map plain_model models.now) ≡ None) }
+    ensures fault { IfErr result (λ fault. IsClash (map plain_model models.now) fault) }
+{
+    let rows = ready_rows(alloc, models, names, order, positions, counts)?;
+    named_model(alloc, models, &rows)
+}
+
+/// The same, where long chains of models are cut short before.
+fn named_flat(
+    alloc: Global,
+    models: &[BlifModel],
+    names: &IndexSet<Name>,
+    order: &[usize],
+    positions: &[usize],
+    counts: &[Option<Count>],
+) -> Result<BlifModel, NamingFault>
+    requires library { IsLibrary (map plain_model models.now) }
+    requires names { names.now.keys ≡ names_of (map plain_model models.now) }
+    requires placeable { IsPlaceable (map plain_model models.now) }
+    requires ordered { IsOrder (graph (map plain_model models.now)) order.now }
+    requires places { ArePlaces order.now positions.now }
+    ensures model { IfOk result (λ flat. plain_model flat ≡ flat_model (map plain_model models.now)) }
+    ensures clear { OnOk result (name_clash (map plain_model models.now) ≡ None) }
+    ensures fault { IfErr result (λ fault. IsClash (map plain_model models.now) fault) }
+{
+    match cut_short(alloc, models, names, order, positions, counts)? {
+        Some(short) => walked_model(alloc, &short, names, order, positions, counts),
+        None => walked_model(alloc, models, names, order, positions, counts),
+    }
+}
+
 /// The names of the models of a library that has no fault of its own, and the order of the reached ones, or
 /// the first such fault.
 fn sound_order(alloc: Global, models: &[BlifModel]) -> Result<Ordered, FlatFault>
@@ -110,11 +157,12 @@ fn counted_within(
     order: &[usize],
     limit: u64,
 ) -> Result<Counted, FlatFault>
+    requires library { IsLibrary (map plain_model models.now) }
     requires names { names.now.keys ≡ names_of (map plain_model models.now) }
     requires placeable { IsPlaceable (map plain_model models.now) }
     requires ordered { IsOrder (graph (map plain_model models.now)) order.now }
-    requires some { 0 < length models.now }
     requires limit { limit ≤ 1073741824 }
+    ensures places { IfOk result (λ counted. ArePlaces order.now counted.positions.items) }
     ensures fits { OnOk result (Fits (map plain_model models.now) limit) }
     ensures fault { IfErr result (λ fault. IsTextFault (map plain_model models.now) limit fault) }
 {
@@ -135,22 +183,18 @@ fn flat_model(
     counted: &Counted,
     limit: u64,
 ) -> Result<BlifModel, FlatFault>
+    requires library { IsLibrary (map plain_model models.now) }
     requires names { names.now.keys ≡ names_of (map plain_model models.now) }
-    requires some { 0 < length models.now }
+    requires placeable { IsPlaceable (map plain_model models.now) }
+    requires ordered { IsOrder (graph (map plain_model models.now)) order.now }
+    requires places { ArePlaces order.now counted.now.positions.items }
     requires fits { Fits (map plain_model models.now) limit }
     ensures model { IfOk result (λ flat. plain_model flat ≡ flat_model (map plain_model models.now)) }
     ensures clear { OnOk result (name_clash (map plain_model models.now) ≡ None) }
     ensures fault { IfErr result (λ fault. IsTextFault (map plain_model models.now) limit fault) }
 {
-    let rows = ready_rows(
-        alloc,
-        models,
-        names,
-        order,
-        &counted.positions,
-        &counted.counts,
-    )?;
-    match named_model(alloc, models, &rows) {
+    let positions = &counted.positions;
+    match named_flat(alloc, models, names, order, positions, &counted.counts) {
         Ok(flat) => Ok(flat),
         Err(NamingFault::Clash(text)) => Err(FlatFault::NameClash(text)),
         Err(NamingFault::Memory) => Err(FlatFault::Memory),

@@ -7,14 +7,17 @@
 #![tactic(auto)]
 
 mod bare;
+mod chains;
 mod count;
 mod counting;
+mod cut_short;
 mod drafted;
 mod fault;
 mod flat_fault;
 mod flat_text;
 mod flattening;
 mod graph;
+mod heads;
 mod library;
 mod links;
 mod model_names;

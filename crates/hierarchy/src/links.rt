@@ -50,7 +50,7 @@ fn bind_one(
 }
 
 /// The actual of each formal.
-fn bind_actuals(
+pub(crate) fn bind_actuals(
     alloc: Global,
     bindings: &[(Name, Name)],
 ) -> Result<IndexMap<Name, Name>, OutOfMemory>

@@ -246,3 +246,51 @@ fn a_chain_of_20_000_models(rt: HostRuntime) -> Result<(), Fail> {
     assert_eq!(rt; told(alloc, &library, 8_388_608)?.as_str(), "0 0 0 0 0 < @");
     Ok(())
 }
+
+/// A main model that places the first of a chain twice. Each model of the chain hands the two nets that it
+/// reads on crosswise, and the last has a table and a latch. The model with the number `open` leaves the net
+/// of the latch open.
+fn crossed(alloc: Global, models: u32, open: u32) -> Result<Library, Fail> {
+    let mut text = String::new(alloc);
+    write!(text, ".model top\n.inputs i j ck\n.outputs o\n")?;
+    write!(text, ".subckt m0 a=i b=j c=ck z=o y=p\n")?;
+    write!(text, ".subckt m0 a=j b=i c=ck z=r y=q\n")?;
+    for k in 0..models {
+        let next = k as u64 + 1;
+        let bound = if k == open { "" } else { " y=y" };
+        write!(
+            text,
+            ".end\n.model m{k}\n.inputs a b c\n.outputs z y\n.subckt empty\n"
+        )?;
+        write!(text, ".subckt m{next} a=b b=a c=c z=z{bound}\n")?;
+    }
+    write!(
+        text,
+        ".end\n.model m{models}\n.inputs a b c\n.outputs z y\n"
+    )?;
+    write!(
+        text,
+        ".names a b z\n10 1\n.latch a y re c 1\n.end\n.model empty\n.end\n"
+    )?;
+    read(alloc, text.as_bytes())
+}
+
+#[test]
+fn chains_that_hand_on_crosswise(rt: HostRuntime) -> Result<(), Fail> {
+    let alloc = rt.alloc();
+    for models in 0..20u32 {
+        let library = crossed(alloc, models, 99)?;
+        let wanted = if models % 2 == 0 {
+            "2 1 4 2 0 i j o p r q < 0 1 0 1 0 1 @ 1 1"
+        } else {
+            "2 1 4 2 0 i j o p r q < 1 0 1 0 1 0 @ 1 1"
+        };
+        assert_eq!(rt; told(alloc, &library, 8_388_608)?.as_str(), wanted);
+    }
+    let library = crossed(alloc, 20, 2)?;
+    assert_eq!(rt;
+        told(alloc, &library, 8_388_608)?.as_str(),
+        "2 1 4 2 0 i j o u0/u1/u1/u1/y r u1/u1/u1/u1/y < 0 1 0 1 0 1 @ 1 1"
+    );
+    Ok(())
+}

@@ -1,4 +1,4 @@
-use Rattle.std.proofs.Common.{◌≡◌, ◌≤◌, ◌∙◌, ℕ, List, cond, sym, ap, map, subst, Option, Some, None}
+use Rattle.std.proofs.Common.{◌∙◌, ℕ, List, cond, ap, map, Some}
 use Rattle.std.specs.Str.{bytes_eq}
 use Rattle.indexmap.specs.IndexMap.{get}
 use Rattle.blif_text.specs.Views.{plain_model}

@@ -1,7 +1,5 @@
-use Rattle.std.proofs.Common.{◌≡◌, ◌≤◌, ◌∙◌, sym, ap, map, take, arith}
+use Rattle.std.proofs.Common.{◌∙◌, sym, ap, map, arith}
 use Rattle.std.specs.Prelude.{option_copied}
-use Rattle.hierarchy.specs.Flat.{resolve}
-use Rattle.hierarchy.specs.Walk.{levels_of}
 use Rattle.blif_text.specs.Views.{plain_model}
 use Rattle.hierarchy.proofs.Resolving.{frame_kept, outwards, stays_here, outermost, known_here, inner_end}
 use Rattle.hierarchy.proofs.resolve.resolve.Goals as goal

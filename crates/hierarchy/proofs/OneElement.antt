@@ -1,0 +1,46 @@
+-- One element among others that are bare.
+use Rattle.std.proofs.Common.{◌≡◌, ◌≢◌, ℕ, ◌+◌, ◌<◌, ◌≤◌, ◌⊎◌, Bool, true, false, List, length, map, get_or, sym, ap, ◌∙◌, subst, inl, inr, arith, Option, Some, None}
+use Rattle.std.specs.Prelude.{slice_index_or}
+use Rattle.std.specs.Option.{is_some}
+use Rattle.std.proofs.lemmas.Bool.{cases_lt}
+use Rattle.std.proofs.lemmas.List.{get_or-map}
+use Rattle.blif_text.specs.Models.{PlainElement}
+use Rattle.blif_text.specs.declared.library.Element.{Element}
+use Rattle.blif_text.specs.Views.{plain_element}
+use Rattle.hierarchy.specs.Links.{is_bare_element}
+use Rattle.hierarchy.specs.Walk.{no_element}
+use Rattle.hierarchy.specs.Chains.{IsOnly}
+
+-- of the first elements, all or all but one are bare
+abbrev pub IsOnlyBefore : List (List ℕ) → List Bool → List PlainElement → ℕ → Option ℕ → Type 0
+IsOnlyBefore names holds es n None = (k : ℕ) → k < n → is_bare_element names holds (slice_index_or es k no_element) ≡ true
+IsOnlyBefore names holds es n (Some i) = (i < n) × ((k : ℕ) → k < n → k ≢ i → is_bare_element names holds (slice_index_or es k no_element) ≡ true)
+
+module _ (names : List (List ℕ)) (holds : List Bool) (es : List PlainElement) (n : ℕ) where
+  pub bare_more : (o : Option ℕ) → IsOnlyBefore names holds es n o → is_bare_element names holds (slice_index_or es n no_element) ≡ true → IsOnlyBefore names holds es (n + 1) o
+  bare_more None before bare = λ k below. still k below
+    where
+      still : (k : ℕ) → k < n + 1 → is_bare_element names holds (slice_index_or es k no_element) ≡ true
+      still k below = go (cases_lt k n)
+        where
+          go : (k < n) ⊎ (n ≤ k) → is_bare_element names holds (slice_index_or es k no_element) ≡ true
+          go (inl l) = before k l
+          go (inr l) = let same : n ≡ k = omega arith in subst (λ v. is_bare_element names holds (slice_index_or es v no_element) ≡ true) same bare
+  bare_more (Some i) before bare = ((let b = before.0 in omega arith), others)
+    where
+      others : (k : ℕ) → k < n + 1 → k ≢ i → is_bare_element names holds (slice_index_or es k no_element) ≡ true
+      others k below ne = go (cases_lt k n)
+        where
+          go : (k < n) ⊎ (n ≤ k) → is_bare_element names holds (slice_index_or es k no_element) ≡ true
+          go (inl l) = before.1 k l ne
+          go (inr l) = let same : n ≡ k = omega arith in subst (λ v. is_bare_element names holds (slice_index_or es v no_element) ≡ true) same bare
+
+  pub first_filled : (o : Option ℕ) → is_some o ≡ false → IsOnlyBefore names holds es n o → IsOnlyBefore names holds es (n + 1) (Some n)
+  first_filled None none before = (omega arith, λ k below ne. before k (omega arith))
+  first_filled (Some i) none before = absurd cc
+
+pub is_only : (names : List (List ℕ)) (holds : List Bool) (es : List PlainElement) (n i : ℕ) → length es ≤ n → n ≤ length es → IsOnlyBefore names holds es n (Some i) → IsOnly names holds es i
+is_only names holds es n i low high before = record { within = (let b = before.0 in omega arith); others = λ k below ne. before.1 k (omega arith) ne }
+
+pub element_is : (es : List Element) (i : ℕ) (item : Element) → i < length es → item ≡ get_or es i item → slice_index_or (map plain_element es) i no_element ≡ plain_element item
+element_is es i item below is = get_or-map plain_element es i item no_element below ∙ ap plain_element (sym is)

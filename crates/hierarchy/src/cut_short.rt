@@ -1,0 +1,201 @@
+//! A library with the same flat elements, in which long chains of models that only hand their nets on are cut
+//! short: no walk then goes through such a chain each time that it is placed.
+ghost use Rattle.std.specs.Prelude.{◌≡◌, ◌<◌, ◌≤◌, ◌∷◌, [], ℕ, map, length, IfOk, IfSome};
+ghost use Rattle.blif_text.specs.Views.{plain_model, plain_element};
+ghost use Rattle.blif_text.specs.Models.{Instance};
+ghost use Rattle.hierarchy.specs.Graph.{names_of, graph};
+ghost use Rattle.hierarchy.specs.Found.{IsOrder};
+ghost use Rattle.hierarchy.specs.Counts.{ArePlaces};
+ghost use Rattle.hierarchy.specs.Library.{IsPlaceable};
+ghost use Rattle.hierarchy.specs.Walk.{model_at};
+ghost use Rattle.hierarchy.specs.Chains.{AreElementsFor, IsShort, IsSameFlat};
+ghost use Rattle.blif_text.specs.Library.{IsLibrary};
+
+use crate::bare::filled_models;
+use crate::chains::{Way, all_ways, way_at};
+use crate::count::Count;
+use crate::drafted::{copy_control, copy_names};
+use crate::heads::{end_models, head_models};
+use blif_text::{BlifModel, Element};
+use indexmap::IndexSet;
+use std::alloc::Global;
+use tmr_base::{Name, OutOfMemory};
+
+/// The same bindings once more.
+fn copy_bindings(alloc: Global, bindings: &[(Name, Name)]) -> Result<Vec<(Name, Name)>, OutOfMemory>
+    ensures { IfOk result (λ copies. copies.items ≡ bindings.now) }
+{
+    let mut copies = Vec::new(alloc);
+    for (formal, actual) in bindings {
+        let formal = formal.copy(alloc)?;
+        let actual = actual.copy(alloc)?;
+        copies.push((formal, actual))?;
+    }
+    Ok(copies)
+}
+
+/// The same element once more.
+fn copy_element(alloc: Global, element: &Element) -> Result<Element, OutOfMemory>
+    ensures { IfOk result (λ copy. plain_element copy ≡ plain_element element.now) }
+{
+    match element {
+        Element::Table { pins, out, cover } => {
+            let pins = copy_names(alloc, pins)?;
+            let out = out.copy(alloc)?;
+            let cover = cover.copy(alloc)?;
+            Ok(Element::Table { pins, out, cover })
+        }
+        Element::Latch {
+            pin,
+            out,
+            control,
+            init,
+        } => {
+            let pin = pin.copy(alloc)?;
+            let out = out.copy(alloc)?;
+            let control = copy_control(alloc, control)?;
+            Ok(Element::Latch {
+                pin,
+                out,
+                control,
+                init: *init,
+            })
+        }
+        Element::Instance { model, bindings } => {
+            let model = model.copy(alloc)?;
+            let bindings = copy_bindings(alloc, bindings)?;
+            Ok(Element::Instance { model, bindings })
+        }
+    }
+}
+
+/// The same elements once more.
+fn copy_elements(alloc: Global, elements: &[Element]) -> Result<Vec<Element>, OutOfMemory>
+    ensures { IfOk result (λ copies. map plain_element copies.items ≡ map plain_element elements.now) }
+{
+    let mut copies = Vec::new(alloc);
+    for element in elements {
+        copies.push(copy_element(alloc, element)?)?;
+    }
+    Ok(copies)
+}
+
+/// The model with other elements.
+fn model_with(
+    alloc: Global,
+    model: &BlifModel,
+    elements: Vec<Element>,
+) -> Result<BlifModel, OutOfMemory>
+    ensures { IfOk result (λ copy. plain_model copy ≡ record (plain_model model.now) { elements = map plain_element elements.items }) }
+{
+    let name = model.name.copy(alloc)?;
+    let inputs = copy_names(alloc, &model.inputs)?;
+    let outputs = copy_names(alloc, &model.outputs)?;
+    Ok(BlifModel {
+        name,
+        inputs,
+        outputs,
+        elements,
+    })
+}
+
+/// One statement, which places the model of this name.
+fn lone_statement(
+    alloc: Global,
+    model: &Name,
+    bindings: &[(Name, Name)],
+) -> Result<Vec<Element>, OutOfMemory>
+    ensures { IfOk result (λ elements. map plain_element elements.items ≡ Instance model.now bindings.now ∷ []) }
+{
+    let model = model.copy(alloc)?;
+    let bindings = copy_bindings(alloc, bindings)?;
+    let mut elements = Vec::new(alloc);
+    elements.push(Element::Instance { model, bindings })?;
+    Ok(elements)
+}
+
+/// What stands for the elements of a model: those themselves, or the statement of its way.
+fn stand_in_elements(
+    alloc: Global,
+    models: &[BlifModel],
+    positions: &[usize],
+    ways: &[Option<Way>],
+    is_head: bool,
+    x: usize,
+) -> Result<Vec<Element>, OutOfMemory>
+    requires { x < length models.now }
+    ensures { IfOk result (λ elements. AreElementsFor (map plain_model models.now) positions.now ways.now x (map plain_element elements.items)) }
+{
+    if is_head {
+        if let Some(way) = way_at(positions, ways, x) {
+            if way.base != x && way.base < models.len() {
+                return lone_statement(alloc, &models[way.base].name, &way.nets);
+            }
+        }
+    }
+    copy_elements(alloc, &models[x].elements)
+}
+
+/// The model of this number, or what stands for it.
+fn stand_in(
+    alloc: Global,
+    models: &[BlifModel],
+    positions: &[usize],
+    ways: &[Option<Way>],
+    is_head: bool,
+    x: usize,
+) -> Result<BlifModel, OutOfMemory>
+    requires { x < length models.now }
+    ensures { IfOk result (λ model. IsShort (map plain_model models.now) positions.now ways.now x (plain_model model)) }
+{
+    let elements = stand_in_elements(alloc, models, positions, ways, is_head, x)?;
+    model_with(alloc, &models[x], elements)
+}
+
+/// All models, where one statement stands for the elements of each head.
+fn stand_ins(
+    alloc: Global,
+    models: &[BlifModel],
+    positions: &[usize],
+    ways: &[Option<Way>],
+    heads: &[bool],
+) -> Result<Vec<BlifModel>, OutOfMemory>
+    ensures long { IfOk result (λ found. length found.items ≡ length models.now) }
+    ensures each { IfOk result (λ found. (x : ℕ) → x < length models.now → IsShort (map plain_model models.now) positions.now ways.now x (model_at (map plain_model found.items) x)) }
+{
+    let mut found = Vec::new(alloc);
+    for x in 0..models.len() {
+        let is_head = matches!(heads.get(x), Some(true));
+        let model = stand_in(alloc, models, positions, ways, is_head, x)?;
+        found.push(model)?;
+    }
+    Ok(found)
+}
+
+/// A library of models with the same names and the same flat elements, where a long chain is cut short. None
+/// where no chain is long: nothing is copied then.
+pub(crate) fn cut_short(
+    alloc: Global,
+    models: &[BlifModel],
+    names: &IndexSet<Name>,
+    order: &[usize],
+    positions: &[usize],
+    counts: &[Option<Count>],
+) -> Result<Option<Vec<BlifModel>>, OutOfMemory>
+    requires library { IsLibrary (map plain_model models.now) }
+    requires names { names.now.keys ≡ names_of (map plain_model models.now) }
+    requires placeable { IsPlaceable (map plain_model models.now) }
+    requires ordered { IsOrder (graph (map plain_model models.now)) order.now }
+    requires places { ArePlaces order.now positions.now }
+    ensures { IfOk result (λ found. IfSome found (λ short. IsSameFlat (map plain_model models.now) (map plain_model short.items))) }
+{
+    let holds = filled_models(alloc, names, models, order)?;
+    let Some(ends) = end_models(alloc, models, names, &holds, order, positions, counts)? else {
+        return Ok(None);
+    };
+    let ways = all_ways(alloc, models, names, &holds, &ends, order, positions)?;
+    match head_models(alloc, models, names, order, positions, &ways)? {
+        Some(heads) => Ok(Some(stand_ins(alloc, models, positions, &ways, &heads)?)),
+        None => Ok(None),
+    }
+}
