@@ -4,6 +4,7 @@ ghost use Rattle.std.specs.List.{range_with_len};
 ghost use Rattle.flat_net.specs.Net.{net_count, node_of, pins_at};
 ghost use Rattle.certificate.specs.Cert.{Fits};
 ghost use Rattle.recovery_depth.specs.Hardened.{node_at, copied, copied_row, copied_rows, is_register_copy};
+ghost use Rattle.recovery_depth.specs.Ranks.{rank_at, ranks_of};
 ghost use Rattle.recovery_depth.specs.Tops.{place_at, places_of, original_at, originals_of};
 
 use crate::ranks::Ranks;
@@ -201,17 +202,28 @@ pub fn originals(
     Ok(originals)
 }
 
+/// Which copy node g is, and of which original; a voter is taken after each copy.
+fn rank(n: &FlatNet, h: &FlatNet, c: &Certificate, g: u32) -> (u32, u32)
+    requires fits { Fits n.now.net h.now.net c.now }
+    requires node { g < length h.now.net.nodes }
+    ensures { result ≡ rank_at h.now.net c.now g }
+{
+    let _nodes = nodes_of(h);
+    match c.role(NetId(h.input_count() + g)) {
+        Role::Copy { node, copy } => (copy.number(), node.0),
+        Role::Voter { .. } => (3, 0),
+    }
+}
+
 /// Which copy each node is, and of which original.
 pub fn ranks(alloc: Global, n: &FlatNet, h: &FlatNet, c: &Certificate) -> Result<Ranks, OutOfMemory>
     requires { Fits n.now.net h.now.net c.now }
+    ensures { IfOk result (λ ranks. ranks ≡ ranks_of h.now.net c.now) }
 {
-    let inputs = h.input_count();
     let mut ranks = Ranks::new(alloc);
     for g in 0..nodes_of(h) {
-        match c.role(NetId(inputs + g)) {
-            Role::Copy { node, copy } => ranks.push(copy.number(), node.0)?,
-            Role::Voter { .. } => ranks.push(3, 0)?,
-        }
+        let (copy, original) = rank(n, h, c, g);
+        ranks.push(copy, original)?;
     }
     Ok(ranks)
 }

@@ -1,6 +1,9 @@
 //! Which of two copies is taken first.
+ghost use Rattle.std.specs.Prelude.{◌≡◌, ◌++◌, ◌∷◌, [], OnOk};
+ghost use Rattle.recovery_depth.specs.Ranks.{is_before};
 
 use std::alloc::Global;
+use std::marker::Model;
 use tmr_base::OutOfMemory;
 
 /// For each vertex its copy's number and its original's number.
@@ -9,22 +12,36 @@ pub struct Ranks {
     ranks: Vec<(u32, u32)>,
 }
 
+impl Model for Ranks {
+    ghost use Rattle.std.specs.Prelude.{ℕ, List};
+
+    ghost Value = { List (ℕ × ℕ) };
+
+    ghost view = { λ r. r.ranks.items };
+}
+
 impl Ranks {
     /// No vertices.
-    pub fn new(alloc: Global) -> Ranks {
+    pub fn new(alloc: Global) -> Ranks
+        ensures { result ≡ [] }
+    {
         Ranks {
             ranks: Vec::new(alloc),
         }
     }
 
     /// One more vertex.
-    pub fn push(&mut self, copy: u32, original: u32) -> Result<(), OutOfMemory> {
+    pub fn push(&mut self, copy: u32, original: u32) -> Result<(), OutOfMemory>
+        ensures { OnOk result (self.new ≡ self.old ++ (copy, original) ∷ []) }
+    {
         self.ranks.push((copy, original))?;
         Ok(())
     }
 
     /// Vertex x is a copy of a lower number, or a copy of the same number and its original has a lower one.
-    pub fn is_before(&self, x: u32, y: u32) -> bool {
+    pub fn is_before(&self, x: u32, y: u32) -> bool
+        ensures { result ≡ is_before self.now x y }
+    {
         match (self.ranks.get(x as usize), self.ranks.get(y as usize)) {
             (Some(a), Some(b)) => a.0 < b.0 || (a.0 == b.0 && a.1 < b.1),
             _ => false,
