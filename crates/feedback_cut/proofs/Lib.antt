@@ -1,4 +1,5 @@
 pub mod RowLaws
+pub mod PackedLaws
 pub mod Places
 pub mod Decisions
 pub mod Keeping

@@ -1,8 +1,9 @@
 //! Cut pins.
-ghost use Rattle.std.specs.Prelude.{◌≡◌, ◌<◌, ◌++◌, ◌∷◌, [], ℕ, Bool, List, length, replicate, map, vec_items, slice_set, IfOk, OnOk};
+ghost use Rattle.std.specs.Prelude.{◌≡◌, ◌<◌, length, IfOk};
 ghost use Rattle.feedback_cut.specs.Rows.{row};
 ghost use Rattle.feedback_cut.specs.Cut.{is_cut, CutMeets};
 
+use crate::deciding::Decisions;
 use crate::inner::inner_reads;
 use crate::nodes::nodes_of;
 use crate::searching::search;
@@ -14,53 +15,23 @@ use tmr_base::{OutOfMemory, Parts};
 /// For each node and each of its pins, whether the pin is cut.
 #[derive(Drop)]
 pub struct CutPins {
-    rows: Vec<Vec<bool>>,
+    decisions: Decisions,
 }
 
 impl Model for CutPins {
-    ghost use Rattle.std.specs.Prelude.{Bool, List, map, vec_items};
+    ghost use Rattle.std.specs.Prelude.{Bool, List};
 
     ghost Value = { List (List Bool) };
 
-    ghost view = { λ c. map vec_items c.rows.items };
-}
-
-/// As many empty rows.
-fn empty_rows(alloc: Global, count: u32) -> Result<Vec<Vec<bool>>, OutOfMemory>
-    ensures { IfOk result (λ rows. map vec_items rows.items ≡ replicate count []) }
-{
-    let mut rows = Vec::new(alloc);
-    for made in 0..count {
-        let _made = made;
-        rows.push(Vec::new(alloc))?;
-    }
-    Ok(rows)
+    ghost view = { λ c. c.decisions.rows };
 }
 
 impl CutPins {
-    /// Nothing is decided of so many nodes.
-    pub(crate) fn empty(alloc: Global, count: u32) -> Result<CutPins, OutOfMemory>
-        ensures { IfOk result (λ cut. cut ≡ replicate count []) }
+    /// The cut that was decided.
+    pub(crate) fn new(decisions: Decisions) -> CutPins
+        ensures { result ≡ decisions.rows }
     {
-        let rows = empty_rows(alloc, count)?;
-        Ok(CutPins { rows })
-    }
-
-    /// The next pin of node x is decided.
-    pub(crate) fn decide(&mut self, x: u32, is_cut: bool) -> Result<(), OutOfMemory>
-        requires { x < length self.old }
-        ensures { OnOk result (self.new ≡ slice_set self.old x (row self.old x ++ is_cut ∷ [])) }
-    {
-        self.rows[x as usize].push(is_cut)?;
-        Ok(())
-    }
-
-    /// How many pins of node x are decided.
-    pub(crate) fn decided(&self, x: u32) -> usize
-        requires { x < length self.now }
-        ensures { result ≡ length (row self.now x) }
-    {
-        self.rows[x as usize].len()
+        CutPins { decisions }
     }
 
     /// Pin j of node i is cut.
@@ -69,7 +40,7 @@ impl CutPins {
         requires pin { j < length (row self.now i) }
         ensures { result ≡ is_cut self.now i j }
     {
-        self.rows[i as usize][j as usize]
+        self.decisions.bit(i, j)
     }
 }
 

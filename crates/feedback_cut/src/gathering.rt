@@ -3,7 +3,7 @@ ghost use Rattle.std.specs.Prelude.{◌≡◌, ◌≢◌, ◌<◌, ℕ, length, 
 ghost use Rattle.feedback_cut.specs.Rows.{row};
 ghost use Rattle.feedback_cut.specs.Gathering.{IsGathered};
 
-use crate::Graph;
+use crate::readers::Readers;
 use std::alloc::Global;
 use tmr_base::OutOfMemory;
 
@@ -20,7 +20,7 @@ pub(crate) fn number_of(numbers: &[u32], none: u32, x: u32) -> u32
 /// Gives a new number to the root and to all vertices that lead to it through vertices that have none.
 pub(crate) fn gather(
     alloc: Global,
-    readers: &Graph,
+    readers: &Readers,
     numbers: &mut Vec<u32>,
     none: u32,
     root: u32,

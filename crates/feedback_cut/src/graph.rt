@@ -1,36 +1,65 @@
 //! Which vertex reads which.
-ghost use Rattle.std.specs.Prelude.{◌≡◌, ◌<◌, ◌++◌, ◌∷◌, [], ℕ, List, length, replicate, map, vec_items, slice_set, IfOk, OnOk};
+ghost use Rattle.std.specs.Prelude.{◌≡◌, ◌<◌, ◌≤◌, ◌++◌, ◌∷◌, [], ℕ, List, length, map, replicate, IfOk, OnOk};
 ghost use Rattle.feedback_cut.specs.Rows.{row};
+ghost use Rattle.feedback_cut.specs.Packed.{span_in, emptied, ArePacked};
 
+use crate::deciding::Decisions;
+use crate::spans::Span;
 use std::alloc::Global;
 use std::marker::Model;
 use tmr_base::OutOfMemory;
 
 /// For each vertex, the numbers of the vertices that it reads, in order. A number past all vertices
-/// stands for something else that is read.
+/// stands for something else that is read. All rows lie side by side in one list.
 #[derive(Drop)]
 pub struct Graph {
-    rows: Vec<Vec<u32>>,
+    spans: Vec<Span>,
+    reads: Vec<u32>,
 }
 
 impl Model for Graph {
-    ghost use Rattle.std.specs.Prelude.{ℕ, List, map, vec_items};
+    ghost use Rattle.std.specs.Prelude.{ℕ, List, length, map};
 
     ghost Value = { List (List ℕ) };
 
-    ghost view = { λ g. map vec_items g.rows.items };
+    ghost use Rattle.feedback_cut.specs.Packed.{span_in, ArePacked};
+
+    ghost view = { λ g. map (span_in g.reads.items) g.spans.items };
+
+    ghost invariant = { λ g. ArePacked 0 g.spans.items (length g.reads.items) };
 }
 
-/// As many empty rows.
-fn empty_rows(alloc: Global, count: u32) -> Result<Vec<Vec<u32>>, OutOfMemory>
-    ensures { IfOk result (λ rows. map vec_items rows.items ≡ replicate count []) }
+/// The part of the list that stands there.
+fn part(reads: &[u32], span: Span) -> &[u32]
+    requires order { span.from ≤ span.to }
+    requires end { span.to ≤ length reads.now }
+    ensures { result.now ≡ span_in reads.now span }
 {
-    let mut rows = Vec::new(alloc);
-    for made in 0..count {
-        let _made = made;
-        rows.push(Vec::new(alloc))?;
+    &reads[span.from..span.to]
+}
+
+/// The row of vertex x.
+fn read_row<'a>(spans: &[Span], reads: &'a [u32], x: usize) -> &'a [u32]
+    requires packed { ArePacked 0 spans.now (length reads.now) }
+    requires within { x < length spans.now }
+    ensures { result.now ≡ row (map (span_in reads.now) spans.now) x }
+{
+    part(reads, spans[x])
+}
+
+/// As many empty rows in the places of these.
+fn empty_spans(alloc: Global, spans: &[Span]) -> Result<Vec<Span>, OutOfMemory>
+    ensures { IfOk result (λ empty. empty.items ≡ map emptied spans.now) }
+{
+    let mut empty = Vec::new(alloc);
+    for span in spans {
+        empty.push(Span {
+            from: span.from,
+            to: span.from,
+            limit: span.to,
+        })?;
     }
-    Ok(rows)
+    Ok(empty)
 }
 
 impl Graph {
@@ -39,32 +68,23 @@ impl Graph {
         ensures { result ≡ [] }
     {
         Graph {
-            rows: Vec::new(alloc),
+            spans: Vec::new(alloc),
+            reads: Vec::new(alloc),
         }
     }
 
-    /// So many vertices, which read nothing.
-    pub fn empty(alloc: Global, count: u32) -> Result<Graph, OutOfMemory>
-        ensures { IfOk result (λ graph. graph ≡ replicate count []) }
-    {
-        let rows = empty_rows(alloc, count)?;
-        Ok(Graph { rows })
-    }
-
-    /// Vertex x reads y too, behind what it reads.
-    pub fn add(&mut self, x: u32, y: u32) -> Result<(), OutOfMemory>
-        requires { x < length self.old }
-        ensures { OnOk result (self.new ≡ slice_set self.old x (row self.old x ++ y ∷ [])) }
-    {
-        self.rows[x as usize].push(y)?;
-        Ok(())
-    }
-
     /// One more vertex, which reads these.
-    pub fn push(&mut self, row: Vec<u32>) -> Result<(), OutOfMemory>
-        ensures { OnOk result (self.new ≡ self.old ++ row.items ∷ []) }
+    pub fn push(&mut self, row: &[u32]) -> Result<(), OutOfMemory>
+        ensures { OnOk result (self.new ≡ self.old ++ row.now ∷ []) }
     {
-        self.rows.push(row)?;
+        let from = self.reads.len();
+        self.reads.extend_from_slice(row)?;
+        let to = self.reads.len();
+        self.spans.push(Span {
+            from,
+            to,
+            limit: to,
+        })?;
         Ok(())
     }
 
@@ -73,6 +93,16 @@ impl Graph {
         requires { x < length self.now }
         ensures { result.now ≡ row self.now x }
     {
-        self.rows[x as usize].as_slice()
+        read_row(&self.spans, &self.reads, x as usize)
+    }
+
+    /// Nothing is decided of any read, and there is a place for each.
+    pub(crate) fn undecided(&self, alloc: Global) -> Result<Decisions, OutOfMemory>
+        ensures rows { IfOk result (λ d. d.rows ≡ replicate (length self.now) []) }
+        ensures room { IfOk result (λ d. d.room ≡ map length self.now) }
+    {
+        let spans = empty_spans(alloc, &self.spans)?;
+        let bits = vec![in alloc; false; self.reads.len()]?;
+        Ok(Decisions::new(spans, bits))
     }
 }

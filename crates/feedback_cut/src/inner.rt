@@ -1,5 +1,5 @@
 //! What each node reads inside its partition.
-ghost use Rattle.std.specs.Prelude.{◌≡◌, ◌<◌, ◌+◌, ◌-◌, ◌==◌, ℕ, length, map, take, IfOk, slice_index, if◌then◌else◌};
+ghost use Rattle.std.specs.Prelude.{◌≡◌, ◌<◌, ◌+◌, ◌-◌, ◌==◌, ℕ, length, map, take, IfOk, OnOk, slice_index, if◌then◌else◌};
 ghost use Rattle.std.specs.List.{range_with_len};
 ghost use Rattle.feedback_cut.specs.Inner.{node_pins, inner, inner_row, inner_rows};
 
@@ -27,19 +27,19 @@ fn inner_pin(n: &FlatNet, parts: &Parts, y: u32, j: u32) -> u32
     if parts.of(x) == parts.of(y) { x } else { past }
 }
 
-/// What the pins of node y read inside its partition.
-fn inner_pins(alloc: Global, n: &FlatNet, parts: &Parts, y: u32) -> Result<Vec<u32>, OutOfMemory>
+/// Puts into `row` what the pins of node y read inside its partition.
+fn inner_pins(n: &FlatNet, parts: &Parts, y: u32, row: &mut Vec<u32>) -> Result<(), OutOfMemory>
     requires node { y < length n.now.net.nodes }
     requires parts { length parts.now.of ≡ length n.now.net.nodes }
-    ensures { IfOk result (λ row. row.items ≡ inner_row n.now.net parts.now y) }
+    ensures { OnOk result (row.new.items ≡ inner_row n.now.net parts.now y) }
 {
     let _nodes = nodes_of(n);
     let node = NetId(n.input_count() + y);
-    let mut row = Vec::new(alloc);
+    row.clear();
     for j in 0..n.pin_count(node) {
         row.push(inner_pin(n, parts, y, j))?;
     }
-    Ok(row)
+    Ok(())
 }
 
 /// What each node reads inside its partition.
@@ -48,8 +48,10 @@ pub fn inner_reads(alloc: Global, n: &FlatNet, parts: &Parts) -> Result<Graph, O
     ensures { IfOk result (λ graph. graph ≡ inner_rows n.now.net parts.now) }
 {
     let mut graph = Graph::new(alloc);
+    let mut row = Vec::new(alloc);
     for y in 0..nodes_of(n) {
-        graph.push(inner_pins(alloc, n, parts, y)?)?;
+        inner_pins(n, parts, y, &mut row)?;
+        graph.push(&row)?;
     }
     Ok(graph)
 }

@@ -7,6 +7,7 @@
 #![tactic(auto)]
 
 mod cutting;
+mod deciding;
 mod gathering;
 mod graph;
 mod inner;
@@ -14,8 +15,10 @@ mod loop_groups;
 mod loops;
 mod nodes;
 mod numbering;
+mod readers;
 mod reversing;
 mod searching;
+mod spans;
 #[cfg(test)]
 mod tests;
 

@@ -4,13 +4,14 @@ ghost use Rattle.feedback_cut.specs.Rows.{row};
 ghost use Rattle.feedback_cut.specs.Readers.{ListsTo, AreReaders};
 
 use crate::Graph;
+use crate::readers::Readers;
 use std::alloc::Global;
 use tmr_base::OutOfMemory;
 
 /// Notes that y reads what stands at a place of its row.
 fn note_read(
     graph: &Graph,
-    readers: &mut Graph,
+    readers: &mut Readers,
     y: u32,
     place: usize,
     count: u32,
@@ -30,7 +31,7 @@ fn note_read(
 }
 
 /// Notes what y reads.
-fn note_reads(graph: &Graph, readers: &mut Graph, y: u32, count: u32) -> Result<(), OutOfMemory>
+fn note_reads(graph: &Graph, readers: &mut Readers, y: u32, count: u32) -> Result<(), OutOfMemory>
     requires count { count ≡ length graph.now }
     requires vertex { y < count }
     requires listed { ListsTo graph.now y 0 readers.old }
@@ -43,11 +44,11 @@ fn note_reads(graph: &Graph, readers: &mut Graph, y: u32, count: u32) -> Result<
 }
 
 /// For each vertex the vertices that read it.
-pub(crate) fn readers_of(alloc: Global, graph: &Graph, count: u32) -> Result<Graph, OutOfMemory>
+pub(crate) fn readers_of(alloc: Global, graph: &Graph, count: u32) -> Result<Readers, OutOfMemory>
     requires { count ≡ length graph.now }
     ensures { IfOk result (λ readers. AreReaders graph.now readers) }
 {
-    let mut readers = Graph::empty(alloc, count)?;
+    let mut readers = Readers::empty(alloc, count)?;
     for y in 0..count {
         note_reads(graph, &mut readers, y, count)?;
     }

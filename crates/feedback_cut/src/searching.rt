@@ -2,10 +2,11 @@
 //!
 //! A vertex is open while it is on the path, and done once all that it reads is done. What leads to an
 //! open vertex is cut. The order is that in which vertices are done.
-ghost use Rattle.std.specs.Prelude.{◌≡◌, ◌+◌, ◌-◌, ◌<◌, ◌≤◌, ◌++◌, [], ◌∷◌, ℕ, Bool, false, length, slice_set, slice_index, slice_index_or, replicate, OnOk, IfOk, IfSome, IsNone};
+ghost use Rattle.std.specs.Prelude.{◌≡◌, ◌+◌, ◌-◌, ◌<◌, ◌≤◌, ◌++◌, [], ◌∷◌, ℕ, Bool, false, length, map, slice_set, slice_index, slice_index_or, replicate, OnOk, IfOk, IfSome, IsNone};
 ghost use Rattle.feedback_cut.specs.Rows.{row, IsLast};
 ghost use Rattle.feedback_cut.specs.Search.{IsSearched};
 
+use crate::deciding::Decisions;
 use crate::{CutPins, Graph};
 use std::alloc::Global;
 use tmr_base::OutOfMemory;
@@ -23,7 +24,7 @@ enum Mark {
 #[derive(Drop)]
 struct Walk {
     marks: Vec<Mark>,
-    cut: CutPins,
+    cut: Decisions,
     path: Vec<u32>,
     order: Vec<u32>,
 }
@@ -70,26 +71,30 @@ fn open(walk: &mut Walk, x: u32) -> Result<(), OutOfMemory>
 }
 
 /// The next read of x is decided.
-fn decide(walk: &mut Walk, x: u32, is_cut: bool) -> Result<(), OutOfMemory>
-    requires { x < length walk.old.cut }
-    ensures marks { OnOk result (walk.new.marks.items ≡ walk.old.marks.items) }
-    ensures cut { OnOk result (walk.new.cut ≡ slice_set walk.old.cut x (row walk.old.cut x ++ is_cut ∷ [])) }
-    ensures path { OnOk result (walk.new.path.items ≡ walk.old.path.items) }
-    ensures order { OnOk result (walk.new.order.items ≡ walk.old.order.items) }
+fn decide(walk: &mut Walk, x: u32, is_cut: bool)
+    requires vertex { x < length walk.old.cut.rows }
+    requires room { length (row walk.old.cut.rows x) < slice_index walk.old.cut.room x }
+    ensures marks { walk.new.marks.items ≡ walk.old.marks.items }
+    ensures cut { walk.new.cut.rows ≡ slice_set walk.old.cut.rows x (row walk.old.cut.rows x ++ is_cut ∷ []) }
+    ensures room { walk.new.cut.room ≡ walk.old.cut.room }
+    ensures path { walk.new.path.items ≡ walk.old.path.items }
+    ensures order { walk.new.order.items ≡ walk.old.order.items }
 {
-    walk.cut.decide(x, is_cut)
+    walk.cut.decide(x, is_cut);
 }
 
 /// The next read of x is kept, and y, which it names, goes on the path.
 fn descend(walk: &mut Walk, x: u32, y: u32) -> Result<(), OutOfMemory>
-    requires reader { x < length walk.old.cut }
+    requires reader { x < length walk.old.cut.rows }
+    requires room { length (row walk.old.cut.rows x) < slice_index walk.old.cut.room x }
     requires read { y < length walk.old.marks.items }
     ensures marks { OnOk result (walk.new.marks.items ≡ slice_set walk.old.marks.items y Mark.Open) }
-    ensures cut { OnOk result (walk.new.cut ≡ slice_set walk.old.cut x (row walk.old.cut x ++ false ∷ [])) }
+    ensures cut { OnOk result (walk.new.cut.rows ≡ slice_set walk.old.cut.rows x (row walk.old.cut.rows x ++ false ∷ [])) }
+    ensures room { OnOk result (walk.new.cut.room ≡ walk.old.cut.room) }
     ensures path { OnOk result (walk.new.path.items ≡ walk.old.path.items ++ y ∷ []) }
     ensures order { OnOk result (walk.new.order.items ≡ walk.old.order.items) }
 {
-    decide(walk, x, false)?;
+    decide(walk, x, false);
     open(walk, y)
 }
 
@@ -109,11 +114,11 @@ fn finish(walk: &mut Walk, x: u32) -> Result<(), OutOfMemory>
 }
 
 /// What x reads next, if something is left.
-fn next_read(graph: &Graph, cut: &CutPins, x: u32) -> Option<u32>
+fn next_read(graph: &Graph, cut: &Decisions, x: u32) -> Option<u32>
     requires vertex { x < length graph.now }
-    requires within { x < length cut.now }
-    ensures none { IsNone result → length (row graph.now x) ≤ length (row cut.now x) }
-    ensures some { IfSome result (λ y. (length (row cut.now x) < length (row graph.now x)) × (slice_index (row graph.now x) (length (row cut.now x)) ≡ y)) }
+    requires within { x < length cut.now.rows }
+    ensures none { IsNone result → length (row graph.now x) ≤ length (row cut.now.rows x) }
+    ensures some { IfSome result (λ y. (length (row cut.now.rows x) < length (row graph.now x)) × (slice_index (row graph.now x) (length (row cut.now.rows x)) ≡ y)) }
 {
     let row = graph.row(x);
     let next = cut.decided(x);
@@ -125,15 +130,17 @@ fn next_read(graph: &Graph, cut: &CutPins, x: u32) -> Option<u32>
 }
 
 /// The search before its first move.
-fn begin(alloc: Global, count: u32) -> Result<Walk, OutOfMemory>
+fn begin(alloc: Global, graph: &Graph, count: u32) -> Result<Walk, OutOfMemory>
+    requires { count ≡ length graph.now }
     ensures marks { IfOk result (λ walk. walk.marks.items ≡ replicate count Mark.New) }
-    ensures cut { IfOk result (λ walk. walk.cut ≡ replicate count []) }
+    ensures cut { IfOk result (λ walk. walk.cut.rows ≡ replicate count []) }
+    ensures room { IfOk result (λ walk. walk.cut.room ≡ map length graph.now) }
     ensures path { IfOk result (λ walk. walk.path.items ≡ []) }
     ensures order { IfOk result (λ walk. walk.order.items ≡ []) }
 {
     Ok(Walk {
         marks: vec![in alloc; Mark::New; count as usize]?,
-        cut: CutPins::empty(alloc, count)?,
+        cut: graph.undecided(alloc)?,
         path: Vec::new(alloc),
         order: Vec::new(alloc),
     })
@@ -144,14 +151,14 @@ pub fn search(alloc: Global, graph: &Graph, count: u32) -> Result<Searched, OutO
     requires { count ≡ length graph.now }
     ensures { IfOk result (λ s. IsSearched graph.now s.order.items s.cut) }
 {
-    let mut walk = begin(alloc, count)?;
+    let mut walk = begin(alloc, graph, count)?;
     let mut root = 0;
     'moves: loop {
         let Some(top) = top_of(&walk.path) else {
             if root == count {
                 return Ok(Searched {
                     order: walk.order,
-                    cut: walk.cut,
+                    cut: CutPins::new(walk.cut),
                 });
             }
             match mark_of(&walk.marks, root) {
@@ -166,8 +173,8 @@ pub fn search(alloc: Global, graph: &Graph, count: u32) -> Result<Searched, OutO
         };
         match mark_of(&walk.marks, y) {
             Mark::New => descend(&mut walk, top, y)?,
-            Mark::Done => decide(&mut walk, top, false)?,
-            Mark::Open => decide(&mut walk, top, true)?,
+            Mark::Done => decide(&mut walk, top, false),
+            Mark::Open => decide(&mut walk, top, true),
         }
     }
 }

@@ -5,18 +5,18 @@ mod made;
 
 use crate::{components, cut};
 use flat_net::FlatNet;
-use made::design_of;
+use made::{Made, design, design_of};
 use std::alloc::Global;
 use std::test::Fail;
 use tmr_base::{NetId, Parts};
 
 /// Nodes in two partitions, of which each digit names one.
 fn parts_of(alloc: Global, text: &str) -> Result<Parts, Fail>
-    ensures { IfOk result (λ parts. length parts.of ≤ 1000) }
+    ensures { IfOk result (λ parts. length parts.of ≤ 1000000) }
 {
     let mut of = Vec::new(alloc);
     for byte in text.as_bytes() {
-        if of.len() < 1000 {
+        if of.len() < 1_000_000 {
             of.push(u32::from(*byte) % 2)?;
         }
     }
@@ -45,34 +45,101 @@ fn described(alloc: Global, n: &FlatNet, parts: &Parts) -> Result<String, Fail>
     Ok(text)
 }
 
-/// The components and the cut of the design of these words, in these partitions.
-fn found(alloc: Global, nodes: &str, partitions: &str) -> Result<String, Fail> {
-    let n = design_of(alloc, nodes)?;
+/// The components and the cut of a design, in these partitions.
+fn found_in(alloc: Global, n: &FlatNet, partitions: &str) -> Result<String, Fail> {
     let parts = parts_of(alloc, partitions)?;
     if parts.len() != n.node_count() {
         return Ok(String::new(alloc));
     }
-    described(alloc, &n, &parts)
+    described(alloc, n, &parts)
+}
+
+/// The components and the cut of the design of these words, in these partitions.
+fn found(alloc: Global, nodes: &str, partitions: &str) -> Result<String, Fail> {
+    let n = design_of(alloc, nodes)?;
+    found_in(alloc, &n, partitions)
+}
+
+/// So many registers, of which each reads the one before, and the first the last.
+fn ring(alloc: Global, count: u32) -> Result<FlatNet, Fail> {
+    let mut nodes = Vec::new(alloc);
+    let mut before = count.saturating_sub(1);
+    for i in 0..count {
+        nodes.push(Made {
+            is_register: true,
+            pins: vec![in alloc; before; 1]?,
+        })?;
+        before = i;
+    }
+    design(alloc, nodes.as_slice())
+}
+
+/// The first partition for each of so many nodes.
+fn one_partition(alloc: Global, count: u32) -> Result<String, Fail> {
+    let mut text = String::new(alloc);
+    for i in 0..count {
+        let _i = i;
+        text.push('0')?;
+    }
+    Ok(text)
 }
 
 #[test]
-fn small_loops(rt: HostRuntime) -> Result<(), Fail> {
+fn loops_of_two(rt: HostRuntime) -> Result<(), Fail> {
     let alloc = rt.alloc();
     assert_eq!(rt; found(alloc, "t1 r0", "00")?.as_str(), "0*- 0*x ");
-    assert_eq!(rt;
-        found(alloc, "ti r0 r1 r2", "0000")?.as_str(),
-        "0- 1- 2- 3- "
-    );
-    assert_eq!(rt; found(alloc, "r0 r0", "00")?.as_str(), "0*x 1- ");
-    assert_eq!(rt;
-        found(alloc, "t t t t4i r3", "00000")?.as_str(),
-        "0 1 2 3*-- 3*x "
-    );
-    assert_eq!(rt; found(alloc, "r1 t00", "00")?.as_str(), "0*- 0*xx ");
     assert_eq!(rt; found(alloc, "t1 r0", "01")?.as_str(), "0- 1- ");
+    Ok(())
+}
+
+#[test]
+fn registers_in_a_row(rt: HostRuntime) -> Result<(), Fail> {
+    let found = found(rt.alloc(), "ti r0 r1 r2", "0000")?;
+    assert_eq!(rt; found.as_str(), "0- 1- 2- 3- ");
+    Ok(())
+}
+
+#[test]
+fn a_register_that_reads_itself(rt: HostRuntime) -> Result<(), Fail> {
+    let found = found(rt.alloc(), "r0 r0", "00")?;
+    assert_eq!(rt; found.as_str(), "0*x 1- ");
+    Ok(())
+}
+
+#[test]
+fn a_register_behind_constants(rt: HostRuntime) -> Result<(), Fail> {
+    let found = found(rt.alloc(), "t t t t4i r3", "00000")?;
+    assert_eq!(rt; found.as_str(), "0 1 2 3*-- 3*x ");
+    Ok(())
+}
+
+#[test]
+fn two_pins_that_read_one_net(rt: HostRuntime) -> Result<(), Fail> {
+    let alloc = rt.alloc();
+    assert_eq!(rt; found(alloc, "r1 t00", "00")?.as_str(), "0*- 0*xx ");
+    assert_eq!(rt; found(alloc, "t11 r0", "00")?.as_str(), "0*-- 0*x ");
     assert_eq!(rt;
-        found(alloc, "r2 r3 r0 r1", "0101")?.as_str(),
-        "0*- 1*- 0*x 1*x "
+        found(alloc, "t1212 r0 r0", "000")?.as_str(),
+        "0*---- 0*x 0*x "
     );
+    Ok(())
+}
+
+#[test]
+fn scattered_partitions(rt: HostRuntime) -> Result<(), Fail> {
+    let found = found(rt.alloc(), "r2 r3 r0 r1", "0101")?;
+    assert_eq!(rt; found.as_str(), "0*- 1*- 0*x 1*x ");
+    Ok(())
+}
+
+#[test]
+fn a_long_ring(rt: HostRuntime) -> Result<(), Fail> {
+    let alloc = rt.alloc();
+    let n = ring(alloc, 200_000)?;
+    let text = found_in(alloc, &n, &one_partition(alloc, 200_000)?)?;
+    assert!(rt; text.starts_with("0*- 0*x 0*- 0*- "));
+    assert_eq!(rt; text.len(), 800_000);
+    assert_eq!(rt; text.split("0*").count(), 200_001);
+    assert_eq!(rt; text.split('x').count(), 2);
     Ok(())
 }

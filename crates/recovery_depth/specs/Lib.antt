@@ -4,6 +4,7 @@ pub mod Uncut
 pub mod Depths
 pub mod Hardened
 pub mod Chains
+pub mod Ranks
 pub mod Before
 pub mod Tops
 pub mod Least

@@ -1,7 +1,8 @@
 //! The last register before each vertex, on a walk with the most registers.
-ghost use Rattle.std.specs.Prelude.{◌≡◌, ◌≢◌, ◌<◌, ◌≤◌, ◌+◌, ◌-◌, ◌⊎◌, ℕ, length, slice_index, slice_index_or, IfOk};
+ghost use Rattle.std.specs.Prelude.{◌≡◌, ◌≢◌, ◌<◌, ◌≤◌, ◌+◌, ◌-◌, ◌⊎◌, ℕ, length, slice_index, slice_index_or, IfOk, if◌then◌else◌};
 ghost use Rattle.feedback_cut.specs.Rows.{row};
 ghost use Rattle.recovery_depth.specs.Walks.{IsOrdered, IsReachIn};
+ghost use Rattle.recovery_depth.specs.Ranks.{is_before};
 ghost use Rattle.recovery_depth.specs.Before.{last_of, number_at, AreBefore, IsChosen, IsOneOf};
 
 use crate::ranks::Ranks;
@@ -22,7 +23,8 @@ pub fn last_of(is_register: &[bool], before: &[u32], x: u32) -> u32
 
 /// The one that ranks first, if one is there; `none` stands for none.
 pub fn first_of(ranks: &Ranks, none: u32, best: u32, other: u32) -> u32
-    ensures { IsOneOf none best other result }
+    ensures one { IsOneOf none best other result }
+    ensures first { best ≢ none → other ≢ none → result ≡ (if is_before ranks.now other best then other else best) }
 {
     if other == none {
         return best;

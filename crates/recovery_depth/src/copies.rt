@@ -1,9 +1,10 @@
 //! What the copies of a hardened design read.
-ghost use Rattle.std.specs.Prelude.{◌≡◌, ◌≤◌, ◌<◌, ◌+◌, All, length, map, take, IfOk, slice_index};
+ghost use Rattle.std.specs.Prelude.{◌≡◌, ◌≤◌, ◌<◌, ◌+◌, All, length, map, take, IfOk, OnOk, slice_index};
 ghost use Rattle.std.specs.List.{range_with_len};
 ghost use Rattle.flat_net.specs.Net.{net_count, node_of, pins_at};
 ghost use Rattle.certificate.specs.Cert.{Fits};
 ghost use Rattle.recovery_depth.specs.Hardened.{node_at, copied, copied_row, copied_rows, is_register_copy};
+ghost use Rattle.recovery_depth.specs.Ranks.{rank_at, ranks_of};
 ghost use Rattle.recovery_depth.specs.Tops.{place_at, places_of, original_at, originals_of};
 
 use crate::ranks::Ranks;
@@ -31,43 +32,46 @@ fn copied(n: &FlatNet, h: &FlatNet, c: &Certificate, f: NetId) -> u32
     }
 }
 
-/// The copies that the pins of node g read.
+/// Puts into `row` the copies that the pins of node g read.
 fn copied_pins(
-    alloc: Global,
     n: &FlatNet,
     h: &FlatNet,
     c: &Certificate,
     g: u32,
-) -> Result<Vec<u32>, OutOfMemory>
+    row: &mut Vec<u32>,
+) -> Result<(), OutOfMemory>
     requires fits { Fits n.now.net h.now.net c.now }
     requires node { g < length h.now.net.nodes }
-    ensures { IfOk result (λ row. row.items ≡ map (copied h.now.net c.now) (pins_at (node_at h.now.net g))) }
+    ensures { OnOk result (row.new.items ≡ map (copied h.now.net c.now) (pins_at (node_at h.now.net g))) }
 {
     let _nodes = nodes_of(h);
     let node = NetId(h.input_count() + g);
-    let mut row = Vec::new(alloc);
+    row.clear();
     for j in 0..h.pin_count(node) {
         row.push(copied(n, h, c, h.pin(node, j)))?;
     }
-    Ok(row)
+    Ok(())
 }
 
-/// The copies that node g reads, where it is a copy.
+/// Puts into `row` the copies that node g reads, where it is a copy.
 fn copied_reads(
-    alloc: Global,
     n: &FlatNet,
     h: &FlatNet,
     c: &Certificate,
     g: u32,
-) -> Result<Vec<u32>, OutOfMemory>
+    row: &mut Vec<u32>,
+) -> Result<(), OutOfMemory>
     requires fits { Fits n.now.net h.now.net c.now }
     requires node { g < length h.now.net.nodes }
-    ensures { IfOk result (λ row. row.items ≡ copied_row h.now.net c.now g) }
+    ensures { OnOk result (row.new.items ≡ copied_row h.now.net c.now g) }
 {
     let _nodes = nodes_of(h);
     match c.role(NetId(h.input_count() + g)) {
-        Role::Copy { .. } => copied_pins(alloc, n, h, c, g),
-        Role::Voter { .. } => Ok(Vec::new(alloc)),
+        Role::Copy { .. } => copied_pins(n, h, c, g, row),
+        Role::Voter { .. } => {
+            row.clear();
+            Ok(())
+        }
     }
 }
 
@@ -82,8 +86,10 @@ pub fn copy_reads(
     ensures { IfOk result (λ graph. graph ≡ copied_rows h.now.net c.now) }
 {
     let mut graph = Graph::new(alloc);
+    let mut row = Vec::new(alloc);
     for g in 0..nodes_of(h) {
-        graph.push(copied_reads(alloc, n, h, c, g)?)?;
+        copied_reads(n, h, c, g, &mut row)?;
+        graph.push(&row)?;
     }
     Ok(graph)
 }
@@ -196,17 +202,28 @@ pub fn originals(
     Ok(originals)
 }
 
+/// Which copy node g is, and of which original; a voter is taken after each copy.
+fn rank(n: &FlatNet, h: &FlatNet, c: &Certificate, g: u32) -> (u32, u32)
+    requires fits { Fits n.now.net h.now.net c.now }
+    requires node { g < length h.now.net.nodes }
+    ensures { result ≡ rank_at h.now.net c.now g }
+{
+    let _nodes = nodes_of(h);
+    match c.role(NetId(h.input_count() + g)) {
+        Role::Copy { node, copy } => (copy.number(), node.0),
+        Role::Voter { .. } => (3, 0),
+    }
+}
+
 /// Which copy each node is, and of which original.
 pub fn ranks(alloc: Global, n: &FlatNet, h: &FlatNet, c: &Certificate) -> Result<Ranks, OutOfMemory>
     requires { Fits n.now.net h.now.net c.now }
+    ensures { IfOk result (λ ranks. ranks ≡ ranks_of h.now.net c.now) }
 {
-    let inputs = h.input_count();
     let mut ranks = Ranks::new(alloc);
     for g in 0..nodes_of(h) {
-        match c.role(NetId(inputs + g)) {
-            Role::Copy { node, copy } => ranks.push(copy.number(), node.0)?,
-            Role::Voter { .. } => ranks.push(3, 0)?,
-        }
+        let (copy, original) = rank(n, h, c, g);
+        ranks.push(copy, original)?;
     }
     Ok(ranks)
 }

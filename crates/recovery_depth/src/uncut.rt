@@ -1,5 +1,5 @@
 //! What each node reads inside its partition through pins that are not cut.
-ghost use Rattle.std.specs.Prelude.{◌≡◌, ◌<◌, ℕ, length, map, IfOk, slice_index};
+ghost use Rattle.std.specs.Prelude.{◌≡◌, ◌<◌, ℕ, length, map, IfOk, OnOk, slice_index};
 ghost use Rattle.std.specs.List.{range_with_len};
 ghost use Rattle.feedback_cut.specs.Rows.{row};
 ghost use Rattle.recovery_depth.specs.Uncut.{uncut_entry, uncut_row, uncut_rows};
@@ -23,26 +23,26 @@ fn uncut_read(graph: &Graph, cut: &CutPins, y: u32, place: u32, count: u32) -> u
     graph.row(y)[place as usize]
 }
 
-/// What y reads, where a place that is cut stands for a number past all vertices.
+/// Puts into `reads` what y reads, where a place that is cut stands for a number past all vertices.
 fn uncut_reads(
-    alloc: Global,
     graph: &Graph,
     cut: &CutPins,
     y: u32,
     count: u32,
-) -> Result<Vec<u32>, OutOfMemory>
+    reads: &mut Vec<u32>,
+) -> Result<(), OutOfMemory>
     requires vertex { y < length graph.now }
     requires vertices { length cut.now ≡ length graph.now }
     requires places { length (row cut.now y) ≡ length (row graph.now y) }
     requires few { length (row graph.now y) < 4294967296 }
     requires count { count ≡ length graph.now }
-    ensures { IfOk result (λ reads. reads.items ≡ uncut_row graph.now cut.now y) }
+    ensures { OnOk result (reads.new.items ≡ uncut_row graph.now cut.now y) }
 {
-    let mut reads = Vec::new(alloc);
+    reads.clear();
     for place in 0..graph.row(y).len() as u32 {
         reads.push(uncut_read(graph, cut, y, place, count))?;
     }
-    Ok(reads)
+    Ok(())
 }
 
 /// What each vertex reads, where a place that is cut stands for a number past all vertices.
@@ -54,8 +54,10 @@ pub fn uncut(alloc: Global, graph: &Graph, cut: &CutPins, count: u32) -> Result<
     ensures { IfOk result (λ rest. rest ≡ uncut_rows graph.now cut.now) }
 {
     let mut rest = Graph::new(alloc);
+    let mut reads = Vec::new(alloc);
     for y in 0..count {
-        rest.push(uncut_reads(alloc, graph, cut, y, count)?)?;
+        uncut_reads(graph, cut, y, count, &mut reads)?;
+        rest.push(&reads)?;
     }
     Ok(rest)
 }

@@ -10,6 +10,8 @@ mod program;
 mod reasons;
 mod status;
 mod taker;
+#[cfg(test)]
+mod tests;
 mod texts;
 mod validation;
 

@@ -6,6 +6,6 @@ use Rattle.feedback_cut.proofs.inner.inner_reads.Goals as goal
 
 pub loop-y-preserved : goal.loop-y-preserved
 loop-y-preserved c =
-    c.in_ok-push.ensures ∙ (ap (λ g. g ++ c.in_ok-inner_pins.field-0.items ∷ []) c.loop-y.invariant
-    ∙ (ap (λ r. map (inner_row c.args.n.now.net c.args.parts.now) (range_with_len 0 c.loop-y.y) ++ r ∷ []) c.in_ok-inner_pins.ensures
+    c.in_ok-push.ensures ∙ (ap (λ g. g ++ c.deref.result.now ∷ []) c.loop-y.invariant
+    ∙ (ap (λ r. map (inner_row c.args.n.now.net c.args.parts.now) (range_with_len 0 c.loop-y.y) ++ r ∷ []) (c.deref.ensures.value ∙ c.in_ok-inner_pins.ensures)
     ∙ sym (map-range_with_len_more (inner_row c.args.n.now.net c.args.parts.now) 0 c.loop-y.y c.loop-y.y (omega arith))))

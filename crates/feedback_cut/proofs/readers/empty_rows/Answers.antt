@@ -1,6 +1,6 @@
 use Rattle.std.proofs.Common.{vec_items}
 use Rattle.feedback_cut.proofs.RowLaws.{row_added}
-use Rattle.feedback_cut.proofs.graph.empty_rows.Goals as goal
+use Rattle.feedback_cut.proofs.readers.empty_rows.Goals as goal
 
 pub loop-made-preserved : goal.loop-made-preserved
 loop-made-preserved c =

@@ -1,0 +1,7 @@
+use Rattle.std.proofs.Common.{◌≡◌, map}
+use Rattle.std.specs.List.{range_with_len}
+use Rattle.recovery_depth.specs.Ranks.{rank_at}
+use Rattle.recovery_depth.proofs.copies.ranks.Given as goal
+
+abbrev pub invariant-loop-g : goal.invariant-loop-g
+invariant-loop-g l = l.ranks ≡ map (rank_at l.h.net l.c) (range_with_len 0 l.g)
