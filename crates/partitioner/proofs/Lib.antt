@@ -17,3 +17,5 @@ pub mod RefineLaws
 pub mod NotingLaws
 pub mod PinLaws
 pub mod SourceLaws
+pub mod PackLaws
+pub mod WideLaws

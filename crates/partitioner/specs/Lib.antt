@@ -1,5 +1,6 @@
 pub mod Below
 pub mod Reading
+pub mod Packing
 pub mod Noting
 pub mod Meeting
 pub mod Cost

@@ -10,6 +10,7 @@ mod losses;
 mod minimal;
 mod moving;
 mod nodes;
+mod packed;
 mod pairs;
 mod partitioning;
 mod placing;
@@ -20,6 +21,7 @@ mod rows;
 #[cfg(test)]
 mod tests;
 mod tracking;
+mod wide;
 
 pub use minimal::is_minimal;
 pub use pairs::cost;

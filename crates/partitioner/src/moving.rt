@@ -59,7 +59,7 @@ pub fn put_node(n: &FlatNet, p: &mut Partitioning, i: u32, b: u32) -> Result<(),
     ensures parts { OnOk result (parts_of p.new ≡ put (parts_of p.old) i b) }
 {
     let a = part_of(n, p, i);
-    shift_counts(&mut p.counts, p.sources.row(i), a, b)?;
+    shift_counts(&mut p.counts, p.wide.row(i), a, b)?;
     shift_held(&mut p.held, a, b);
     p.of[i as usize] = b;
     Ok(())

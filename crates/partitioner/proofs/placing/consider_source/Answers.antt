@@ -1,4 +1,4 @@
-use Rattle.std.proofs.Common.{◌≡◌, ℕ, subst}
+use Rattle.std.proofs.Common.{ℕ, subst}
 use Rattle.partitioner.specs.Leading.{LeadsOpen, start_of}
 use Rattle.partitioner.proofs.placing.consider_source.Goals as goal
 

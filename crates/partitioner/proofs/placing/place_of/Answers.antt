@@ -1,7 +1,7 @@
-use Rattle.std.proofs.Common.{◌≡◌, ◌+◌, ◌∙◌, ℕ, true, List, get_or, sym, ap, subst, IsPermutation, refl, rules, arith}
+use Rattle.std.proofs.Common.{◌≡◌, ◌+◌, ◌∙◌, ℕ, true, List, sym, ap, subst, IsPermutation, refl, rules, arith}
 use Rattle.partitioner.specs.Reading.{other_sources}
 use Rattle.partitioner.specs.declared.placing.Lead.{Lead}
-use Rattle.partitioner.specs.Leading.{IsLead, LeadsOpen, LeadsOrLoses, is_settled, start_of}
+use Rattle.partitioner.specs.Leading.{IsLead, LeadsOrLoses, is_settled, start_of}
 use Rattle.partitioner.proofs.LossLaws.{sources_below}
 use Rattle.partitioner.proofs.PlaceLaws.{settled_at_once, settled_place, exhausted_place, readers_tried, source_tried, missed_loses, all_place}
 use Rattle.partitioner.proofs.placing.place_of.Goals as goal
