@@ -19,3 +19,5 @@ pub mod PinLaws
 pub mod SourceLaws
 pub mod PackLaws
 pub mod WideLaws
+pub mod SetLaws
+pub mod SpotLaws

@@ -11,3 +11,5 @@ pub mod Refining
 pub mod Tracking
 pub mod Leading
 pub mod Moving
+pub mod Sets
+pub mod Spotting

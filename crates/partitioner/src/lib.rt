@@ -18,6 +18,8 @@ mod plain_cut;
 mod reading;
 mod refining;
 mod rows;
+mod sets;
+mod spots;
 #[cfg(test)]
 mod tests;
 mod tracking;
