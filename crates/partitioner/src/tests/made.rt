@@ -113,21 +113,21 @@ pub fn made_nodes(alloc: Global, seed: u64) -> Result<Vec<Made>, Fail> {
     Ok(nodes)
 }
 
-/// Some of 36 nodes, of which each reads one before it, or node 0, or node 1, or several of these: so
-/// more than 16 nodes read node 0 and node 1.
+/// Tables of which most read node 0 and node 1, so that more than 16 nodes read each of the two, and some
+/// one node before.
 pub fn wide_nodes(alloc: Global, seed: u64) -> Result<Vec<Made>, Fail> {
     let mut state = seed.wrapping_mul(0x9E37_79B9_7F4A_7C15);
     let mut nodes = Vec::new(alloc);
-    for i in 0..36u32 {
+    for i in 0..26u32 {
         let mut pins = Vec::new(alloc);
         let pick = next_number(&mut state) % 8;
-        if 1 < i && pick < 5 {
+        if 1 < i && pick != 7 {
             pins.push(0)?;
         }
-        if 1 < i && 2 < pick {
+        if 1 < i && pick != 0 {
             pins.push(1)?;
         }
-        if 1 < i && pick % 2 == 0 {
+        if 1 < i && pick < 4 {
             pins.push(i / 2)?;
         }
         nodes.push(Made {
