@@ -17,3 +17,7 @@ pub mod RefineLaws
 pub mod NotingLaws
 pub mod PinLaws
 pub mod SourceLaws
+pub mod PackLaws
+pub mod WideLaws
+pub mod SetLaws
+pub mod SpotLaws

@@ -1,19 +1,19 @@
 -- One node's readings moved from one partition to another.
-use Rattle.std.proofs.Common.{◌≡◌, ℕ, ◌+◌, ◌*◌, ◌-◌, ◌<◌, ◌≤◌, ◌⊎◌, inl, inr, Bool, true, false, cond, eqb, not, ◌&&◌, ◌||◌, List, [], ◌∷◌, length, refl, sym, ◌∙◌, ap, subst, arith, get_or, set, take, IsPermutation}
-use Rattle.std.specs.List.{list_any, count_by, All}
+use Rattle.std.proofs.Common.{◌≡◌, ℕ, ◌+◌, ◌*◌, ◌-◌, ◌<◌, ◌≤◌, ◌⊎◌, inl, inr, Bool, true, false, cond, eqb, not, ◌&&◌, ◌||◌, List, [], ◌∷◌, length, refl, sym, ◌∙◌, ap, subst, arith, get_or, set, take}
+use Rattle.std.specs.List.{count_by, All}
 use Rattle.std.proofs.lemmas.Bool.{cases_eq, cases_Bool, eq-eqb, ne_eqb, ltb-true}
-use Rattle.std.proofs.lemmas.List.{get_or-set_same, get_or-set_other, take_all}
+use Rattle.std.proofs.lemmas.List.{get_or-set_same, get_or-set_other}
 use Rattle.std.proofs.lemmas.List.Folds.{list_any_more}
 use Rattle.std.proofs.lemmas.List.Sums.{sum_by_more, sum_by-take-le, sum_by-cons, count_by-le-length}
-use Rattle.std.proofs.lemmas.List.Sorted.{sum_by-IsPermutation, list_any-IsPermutation}
 use Rattle.flat_net.specs.Net.{Net}
 use Rattle.partitioner.specs.Below.{one_if}
-use Rattle.partitioner.specs.Reading.{reads_other, other_readers, other_sources, marked_by_row}
+use Rattle.partitioner.specs.Reading.{reads_other, other_readers, other_sources, is_wide, wide_sources, marked_by_row}
 use Rattle.partitioner.specs.Moving.{Shifts}
 use Rattle.partitioner.specs.Tracking.{reader_count}
-use Rattle.partitioner.proofs.Numbers.{any_passing, eqb_turned}
-use Rattle.partitioner.proofs.BelowLaws.{count_same}
+use Rattle.partitioner.proofs.Numbers.{eqb_turned}
+use Rattle.partitioner.proofs.BelowLaws.{count_same, one_if_le}
 use Rattle.partitioner.proofs.TrackLaws.{related_few}
+use Rattle.partitioner.proofs.WideLaws.{wide_below, count_filtered, wide_marked}
 use Rattle.partitioner.proofs.PutLaws.{count_passing}
 use Rattle.partitioner.proofs.CountLaws.{any_by_count, count_split, count_single, once_among}
 
@@ -102,27 +102,19 @@ shift_more old now new row j a b l apart first some before is = λ z q. at z q (
 pub shift_none : (old : ℕ → ℕ → ℕ) (row : List ℕ) (a b : ℕ) → Shifts old old (marked_by_row row 0) a b
 shift_none old row a b = λ z q. refl
 
--- each source stands once in its row
-pub sources_once : (n : Net) (i : ℕ) (row : List ℕ) → IsPermutation (other_sources n i) row → All (λ x. x < length n.nodes) row → All (λ x. count_by (λ y. eqb y x) row ≤ 1) row
-sources_once n i row perm below = λ k d l. once (get_or row k d) (below k d l)
-  where
-    most : (c : Bool) → one_if c ≤ 1
-    most true = omega arith
-    most false = omega arith
+-- a node stands once among those that i reads
+source_once : (n : Net) (i x : ℕ) → x < length n.nodes → count_by (λ y. eqb y x) (other_sources n i) ≤ 1
+source_once n i x l =
+    let listed = count_passing (λ y. reads_other n i y) (λ y. eqb y x) (length n.nodes) in
+    let turned = count_same (length n.nodes) (λ y. reads_other n i y && eqb y x) (λ y. reads_other n i y && eqb x y) (λ y h. ap (λ (c : Bool). reads_other n i y && c) (eqb_turned y x)) in
+    let single = count_single (length n.nodes) x (λ y. reads_other n i y) l in
+    omega (arith, listed, turned, single, one_if_le (reads_other n i x))
 
-    once : (x : ℕ) → x < length n.nodes → count_by (λ y. eqb y x) row ≤ 1
-    once x l =
-        let moved = sum_by-IsPermutation (λ y. one_if (eqb y x)) (other_sources n i) row perm in
-        let listed = count_passing (λ y. reads_other n i y) (λ y. eqb y x) (length n.nodes) in
-        let turned = count_same (length n.nodes) (λ y. reads_other n i y && eqb y x) (λ y. reads_other n i y && eqb x y) (λ y h. ap (λ (c : Bool). reads_other n i y && c) (eqb_turned y x)) in
-        let single = count_single (length n.nodes) x (λ y. reads_other n i y) l in
-        omega (arith, moved, listed, turned, single, most (reads_other n i x))
-
--- the marked nodes are those that i reads
-pub marked_sources : (n : Net) (i : ℕ) (row : List ℕ) (x : ℕ) → IsPermutation (other_sources n i) row → x < length n.nodes → marked_by_row row (length row) x ≡ reads_other n i x
-marked_sources n i row x perm l =
-    ap (list_any (λ m. eqb m x)) (take_all (length row) row (omega arith))
-    ∙ (sym (list_any-IsPermutation (λ m. eqb m x) (other_sources n i) row perm) ∙ any_passing (λ y. reads_other n i y) (length n.nodes) x l)
+-- each wide source stands once in its row
+pub wide_once : (n : Net) (i : ℕ) → All (λ x. count_by (λ y. eqb y x) (wide_sources n i) ≤ 1) (wide_sources n i)
+wide_once n i = λ k d l.
+    let x = get_or (wide_sources n i) k d in
+    omega (arith, count_filtered (λ y. eqb y x) (is_wide n) (other_sources n i), source_once n i x (wide_below n i k d l))
 
 -- how the counts of readers change
 same_count : (f g : ℕ → Bool) (ys : List ℕ) → ((y : ℕ) → f y ≡ g y) → count_by f ys ≡ count_by g ys
@@ -155,12 +147,12 @@ reader_count_moved n of i b x q l l' =
     at y (inr ne) = ap (λ (z : ℕ). not (eqb i y) && eqb z q) (get_or-set_other of i y b 0 (λ e. ne (sym e)))
 
 -- so counts that shift stay right
-pub counts_moved : (n : Net) (of row : List ℕ) (i b x q : ℕ) (old new : ℕ → ℕ → ℕ) → i < length of → i < length n.nodes → x < length n.nodes → IsPermutation (other_sources n i) row → old x q ≡ reader_count n of x q → Shifts old new (marked_by_row row (length row)) (get_or of i 0) b → new x q ≡ reader_count n (set of i b) x q
-counts_moved n of row i b x q old new l l' m perm was shifts =
-    let marked = marked_sources n i row x perm m in
+pub counts_moved : (n : Net) (of : List ℕ) (i b x q : ℕ) (old new : ℕ → ℕ → ℕ) → i < length of → i < length n.nodes → x < length n.nodes → is_wide n x ≡ true → old x q ≡ reader_count n of x q → Shifts old new (marked_by_row (wide_sources n i) (length (wide_sources n i))) (get_or of i 0) b → new x q ≡ reader_count n (set of i b) x q
+counts_moved n of i b x q old new l l' m wide was shifts =
+    let marked = wide_marked n i x m wide in
     let moved = reader_count_moved n of i b x q l l' in
-    let left : one_if (marked_by_row row (length row) x && eqb (get_or of i 0) q) ≡ one_if (reads_other n i x && eqb (get_or of i 0) q) = ap (λ (c : Bool). one_if (c && eqb (get_or of i 0) q)) marked in
-    let right : one_if (marked_by_row row (length row) x && eqb b q) ≡ one_if (reads_other n i x && eqb b q) = ap (λ (c : Bool). one_if (c && eqb b q)) marked in
+    let left : one_if (marked_by_row (wide_sources n i) (length (wide_sources n i)) x && eqb (get_or of i 0) q) ≡ one_if (reads_other n i x && eqb (get_or of i 0) q) = ap (λ (c : Bool). one_if (c && eqb (get_or of i 0) q)) marked in
+    let right : one_if (marked_by_row (wide_sources n i) (length (wide_sources n i)) x && eqb b q) ≡ one_if (reads_other n i x && eqb b q) = ap (λ (c : Bool). one_if (c && eqb b q)) marked in
     omega (arith, shifts x q, moved, left, right, was)
 
 pub source_counted : (n : Net) (of : List ℕ) (i x : ℕ) → i < length n.nodes → reads_other n i x ≡ true → 0 < reader_count n of x (get_or of i 0)

@@ -1,5 +1,6 @@
 pub mod Below
 pub mod Reading
+pub mod Packing
 pub mod Noting
 pub mod Meeting
 pub mod Cost
@@ -10,3 +11,5 @@ pub mod Refining
 pub mod Tracking
 pub mod Leading
 pub mod Moving
+pub mod Sets
+pub mod Spotting

@@ -1,5 +1,5 @@
 -- Which nodes read which. Nodes are counted from 0, in their order.
-use Rattle.std.specs.Prelude.{ℕ, ◌+◌, ◌==◌, Bool, not, ◌&&◌, List, length, filter, take}
+use Rattle.std.specs.Prelude.{ℕ, ◌+◌, ◌==◌, Bool, not, ◌&&◌, List, length, filter, take, nat_lt}
 use Rattle.std.specs.List.{range_with_len, list_any}
 use Rattle.flat_net.specs.Net.{Net, node_of, pins_at}
 
@@ -34,3 +34,11 @@ marked_by_pins n y j x = not (x == y) && list_any (λ pin. pin == length n.input
 -- the first j numbers of a row name z
 abbrev pub marked_by_row : List ℕ → ℕ → ℕ → Bool
 marked_by_row row j z = list_any (λ m. m == z) (take j row)
+
+-- more than 16 other nodes read node x
+abbrev pub is_wide : Net → ℕ → Bool
+is_wide n x = nat_lt 16 (length (other_readers n x))
+
+-- the wide nodes that node y reads, other than itself
+abbrev pub wide_sources : Net → ℕ → List ℕ
+wide_sources n y = filter (is_wide n) (other_sources n y)

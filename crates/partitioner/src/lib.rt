@@ -10,6 +10,7 @@ mod losses;
 mod minimal;
 mod moving;
 mod nodes;
+mod packed;
 mod pairs;
 mod partitioning;
 mod placing;
@@ -17,9 +18,12 @@ mod plain_cut;
 mod reading;
 mod refining;
 mod rows;
+mod sets;
+mod spots;
 #[cfg(test)]
 mod tests;
 mod tracking;
+mod wide;
 
 pub use minimal::is_minimal;
 pub use pairs::cost;

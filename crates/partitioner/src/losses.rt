@@ -1,14 +1,42 @@
 //! What a node costs in each partition.
-ghost use Rattle.std.specs.Prelude.{◌≡◌, ◌<◌, ◌≤◌, ◌==◌, ℕ, Bool, true, length, slice_index};
+ghost use Rattle.std.specs.Prelude.{◌≡◌, ◌<◌, ◌≤◌, ◌==◌, ℕ, Bool, true, length, slice_index, All, count_by};
 ghost use Rattle.flat_net.specs.Net.{Net};
 ghost use Rattle.partitioner.specs.Below.{one_if};
 ghost use Rattle.partitioner.specs.Reading.{reads_other};
 ghost use Rattle.partitioner.specs.Loss.{is_fresh, is_wanted, loss};
-ghost use Rattle.partitioner.specs.Tracking.{Tracks};
+ghost use Rattle.partitioner.specs.Tracking.{Tracks, reader_count};
 
 use crate::counting::count_at;
 use crate::partitioning::Partitioning;
+use crate::wide::is_wide;
 use flat_net::FlatNet;
+
+/// How many nodes of a row stand in partition q.
+fn count_in(of: &[u32], row: &[u32], q: u32) -> u32
+    requires row { All (λ y. y < length of.now) row.now }
+    requires few { length row.now < 4294967295 }
+    ensures { result ≡ count_by (λ y. slice_index of.now y == q) row.now }
+{
+    let mut count = 0;
+    for y in row {
+        count += u32::from(of[*y as usize] == q);
+    }
+    count
+}
+
+/// How many other nodes read node x from partition q.
+fn readers_in(n: &FlatNet, p: &Partitioning, x: u32, q: u32) -> u32
+    requires tracks { Tracks n.now.net p.now }
+    requires node { x < length n.now.net.nodes }
+    requires partition { q < p.now.count }
+    ensures { result ≡ reader_count n.now.net p.now.of.items x q }
+{
+    if is_wide(n, &p.readers, x) {
+        count_at(&p.counts, x, q)
+    } else {
+        count_in(p.of.as_slice(), p.readers.row(x), q)
+    }
+}
 
 /// Partition q holds neither node x nor, beside i, a node that reads it. `mine` is 1 where i stands in q.
 #[tactic(auto, using(crate::proofs::CountLaws::fresh_by_count))]
@@ -21,7 +49,7 @@ fn is_fresh(n: &FlatNet, p: &Partitioning, i: u32, x: u32, q: u32, mine: u32) ->
     requires mine { mine ≡ one_if (slice_index p.now.of.items i == q) }
     ensures { result ≡ is_fresh n.now.net p.now.of.items i x q }
 {
-    p.of[x as usize] != q && count_at(&p.counts, x, q) == mine
+    p.of[x as usize] != q && readers_in(n, p, x, q) == mine
 }
 
 /// Some other node reads node i from partition q.
@@ -32,7 +60,7 @@ fn is_wanted(n: &FlatNet, p: &Partitioning, i: u32, q: u32) -> bool
     requires partition { q < p.now.count }
     ensures { result ≡ is_wanted n.now.net p.now.of.items i q }
 {
-    0 < count_at(&p.counts, i, q)
+    0 < readers_in(n, p, i, q)
 }
 
 /// The loss of node i in partition q, or where it is above `most`, some number above `most`.

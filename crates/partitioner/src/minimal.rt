@@ -3,25 +3,28 @@ ghost use Rattle.std.specs.Prelude.{◌≡◌, ◌<◌, ◌↔◌, ℕ, length, 
 ghost use Rattle.partitioner.specs.Sizes.{KeepsSize};
 ghost use Rattle.partitioner.specs.Refining.{IsMinimal};
 ghost use Rattle.partitioner.specs.Tracking.{Tracks, parts_of};
+ghost use Rattle.partitioner.specs.Spotting.{AreSpots};
 
 use crate::nodes::nodes_of;
 use crate::partitioning::Partitioning;
 use crate::placing::{part_of, place_of, some_room};
+use crate::spots::{Spots, shut_full, spots_of};
 use crate::tracking::track;
 use flat_net::FlatNet;
 use std::alloc::Global;
 use tmr_base::{OutOfMemory, Parts};
 
 /// Each node goes to where it stands.
-fn all_stay(n: &FlatNet, p: &Partitioning, size: u32) -> bool
-    requires { Tracks n.now.net p.now }
+fn all_stay(n: &FlatNet, p: &Partitioning, spots: &Spots, size: u32) -> bool
+    requires tracks { Tracks n.now.net p.now }
+    requires spots { AreSpots n.now.net size (parts_of p.now) spots.now }
     ensures { IsTrue result ↔ IsMinimal n.now.net size (parts_of p.now) }
 {
     if !some_room(n, p, size) {
         return true;
     }
     for i in 0..nodes_of(n) {
-        if place_of(n, p, size, i) != part_of(n, p, i) {
+        if place_of(n, p, spots, size, i) != part_of(n, p, i) {
             return false;
         }
     }
@@ -35,5 +38,7 @@ pub fn is_minimal(alloc: Global, n: &FlatNet, parts: &Parts, size: u32) -> Resul
     ensures { IfOk result (λ minimal. IsTrue minimal ↔ IsMinimal n.now.net size parts.now) }
 {
     let p = track(alloc, n, parts)?;
-    Ok(all_stay(n, &p, size))
+    let mut spots = spots_of(alloc, n, &p)?;
+    shut_full(n, &p, &mut spots, size);
+    Ok(all_stay(n, &p, &spots, size))
 }

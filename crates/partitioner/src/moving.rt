@@ -6,10 +6,13 @@ ghost use Rattle.partitioner.specs.Counting.{count_at};
 ghost use Rattle.partitioner.specs.Refining.{put};
 ghost use Rattle.partitioner.specs.Tracking.{Tracks, parts_of};
 ghost use Rattle.partitioner.specs.Moving.{Shifts};
+ghost use Rattle.partitioner.specs.Spotting.{AreSpots};
 
 use crate::counting::{count_at, set_count};
+use crate::nodes::nodes_of;
 use crate::partitioning::Partitioning;
-use crate::placing::part_of;
+use crate::placing::{has_room, part_of};
+use crate::spots::{Spots, note_spots, open_spots, shut_spots};
 use flat_net::FlatNet;
 use std::collections::HashMap;
 use tmr_base::OutOfMemory;
@@ -50,7 +53,7 @@ fn shift_held(held: &mut Vec<u32>, a: u32, b: u32)
 }
 
 /// Puts node i into partition b, which it is not in.
-pub fn put_node(n: &FlatNet, p: &mut Partitioning, i: u32, b: u32) -> Result<(), OutOfMemory>
+fn put_node(n: &FlatNet, p: &mut Partitioning, i: u32, b: u32) -> Result<(), OutOfMemory>
     requires tracks { Tracks n.now.net p.old }
     requires node { i < length n.now.net.nodes }
     requires partition { b < p.old.count }
@@ -59,8 +62,37 @@ pub fn put_node(n: &FlatNet, p: &mut Partitioning, i: u32, b: u32) -> Result<(),
     ensures parts { OnOk result (parts_of p.new ≡ put (parts_of p.old) i b) }
 {
     let a = part_of(n, p, i);
-    shift_counts(&mut p.counts, p.sources.row(i), a, b)?;
+    shift_counts(&mut p.counts, p.wide.row(i), a, b)?;
     shift_held(&mut p.held, a, b);
     p.of[i as usize] = b;
+    Ok(())
+}
+
+/// Moves node i to partition b, which it is not in.
+pub fn move_to(
+    n: &FlatNet,
+    p: &mut Partitioning,
+    spots: &mut Spots,
+    size: u32,
+    i: u32,
+    b: u32,
+) -> Result<(), OutOfMemory>
+    requires tracks { Tracks n.now.net p.old }
+    requires spots { AreSpots n.now.net size (parts_of p.old) spots.old }
+    requires node { i < length n.now.net.nodes }
+    requires partition { b < p.old.count }
+    requires apart { slice_index p.old.of.items i ≢ b }
+    ensures tracks { OnOk result (Tracks n.now.net p.new) }
+    ensures spots { OnOk result (AreSpots n.now.net size (parts_of p.new) spots.new) }
+    ensures parts { OnOk result (parts_of p.new ≡ put (parts_of p.old) i b) }
+{
+    let nodes = nodes_of(n);
+    let a = part_of(n, p, i);
+    let was_full = !has_room(n, p, size, a);
+    put_node(n, p, i, b)?;
+    note_spots(spots, p.wide.row(i), b)?;
+    open_spots(&mut spots.free, &spots.nets, a, nodes, was_full)?;
+    let is_full = !has_room(n, p, size, b);
+    shut_spots(&mut spots.free, &spots.nets, b, nodes, is_full);
     Ok(())
 }

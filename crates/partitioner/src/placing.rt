@@ -1,12 +1,16 @@
 //! Where a node goes.
 ghost use Rattle.std.specs.Prelude.{◌≡◌, ◌<◌, ◌≤◌, ◌==◌, ℕ, Bool, true, false, length, slice_index};
 ghost use Rattle.flat_net.specs.Net.{Net};
+ghost use Rattle.partitioner.specs.Reading.{is_wide};
 ghost use Rattle.partitioner.specs.Refining.{has_room, place};
 ghost use Rattle.partitioner.specs.Tracking.{Tracks, parts_of};
+ghost use Rattle.partitioner.specs.Spotting.{AreSpots};
 ghost use Rattle.partitioner.specs.Leading.{HasNoRoom, IsLead, Leads, LeadsOpen, LeadsOrLoses, LeadsReaders, is_better, is_settled, start_of};
 
 use crate::losses::loss_up_to;
 use crate::partitioning::Partitioning;
+use crate::spots::Spots;
+use crate::wide::is_wide;
 use flat_net::FlatNet;
 
 /// The best partition so far for a node, and the node's loss there.
@@ -27,7 +31,7 @@ pub fn part_of(n: &FlatNet, p: &Partitioning, x: u32) -> u32
 }
 
 /// Partition q has room for a node that is not in it.
-fn has_room(n: &FlatNet, p: &Partitioning, size: u32, q: u32) -> bool
+pub fn has_room(n: &FlatNet, p: &Partitioning, size: u32, q: u32) -> bool
     requires tracks { Tracks n.now.net p.now }
     requires partition { q < p.now.count }
     ensures { result ≡ has_room size (parts_of p.now) q }
@@ -104,21 +108,36 @@ pub fn some_room(n: &FlatNet, p: &Partitioning, size: u32) -> bool
     false
 }
 
-/// The lead after all partitions are tried for node i in ascending order, of which those not met yet
-/// lose at least `tried`.
-fn consider_all(n: &FlatNet, p: &Partitioning, size: u32, i: u32, lead: Lead, tried: u64) -> Lead
+/// The lead after the partitions with room in which wide node x is read are tried for node i, in
+/// ascending order, until none that is left can take the lead: those not met yet lose at least `tried`.
+fn consider_spots(
+    n: &FlatNet,
+    p: &Partitioning,
+    spots: &Spots,
+    size: u32,
+    i: u32,
+    lead: Lead,
+    x: u32,
+    tried: u64,
+) -> Lead
     requires tracks { Tracks n.now.net p.now }
+    requires spots { AreSpots n.now.net size (parts_of p.now) spots.now }
     requires node { i < length n.now.net.nodes }
+    requires read { x < length n.now.net.nodes }
+    requires wide { is_wide n.now.net x ≡ true }
     requires lead { IsLead n.now.net size p.now i lead }
     requires least { (c : ℕ) → c < p.now.count → has_room size (parts_of p.now) c ≡ true → LeadsOrLoses n.now.net p.now i lead.place tried c }
     ensures lead { IsLead n.now.net size p.now i result }
-    ensures all { (c : ℕ) → c < p.now.count → LeadsOpen n.now.net size p.now i result.place c }
+    ensures kept { (c : ℕ) → Leads n.now.net p.now i lead.place c → Leads n.now.net p.now i result.place c }
+    ensures tried { LeadsReaders n.now.net size p.now i result.place x }
 {
     let mut lead = lead;
-    for q in 0..p.count {
-        lead = consider(n, p, size, i, lead, q);
-        if lead.loss <= tried && lead.place <= q {
-            return lead;
+    for q in spots.free.set(x).iter() {
+        if *q < p.count {
+            lead = consider(n, p, size, i, lead, *q);
+            if lead.loss <= tried && lead.place <= *q {
+                return lead;
+            }
         }
     }
     lead
@@ -135,28 +154,44 @@ fn consider_own_readers(n: &FlatNet, p: &Partitioning, size: u32, i: u32, lead: 
     consider_readers(n, p, size, i, lead, i)
 }
 
-/// The lead after the partitions of node x and of its other readers are tried for node i.
-fn consider_source(n: &FlatNet, p: &Partitioning, size: u32, i: u32, lead: Lead, x: u32) -> Lead
+/// The lead after the partitions of node x and of its other readers are tried for node i. Those not met
+/// yet lose at least `tried`.
+fn consider_source(
+    n: &FlatNet,
+    p: &Partitioning,
+    spots: &Spots,
+    size: u32,
+    i: u32,
+    lead: Lead,
+    x: u32,
+    tried: u64,
+) -> Lead
     requires tracks { Tracks n.now.net p.now }
+    requires spots { AreSpots n.now.net size (parts_of p.now) spots.now }
     requires node { i < length n.now.net.nodes }
     requires read { x < length n.now.net.nodes }
     requires lead { IsLead n.now.net size p.now i lead }
+    requires least { (c : ℕ) → c < p.now.count → has_room size (parts_of p.now) c ≡ true → LeadsOrLoses n.now.net p.now i lead.place tried c }
     ensures lead { IsLead n.now.net size p.now i result }
     ensures kept { (c : ℕ) → Leads n.now.net p.now i lead.place c → Leads n.now.net p.now i result.place c }
     ensures own { LeadsOpen n.now.net size p.now i result.place (start_of p.now x) }
     ensures tried { LeadsReaders n.now.net size p.now i result.place x }
 {
     let lead = consider(n, p, size, i, lead, part_of(n, p, x));
-    consider_readers(n, p, size, i, lead, x)
+    if is_wide(n, &p.readers, x) {
+        consider_spots(n, p, spots, size, i, lead, x, tried)
+    } else {
+        consider_readers(n, p, size, i, lead, x)
+    }
 }
 
 /// The partition that node i goes to, which is its own where no move lowers the cost.
 ///
-/// A partition that was met by none of so many rows of readers loses at least as many pairs, so few rows
-/// need be tried. A row that is about as long as there are partitions gives way to all of them in
-/// ascending order, which mostly ends at one of the first.
-pub fn place_of(n: &FlatNet, p: &Partitioning, size: u32, i: u32) -> u32
+/// A partition that was met by none of so many nodes that i reads loses at least as many pairs, so few
+/// of them need be tried.
+pub fn place_of(n: &FlatNet, p: &Partitioning, spots: &Spots, size: u32, i: u32) -> u32
     requires tracks { Tracks n.now.net p.now }
+    requires spots { AreSpots n.now.net size (parts_of p.now) spots.now }
     requires node { i < length n.now.net.nodes }
     ensures { result ≡ place n.now.net size (parts_of p.now) i }
 {
@@ -174,10 +209,7 @@ pub fn place_of(n: &FlatNet, p: &Partitioning, size: u32, i: u32) -> u32
         if is_settled(lead, start, tried) {
             return lead.place;
         }
-        if p.readers.row(*x).len() > p.count as usize / 4 {
-            return consider_all(n, p, size, i, lead, tried).place;
-        }
-        lead = consider_source(n, p, size, i, lead, *x);
+        lead = consider_source(n, p, spots, size, i, lead, *x, tried);
         tried += 1;
     }
     lead.place

@@ -6,6 +6,7 @@ ghost use Rattle.partitioner.specs.Noting.{ends_in, noted, Lists, ListsMarked};
 ghost use Rattle.partitioner.specs.Reading.{reads_other, is_source, marked_by_pins};
 
 use crate::nodes::nodes_of;
+use crate::packed::{Packed, packed_rows};
 use crate::rows::Rows;
 use flat_net::FlatNet;
 use std::alloc::Global;
@@ -80,8 +81,17 @@ pub fn readers_of(alloc: Global, n: &FlatNet) -> Result<Rows, OutOfMemory>
     Ok(rows)
 }
 
+/// The same, packed.
+pub fn packed_readers_of(alloc: Global, n: &FlatNet) -> Result<Packed, OutOfMemory>
+    ensures { IfOk result (λ rows. Lists (reads_other n.now.net) (length n.now.net.nodes) (length n.now.net.nodes) rows) }
+{
+    let rows = readers_of(alloc, n)?;
+    let packed = packed_rows(alloc, &rows, nodes_of(n))?;
+    Ok(packed)
+}
+
 /// Notes node x in the rows of the nodes of `n` that read it.
-fn note_readers(n: &FlatNet, readers: &Rows, rows: &mut Rows, x: u32) -> Result<(), OutOfMemory>
+fn note_readers(n: &FlatNet, readers: &Packed, rows: &mut Rows, x: u32) -> Result<(), OutOfMemory>
     requires node { x < length n.now.net.nodes }
     requires readers { Lists (reads_other n.now.net) (length n.now.net.nodes) (length n.now.net.nodes) readers.now }
     requires listed { Lists (is_source n.now.net) x (length n.now.net.nodes) rows.old }
@@ -95,7 +105,7 @@ fn note_readers(n: &FlatNet, readers: &Rows, rows: &mut Rows, x: u32) -> Result<
 }
 
 /// For each node the other nodes that it reads, in ascending order, from the nodes that read each.
-pub fn sources_of(alloc: Global, n: &FlatNet, readers: &Rows) -> Result<Rows, OutOfMemory>
+pub fn sources_of(alloc: Global, n: &FlatNet, readers: &Packed) -> Result<Rows, OutOfMemory>
     requires { Lists (reads_other n.now.net) (length n.now.net.nodes) (length n.now.net.nodes) readers.now }
     ensures { IfOk result (λ rows. Lists (is_source n.now.net) (length n.now.net.nodes) (length n.now.net.nodes) rows) }
 {

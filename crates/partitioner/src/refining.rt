@@ -5,36 +5,53 @@ ghost use Rattle.partitioner.specs.Cost.{cost};
 ghost use Rattle.partitioner.specs.Sizes.{KeepsSize};
 ghost use Rattle.partitioner.specs.Refining.{move, pass, refined};
 ghost use Rattle.partitioner.specs.Tracking.{Tracks, parts_of};
+ghost use Rattle.partitioner.specs.Spotting.{AreSpots};
 
-use crate::moving::put_node;
+use crate::moving::move_to;
 use crate::nodes::nodes_of;
 use crate::partitioning::Partitioning;
 use crate::placing::{part_of, place_of, some_room};
+use crate::spots::{Spots, shut_full, spots_of};
 use crate::tracking::track;
 use flat_net::FlatNet;
 use std::alloc::Global;
 use tmr_base::{OutOfMemory, Parts};
 
 /// Moves node i to where it goes. Says whether it moved.
-fn move_node(n: &FlatNet, p: &mut Partitioning, size: u32, i: u32) -> Result<bool, OutOfMemory>
+fn move_node(
+    n: &FlatNet,
+    p: &mut Partitioning,
+    spots: &mut Spots,
+    size: u32,
+    i: u32,
+) -> Result<bool, OutOfMemory>
     requires tracks { Tracks n.now.net p.old }
+    requires spots { AreSpots n.now.net size (parts_of p.old) spots.old }
     requires node { i < length n.now.net.nodes }
     ensures tracks { OnOk result (Tracks n.now.net p.new) }
+    ensures spots { OnOk result (AreSpots n.now.net size (parts_of p.new) spots.new) }
     ensures parts { OnOk result (parts_of p.new ≡ move n.now.net size (parts_of p.old) i) }
     ensures still { IfOk result (λ moved. moved ≡ false → parts_of p.new ≡ parts_of p.old) }
 {
-    let place = place_of(n, p, size, i);
+    let place = place_of(n, p, spots, size, i);
     if place == part_of(n, p, i) {
         return Ok(false);
     }
-    put_node(n, p, i, place)?;
+    move_to(n, p, spots, size, i, place)?;
     Ok(true)
 }
 
 /// One pass over all nodes. Says whether a node moved.
-fn pass_once(n: &FlatNet, p: &mut Partitioning, size: u32) -> Result<bool, OutOfMemory>
-    requires { Tracks n.now.net p.old }
+fn pass_once(
+    n: &FlatNet,
+    p: &mut Partitioning,
+    spots: &mut Spots,
+    size: u32,
+) -> Result<bool, OutOfMemory>
+    requires tracks { Tracks n.now.net p.old }
+    requires spots { AreSpots n.now.net size (parts_of p.old) spots.old }
     ensures tracks { OnOk result (Tracks n.now.net p.new) }
+    ensures spots { OnOk result (AreSpots n.now.net size (parts_of p.new) spots.new) }
     ensures parts { OnOk result (parts_of p.new ≡ pass n.now.net size (parts_of p.old)) }
     ensures still { IfOk result (λ moved. moved ≡ false → parts_of p.new ≡ parts_of p.old) }
 {
@@ -43,7 +60,7 @@ fn pass_once(n: &FlatNet, p: &mut Partitioning, size: u32) -> Result<bool, OutOf
     }
     let mut moved = false;
     for i in 0..nodes_of(n) {
-        if move_node(n, p, size, i)? {
+        if move_node(n, p, spots, size, i)? {
             moved = true;
         }
     }
@@ -51,14 +68,22 @@ fn pass_once(n: &FlatNet, p: &mut Partitioning, size: u32) -> Result<bool, OutOf
 }
 
 /// So many passes, ended after a pass without moves.
-fn pass_often(n: &FlatNet, p: &mut Partitioning, size: u32, passes: u32) -> Result<(), OutOfMemory>
-    requires { Tracks n.now.net p.old }
+fn pass_often(
+    n: &FlatNet,
+    p: &mut Partitioning,
+    spots: &mut Spots,
+    size: u32,
+    passes: u32,
+) -> Result<(), OutOfMemory>
+    requires tracks { Tracks n.now.net p.old }
+    requires spots { AreSpots n.now.net size (parts_of p.old) spots.old }
     ensures tracks { OnOk result (Tracks n.now.net p.new) }
+    ensures spots { OnOk result (AreSpots n.now.net size (parts_of p.new) spots.new) }
     ensures parts { OnOk result (parts_of p.new ≡ refined n.now.net size (parts_of p.old) passes) }
 {
     let mut left = passes;
     while left > 0 {
-        if !pass_once(n, p, size)? {
+        if !pass_once(n, p, spots, size)? {
             return Ok(());
         }
         left -= 1;
@@ -78,7 +103,9 @@ fn refined_parts(
     ensures { IfOk result (λ after. after ≡ refined n.now.net size parts.now passes) }
 {
     let mut p = track(alloc, n, parts)?;
-    pass_often(n, &mut p, size, passes)?;
+    let mut spots = spots_of(alloc, n, &p)?;
+    shut_full(n, &p, &mut spots, size);
+    pass_often(n, &mut p, &mut spots, size, passes)?;
     let Partitioning { count, of, .. } = p;
     Ok(Parts::make(count, of))
 }

@@ -1,5 +1,5 @@
 //! A list of numbers for each node.
-ghost use Rattle.std.specs.Prelude.{◌≡◌, ◌<◌, ◌++◌, ◌∷◌, [], ℕ, List, length, replicate, map, vec_items, slice_index_or, slice_set, IfOk, OnOk, IsPermutation, ◌≤◌};
+ghost use Rattle.std.specs.Prelude.{◌≡◌, ◌<◌, ◌++◌, ◌∷◌, [], ℕ, List, length, replicate, map, vec_items, slice_index_or, slice_set, IfOk, OnOk};
 
 use std::alloc::Global;
 use std::marker::Model;
@@ -24,9 +24,10 @@ fn empty_rows(alloc: Global, count: u32) -> Result<Vec<Vec<u32>>, OutOfMemory>
     ensures { IfOk result (λ rows. map vec_items rows.items ≡ replicate count []) }
 {
     let mut rows = Vec::new(alloc);
-    for made in 0..count {
-        let _made = made;
+    let mut left = count;
+    while left > 0 {
         rows.push(Vec::new(alloc))?;
+        left -= 1;
     }
     Ok(rows)
 }
@@ -56,54 +57,4 @@ impl Rows {
         self.rows[x as usize].push(y)?;
         Ok(())
     }
-
-    /// No rows.
-    fn none(alloc: Global) -> Rows
-        ensures { result ≡ [] }
-    {
-        Rows {
-            rows: Vec::new(alloc),
-        }
-    }
-
-    /// Puts one more row behind the others.
-    fn push_row(&mut self, row: Vec<u32>) -> Result<(), OutOfMemory>
-        ensures { OnOk result (self.new ≡ self.old ++ row.items ∷ []) }
-    {
-        self.rows.push(row)?;
-        Ok(())
-    }
-
-    /// How long each row is.
-    pub fn lengths(&self, alloc: Global, count: u32) -> Result<Vec<u32>, OutOfMemory>
-        requires { count ≤ length self.now }
-    {
-        let mut lengths = Vec::new(alloc);
-        for x in 0..count {
-            lengths.push(u32::try_from(self.row(x).len()).unwrap_or(u32::MAX))?;
-        }
-        Ok(lengths)
-    }
-
-    /// The same rows, each in ascending order of the weights of its numbers.
-    pub fn sorted(&self, alloc: Global, count: u32, weights: &[u32]) -> Result<Rows, OutOfMemory>
-        requires { count ≡ length self.now }
-        ensures long { IfOk result (λ rows. length rows ≡ count) }
-        ensures each { IfOk result (λ rows. (x : ℕ) → x < count → IsPermutation (slice_index_or self.now x []) (slice_index_or rows x [])) }
-    {
-        let mut sorted = Rows::none(alloc);
-        for x in 0..count {
-            sorted.push_row(by_weight(alloc, self.row(x), weights)?)?;
-        }
-        Ok(sorted)
-    }
-}
-
-/// The numbers of a row in ascending order of their weights.
-fn by_weight(alloc: Global, row: &[u32], weights: &[u32]) -> Result<Vec<u32>, OutOfMemory>
-    ensures { IfOk result (λ sorted. IsPermutation row.now sorted.items) }
-{
-    let mut sorted = row.to_vec(alloc)?;
-    sorted.sort_unstable_by_key(|x| weights.get(*x as usize).copied().unwrap_or(0));
-    Ok(sorted)
 }

@@ -7,7 +7,7 @@ mod slow;
 
 use crate::{cost, is_minimal, plain, refine};
 use flat_net::FlatNet;
-use made::{INPUT, Made, design, made_nodes};
+use made::{INPUT, Made, design, made_nodes, wide_nodes};
 use slow::{slow_cost, slow_is_minimal, slow_plain, slow_refined};
 use std::alloc::Global;
 use std::process::Abort;
@@ -289,6 +289,18 @@ fn larger_partitions(rt: HostRuntime) -> Result<(), Fail> {
         }
         for size in [4, 5, 6, 64] {
             compare(&rt, alloc, nodes.as_slice(), size, 8)?;
+        }
+    }
+    Ok(())
+}
+
+#[test]
+fn nodes_that_many_read(rt: HostRuntime) -> Result<(), Fail> {
+    let alloc = rt.alloc();
+    for seed in 0..3 {
+        let nodes = wide_nodes(alloc, seed)?;
+        for size in [4, 5] {
+            compare(&rt, alloc, nodes.as_slice(), size, 2)?;
         }
     }
     Ok(())

@@ -1,7 +1,7 @@
 //! The counts beside a partitioning, made from it.
-ghost use Rattle.std.specs.Prelude.{◌≡◌, ◌<◌, ◌==◌, ℕ, List, All, length, slice_index, count_by, IfOk, OnOk, if◌then◌else◌};
+ghost use Rattle.std.specs.Prelude.{◌≡◌, ◌<◌, ◌==◌, ℕ, true, List, All, length, slice_index, count_by, IfOk, OnOk, if◌then◌else◌};
 ghost use Rattle.flat_net.specs.Net.{Net};
-ghost use Rattle.partitioner.specs.Reading.{reads_other};
+ghost use Rattle.partitioner.specs.Reading.{reads_other, is_wide};
 ghost use Rattle.partitioner.specs.Noting.{Lists};
 ghost use Rattle.partitioner.specs.Counting.{count_at};
 ghost use Rattle.partitioner.specs.Sizes.{held};
@@ -9,9 +9,10 @@ ghost use Rattle.partitioner.specs.Tracking.{Tracks, parts_of, reader_count};
 
 use crate::counting::{count_at, set_count};
 use crate::nodes::nodes_of;
+use crate::packed::{Packed, sorted_rows};
 use crate::partitioning::Partitioning;
-use crate::reading::{readers_of, sources_of};
-use crate::rows::Rows;
+use crate::reading::{packed_readers_of, sources_of};
+use crate::wide::{is_wide, wide_sources_of};
 use flat_net::FlatNet;
 use std::alloc::Global;
 use std::collections::HashMap;
@@ -63,20 +64,22 @@ fn count_row(
     Ok(())
 }
 
-/// How many readers each node has in each partition.
+/// How many readers each wide node has in each partition.
 fn counts_of(
     alloc: Global,
     n: &FlatNet,
-    readers: &Rows,
+    readers: &Packed,
     of: &[u32],
 ) -> Result<HashMap<(u32, u32), u32>, OutOfMemory>
     requires readers { Lists (reads_other n.now.net) (length n.now.net.nodes) (length n.now.net.nodes) readers.now }
     requires long { length of.now ≡ length n.now.net.nodes }
-    ensures { IfOk result (λ counts. (x q : ℕ) → x < length n.now.net.nodes → count_at counts x q ≡ reader_count n.now.net of.now x q) }
+    ensures { IfOk result (λ counts. (x q : ℕ) → x < length n.now.net.nodes → is_wide n.now.net x ≡ true → count_at counts x q ≡ reader_count n.now.net of.now x q) }
 {
     let mut counts = HashMap::new(alloc);
     for x in 0..nodes_of(n) {
-        count_row(&mut counts, of, x, readers.row(x))?;
+        if is_wide(n, readers, x) {
+            count_row(&mut counts, of, x, readers.row(x))?;
+        }
     }
     Ok(counts)
 }
@@ -91,10 +94,10 @@ pub fn track(alloc: Global, n: &FlatNet, parts: &Parts) -> Result<Partitioning, 
     let nodes = nodes_of(n);
     let count = parts.count();
     let of = parts_list(alloc, parts)?;
-    let readers = readers_of(alloc, n)?;
+    let readers = packed_readers_of(alloc, n)?;
     let ascending = sources_of(alloc, n, &readers)?;
-    let weights = readers.lengths(alloc, nodes)?;
-    let sources = ascending.sorted(alloc, nodes, weights.as_slice())?;
+    let sources = sorted_rows(alloc, &ascending, &readers, nodes)?;
+    let wide = wide_sources_of(alloc, n, &readers, &ascending)?;
     let held = held_of(alloc, count, of.as_slice())?;
     let counts = counts_of(alloc, n, &readers, of.as_slice())?;
     Ok(Partitioning {
@@ -102,6 +105,7 @@ pub fn track(alloc: Global, n: &FlatNet, parts: &Parts) -> Result<Partitioning, 
         of,
         readers,
         sources,
+        wide,
         held,
         counts,
     })

@@ -112,3 +112,28 @@ pub fn made_nodes(alloc: Global, seed: u64) -> Result<Vec<Made>, Fail> {
     }
     Ok(nodes)
 }
+
+/// Tables of which most read node 0 and node 1, so that more than 16 nodes read each of the two, and some
+/// one node before.
+pub fn wide_nodes(alloc: Global, seed: u64) -> Result<Vec<Made>, Fail> {
+    let mut state = seed.wrapping_mul(0x9E37_79B9_7F4A_7C15);
+    let mut nodes = Vec::new(alloc);
+    for i in 0..26u32 {
+        let mut pins = Vec::new(alloc);
+        let pick = next_number(&mut state) % 8;
+        if 1 < i && pick != 7 {
+            pins.push(0)?;
+        }
+        if 1 < i && pick != 0 {
+            pins.push(1)?;
+        }
+        if 1 < i && pick < 4 {
+            pins.push(i / 2)?;
+        }
+        nodes.push(Made {
+            is_register: false,
+            pins,
+        })?;
+    }
+    Ok(nodes)
+}

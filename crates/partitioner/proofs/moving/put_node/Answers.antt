@@ -1,36 +1,41 @@
-use Rattle.std.proofs.Common.{◌≡◌, ◌<◌, ◌+◌, ◌-◌, ◌∙◌, ℕ, List, length, get_or, set, sym, ap, subst, arith, IsPermutation}
+use Rattle.std.proofs.Common.{◌≡◌, ◌<◌, ◌≤◌, ◌+◌, ◌-◌, ◌∙◌, ℕ, true, eqb, List, length, get_or, set, sym, ap, subst, arith}
+use Rattle.std.specs.List.{All, count_by}
 use Rattle.std.proofs.lemmas.List.{length-set}
 use Rattle.std.proofs.lemmas.List.Elements.{All-set}
-use Rattle.partitioner.specs.Reading.{other_sources, marked_by_row}
+use Rattle.partitioner.specs.Reading.{reads_other, is_wide, wide_sources, marked_by_row}
 use Rattle.partitioner.specs.Counting.{count_at}
 use Rattle.partitioner.specs.Moving.{Shifts}
 use Rattle.partitioner.specs.Sizes.{held}
-use Rattle.partitioner.proofs.LossLaws.{sources_below, sources_read}
+use Rattle.partitioner.proofs.WideLaws.{wide_below, wide_read, wide_pass}
 use Rattle.partitioner.proofs.HeldLaws.{held_some, held_shifted, held_moved}
-use Rattle.partitioner.proofs.ShiftLaws.{sources_once, source_counted, readers_within, counts_moved}
+use Rattle.partitioner.proofs.ShiftLaws.{wide_once, source_counted, readers_within, counts_moved}
 use Rattle.partitioner.proofs.moving.put_node.Goals as goal
 
 pub shift_counts-requires-clause-once : goal.shift_counts-requires-clause-once
 shift_counts-requires-clause-once c =
-    let perm : IsPermutation (other_sources c.args.n.now.net c.args.i) c.row.result.now = subst (λ (row : List ℕ). IsPermutation (other_sources c.args.n.now.net c.args.i) row) (sym c.row.ensures) (c.requires.tracks.sources c.args.i c.requires.node) in
-    sources_once c.args.n.now.net c.args.i c.row.result.now perm (sources_below c.args.n.now.net c.args.i c.row.result.now perm)
+    let row : c.row.result.now ≡ wide_sources c.args.n.now.net c.args.i = c.row.ensures ∙ c.requires.tracks.wide c.args.i c.requires.node in
+    subst (λ (row : List ℕ). All (λ x. count_by (λ y. eqb y x) row ≤ 1) row) (sym row) (wide_once c.args.n.now.net c.args.i)
 
 pub shift_counts-requires-clause-counted : goal.shift_counts-requires-clause-counted
-shift_counts-requires-clause-counted c = λ k d l.
-    let perm : IsPermutation (other_sources c.args.n.now.net c.args.i) c.row.result.now = subst (λ (row : List ℕ). IsPermutation (other_sources c.args.n.now.net c.args.i) row) (sym c.row.ensures) (c.requires.tracks.sources c.args.i c.requires.node) in
-    let x = get_or c.row.result.now k d in
-    let within : x < length c.args.n.now.net.nodes = sources_below c.args.n.now.net c.args.i c.row.result.now perm k d l in
-    let some = source_counted c.args.n.now.net c.args.p.now.of.items c.args.i x c.requires.node (sources_read c.args.n.now.net c.args.i c.row.result.now perm k d l) in
-    let is = c.requires.tracks.counts x c.part_of-a.result within c.part_of-a.ensures.range in
-    subst (λ (a : ℕ). 0 < count_at c.args.p.now.counts x a) (sym c.part_of-a.ensures.value)
-    (omega (arith, some, c.requires.tracks.counts x (get_or c.args.p.now.of.items c.args.i 0) within (omega (arith, c.part_of-a.ensures.range, c.part_of-a.ensures.value))))
+shift_counts-requires-clause-counted c =
+    let row : c.row.result.now ≡ wide_sources c.args.n.now.net c.args.i = c.row.ensures ∙ c.requires.tracks.wide c.args.i c.requires.node in
+    subst (λ (row : List ℕ). All (λ x. 0 < count_at c.args.p.now.counts x c.part_of-a.result) row) (sym row)
+    (λ k d l. counted (get_or (wide_sources c.args.n.now.net c.args.i) k d) (wide_below c.args.n.now.net c.args.i k d l) (wide_read c.args.n.now.net c.args.i k d l) (wide_pass c.args.n.now.net c.args.i k d l))
+  where
+    counted : (x : ℕ) → x < length c.args.n.now.net.nodes → reads_other c.args.n.now.net c.args.i x ≡ true → is_wide c.args.n.now.net x ≡ true → 0 < count_at c.args.p.now.counts x c.part_of-a.result
+    counted x within reads wide =
+        let some = source_counted c.args.n.now.net c.args.p.now.of.items c.args.i x c.requires.node reads in
+        subst (λ (a : ℕ). 0 < count_at c.args.p.now.counts x a) (sym c.part_of-a.ensures.value)
+        (omega (arith, some, c.requires.tracks.counts x (get_or c.args.p.now.of.items c.args.i 0) within (omega (arith, c.part_of-a.ensures.range, c.part_of-a.ensures.value)) wide))
 
 pub shift_counts-requires-clause-few : goal.shift_counts-requires-clause-few
-shift_counts-requires-clause-few c = λ k d l.
-    let perm : IsPermutation (other_sources c.args.n.now.net c.args.i) c.row.result.now = subst (λ (row : List ℕ). IsPermutation (other_sources c.args.n.now.net c.args.i) row) (sym c.row.ensures) (c.requires.tracks.sources c.args.i c.requires.node) in
-    let x = get_or c.row.result.now k d in
-    let within : x < length c.args.n.now.net.nodes = sources_below c.args.n.now.net c.args.i c.row.result.now perm k d l in
-    omega (arith, c.requires.tracks.counts x c.args.b within c.requires.partition, readers_within c.args.n.now.net c.args.p.now.of.items x c.args.b, c.requires.tracks.few)
+shift_counts-requires-clause-few c =
+    let row : c.row.result.now ≡ wide_sources c.args.n.now.net c.args.i = c.row.ensures ∙ c.requires.tracks.wide c.args.i c.requires.node in
+    subst (λ (row : List ℕ). All (λ x. count_at c.args.p.now.counts x c.args.b < 4294967295) row) (sym row)
+    (λ k d l. few (get_or (wide_sources c.args.n.now.net c.args.i) k d) (wide_below c.args.n.now.net c.args.i k d l) (wide_pass c.args.n.now.net c.args.i k d l))
+  where
+    few : (x : ℕ) → x < length c.args.n.now.net.nodes → is_wide c.args.n.now.net x ≡ true → count_at c.args.p.now.counts x c.args.b < 4294967295
+    few x within wide = omega (arith, c.requires.tracks.counts x c.args.b within c.requires.partition wide, readers_within c.args.n.now.net c.args.p.now.of.items x c.args.b, c.requires.tracks.few)
 
 pub returns-clause-tracks : goal.returns-clause-tracks
 returns-clause-tracks c =
@@ -40,11 +45,11 @@ returns-clause-tracks c =
     let i = c.args.i in
     let b = c.args.b in
     let tracks = c.requires.tracks in
-    let row = c.row.result.now in
-    let perm : IsPermutation (other_sources n i) row = subst (λ (row : List ℕ). IsPermutation (other_sources n i) row) (sym c.row.ensures) (tracks.sources i c.requires.node) in
+    let row : c.row.result.now ≡ wide_sources n i = c.row.ensures ∙ tracks.wide i c.requires.node in
     let within : i < length of = omega (arith, tracks.long, c.requires.node) in
-    let shifts : Shifts (count_at p.counts) (count_at c.shift_counts.new.counts) (marked_by_row row (length row)) (get_or of i 0) b =
-    subst (λ (a : ℕ). Shifts (count_at p.counts) (count_at c.shift_counts.new.counts) (marked_by_row row (length row)) a b) c.part_of-a.ensures.value c.in_ok-shift_counts.ensures in
+    let shifts : Shifts (count_at p.counts) (count_at c.shift_counts.new.counts) (marked_by_row (wide_sources n i) (length (wide_sources n i))) (get_or of i 0) b =
+    subst (λ (a : ℕ). Shifts (count_at p.counts) (count_at c.shift_counts.new.counts) (marked_by_row (wide_sources n i) (length (wide_sources n i))) a b) c.part_of-a.ensures.value
+    (subst (λ (row : List ℕ). Shifts (count_at p.counts) (count_at c.shift_counts.new.counts) (marked_by_row row (length row)) c.part_of-a.result b) row c.in_ok-shift_counts.ensures) in
     let a_in : get_or of i 0 < p.count = omega (arith, c.part_of-a.ensures.range, c.part_of-a.ensures.value) in
     let a_long : get_or of i 0 < length p.held.items = omega (arith, a_in, tracks.held_long) in
     let b_long : b < length p.held.items = omega (arith, c.requires.partition, tracks.held_long) in
@@ -58,6 +63,8 @@ returns-clause-tracks c =
       readers = tracks.readers;
       sources_long = tracks.sources_long;
       sources = tracks.sources;
+      wide_long = tracks.wide_long;
+      wide = tracks.wide;
       held_long = ap length holds ∙ (length-set (set p.held.items (get_or of i 0) (get_or p.held.items (get_or of i 0) 0 - 1)) b (get_or p.held.items b 0 + 1) ∙ (length-set p.held.items (get_or of i 0) (get_or p.held.items (get_or of i 0) 0 - 1) ∙ tracks.held_long));
       held_right = λ q l.
           let shifted = held_shifted p.held.items (get_or of i 0) b q a_long b_long c.requires.apart some in
@@ -65,5 +72,5 @@ returns-clause-tracks c =
           let was = tracks.held_right q l in
           let now : get_or (set (set p.held.items (get_or of i 0) (get_or p.held.items (get_or of i 0) 0 - 1)) b (get_or p.held.items b 0 + 1)) q 0 ≡ held (set of i b) q = omega (arith, shifted, moved, was) in
           ap (λ (h : List ℕ). get_or h q 0) holds ∙ now;
-      counts = λ x q l m. counts_moved n of row i b x q (count_at p.counts) (count_at c.shift_counts.new.counts) within c.requires.node l perm (tracks.counts x q l m) shifts;
+      counts = λ x q l m wide. counts_moved n of i b x q (count_at p.counts) (count_at c.shift_counts.new.counts) within c.requires.node l wide (tracks.counts x q l m wide) shifts;
     }

@@ -1,9 +1,9 @@
-use Rattle.std.proofs.Common.{◌≡◌, ◌+◌, ◌∙◌, ℕ, true, List, get_or, sym, ap, subst, IsPermutation, refl, rules, arith}
+use Rattle.std.proofs.Common.{◌≡◌, ◌+◌, ◌∙◌, ℕ, true, List, sym, ap, subst, IsPermutation, refl, rules}
 use Rattle.partitioner.specs.Reading.{other_sources}
 use Rattle.partitioner.specs.declared.placing.Lead.{Lead}
-use Rattle.partitioner.specs.Leading.{IsLead, LeadsOpen, LeadsOrLoses, is_settled, start_of}
+use Rattle.partitioner.specs.Leading.{IsLead, LeadsOrLoses, is_settled, start_of}
 use Rattle.partitioner.proofs.LossLaws.{sources_below}
-use Rattle.partitioner.proofs.PlaceLaws.{settled_at_once, settled_place, exhausted_place, readers_tried, source_tried, missed_loses, all_place}
+use Rattle.partitioner.proofs.PlaceLaws.{settled_at_once, settled_place, exhausted_place, readers_tried, source_tried, missed_loses}
 use Rattle.partitioner.proofs.placing.place_of.Goals as goal
 
 pub returns-then-is_settled : goal.returns-then-is_settled
@@ -43,17 +43,8 @@ returns c =
     let perm : IsPermutation (other_sources c.args.n.now.net c.args.i) c.row-x-items.result.now = subst (λ (row : List ℕ). IsPermutation (other_sources c.args.n.now.net c.args.i) row) (sym c.row-x-items.ensures) (c.requires.tracks.sources c.args.i c.requires.node) in
     exhausted_place c.args.n.now.net c.args.size c.args.p.now c.args.i c.loop-x.x-index c.row-x-items.result.now c.loop-x.lead c.requires.tracks c.requires.node perm c.loop-x.invariant.0 c.loop-x.invariant.1 c.loop-x-test.false
 
-pub row-requires : goal.row-requires
-row-requires c =
-    let perm : IsPermutation (other_sources c.args.n.now.net c.args.i) c.row-x-items.result.now = subst (λ (row : List ℕ). IsPermutation (other_sources c.args.n.now.net c.args.i) row) (sym c.row-x-items.ensures) (c.requires.tracks.sources c.args.i c.requires.node) in
-    omega (arith, sources_below c.args.n.now.net c.args.i c.row-x-items.result.now perm c.loop-x.x-index 0 c.loop-x-test.true, c.requires.tracks.readers.long)
-
-pub consider_all-requires-clause-least : goal.consider_all-requires-clause-least
-consider_all-requires-clause-least c = λ q h room.
+pub consider_source-lead-requires-clause-least : goal.consider_source-lead-requires-clause-least
+consider_source-lead-requires-clause-least c = λ q h room.
     let perm : IsPermutation (other_sources c.args.n.now.net c.args.i) c.row-x-items.result.now = subst (λ (row : List ℕ). IsPermutation (other_sources c.args.n.now.net c.args.i) row) (sym c.row-x-items.ensures) (c.requires.tracks.sources c.args.i c.requires.node) in
     subst (λ (tried : ℕ). LeadsOrLoses c.args.n.now.net c.args.p.now c.args.i c.loop-x.lead.place tried q) (sym c.loop-x.invariant.2)
     (missed_loses c.args.n.now.net c.args.size c.args.p.now c.args.i c.loop-x.lead.place c.row-x-items.result.now c.loop-x.x-index perm c.loop-x.invariant.1 q h room)
-
-pub returns-then-row-p : goal.returns-then-row-p
-returns-then-row-p c =
-    all_place c.args.n.now.net c.args.size c.args.p.now c.args.i c.consider_all.result c.requires.tracks c.requires.node c.consider_all.ensures.lead c.consider_all.ensures.all

@@ -1,7 +1,11 @@
-use Rattle.std.proofs.Common.{vec_items}
+use Rattle.std.proofs.Common.{◌≡◌, ℕ, ◌+◌, ◌-◌, ◌∙◌, [], vec_items, replicate, ap, arith}
 use Rattle.partitioner.proofs.RowLaws.{row_added}
 use Rattle.partitioner.proofs.rows.empty_rows.Goals as goal
 
-pub loop-made-preserved : goal.loop-made-preserved
-loop-made-preserved c =
-    row_added vec_items c.loop-made.rows.items c.push.new.self.items c.new.result c.loop-made.made c.loop-made.invariant c.new.ensures.items c.in_ok-push.ensures.items
+pub loop-left-preserved : goal.loop-left-preserved
+loop-left-preserved c =
+    let more : (c.args.count - c.loop-left.left) + 1 ≡ c.args.count - (c.loop-left.left - 1) = omega (arith, c.loop-left.invariant.1, c.loop-left-test.true) in (
+      row_added vec_items c.loop-left.rows.items c.push.new.self.items c.new.result (c.args.count - c.loop-left.left) c.loop-left.invariant.0 c.new.ensures.items c.in_ok-push.ensures.items
+          ∙ ap (λ (k : ℕ). replicate k []) more,
+      omega (arith, c.loop-left.invariant.1),
+    )

@@ -1,10 +1,12 @@
-use Rattle.std.proofs.Common.{◌≡◌, ◌<◌, ◌∙◌, ℕ, cond, eqb, List, length, slice_index, sym, ap, subst, arith}
+use Rattle.std.proofs.Common.{HashMap, BuildHasherDefault, FoldHasher, ◌<◌, ◌∙◌, ℕ, cond, eqb, List, length, slice_index, sym, ap, subst, arith}
 use Rattle.std.specs.List.{All, count_by}
-use Rattle.partitioner.specs.Reading.{reads_other, other_readers}
+use Rattle.partitioner.specs.Reading.{reads_other}
 use Rattle.partitioner.specs.Counting.{count_at}
 use Rattle.partitioner.proofs.SourceLaws.{related_below}
-use Rattle.partitioner.proofs.TrackLaws.{row_few, row_counted}
+use Rattle.partitioner.proofs.TrackLaws.{row_few}
+use Rattle.partitioner.proofs.WideLaws.{wide_counted, narrow_counted}
 use Rattle.partitioner.proofs.tracking.counts_of.Goals as goal
+use Rattle.partitioner.proofs.tracking.counts_of.Goals.{then-is_wide+in_ok-count_row, else-is_wide}
 
 pub count_row-requires-clause-in_range : goal.count_row-requires-clause-in_range
 count_row-requires-clause-in_range c =
@@ -24,6 +26,12 @@ pub loop-x-preserved : goal.loop-x-preserved
 loop-x-preserved c =
     let net = c.args.n.now.net in
     let within : c.loop-x.x < length net.nodes = omega (arith, c.nodes_of-x-end.ensures.count, c.loop-x-test.true) in
-    let row : c.row.result.now ≡ other_readers net c.loop-x.x = c.row.ensures ∙ c.requires.readers.row c.loop-x.x within in
-    row_counted net c.args.of.now (count_at c.loop-x.counts) (count_at c.count_row.new.counts) c.loop-x.x c.loop-x.invariant
-    (λ z q. c.in_ok-count_row.ensures z q ∙ ap (λ (r : List ℕ). cond (eqb c.loop-x.x z) (count_by (λ y. eqb (slice_index c.args.of.now y) q) r) (count_at c.loop-x.counts z q)) row)
+    elim c.if-is_wide.branch [
+      | then-is_wide+in_ok-count_row w ↦ λ z q.
+          ap (λ (counts : HashMap (ℕ × ℕ) ℕ (BuildHasherDefault FoldHasher)). count_at counts z q) w.counts-is
+          ∙ wide_counted net c.args.of.now (count_at c.loop-x.counts) (count_at w.count_row.new.counts) c.loop-x.x (sym c.is_wide.ensures ∙ w.if-is_wide.true) c.loop-x.invariant
+          (λ y r. w.in_ok-count_row.ensures y r ∙ ap (λ (row : List ℕ). cond (eqb c.loop-x.x y) (count_by (λ u. eqb (slice_index c.args.of.now u) r) row) (count_at c.loop-x.counts y r)) (w.row.ensures ∙ c.requires.readers.row c.loop-x.x within)) z q
+      | else-is_wide w ↦ λ z q.
+          ap (λ (counts : HashMap (ℕ × ℕ) ℕ (BuildHasherDefault FoldHasher)). count_at counts z q) w.counts-is
+          ∙ narrow_counted net c.args.of.now (count_at c.loop-x.counts) c.loop-x.x (sym c.is_wide.ensures ∙ w.if-is_wide.false) c.loop-x.invariant z q
+    ]

@@ -1,0 +1,62 @@
+//! Nodes that many nodes read, whose readers are counted in a table.
+ghost use Rattle.std.specs.Prelude.{◌≡◌, ◌<◌, ℕ, Bool, [], length, All, filter, slice_index_or, IfOk};
+ghost use Rattle.flat_net.specs.Net.{Net};
+ghost use Rattle.partitioner.specs.Noting.{Lists};
+ghost use Rattle.partitioner.specs.Reading.{reads_other, is_source, is_wide, wide_sources};
+
+use crate::nodes::nodes_of;
+use crate::packed::Packed;
+use crate::rows::Rows;
+use flat_net::FlatNet;
+use std::alloc::Global;
+use tmr_base::OutOfMemory;
+
+/// More than 16 other nodes read node x.
+pub fn is_wide(n: &FlatNet, readers: &Packed, x: u32) -> bool
+    requires readers { Lists (reads_other n.now.net) (length n.now.net.nodes) (length n.now.net.nodes) readers.now }
+    requires node { x < length n.now.net.nodes }
+    ensures { result ≡ is_wide n.now.net x }
+{
+    let _nodes = nodes_of(n);
+    readers.row(x).len() > 16
+}
+
+/// The wide nodes of a row.
+fn wide_among(
+    alloc: Global,
+    n: &FlatNet,
+    readers: &Packed,
+    row: &[u32],
+) -> Result<Vec<u32>, OutOfMemory>
+    requires readers { Lists (reads_other n.now.net) (length n.now.net.nodes) (length n.now.net.nodes) readers.now }
+    requires row { All (λ x. x < length n.now.net.nodes) row.now }
+    ensures { IfOk result (λ wide. wide.items ≡ filter (is_wide n.now.net) row.now) }
+{
+    let mut wide = Vec::new(alloc);
+    for x in row {
+        if is_wide(n, readers, *x) {
+            wide.push(*x)?;
+        }
+    }
+    Ok(wide)
+}
+
+/// For each node the wide nodes among the other nodes that it reads.
+pub fn wide_sources_of(
+    alloc: Global,
+    n: &FlatNet,
+    readers: &Packed,
+    sources: &Rows,
+) -> Result<Packed, OutOfMemory>
+    requires readers { Lists (reads_other n.now.net) (length n.now.net.nodes) (length n.now.net.nodes) readers.now }
+    requires sources { Lists (is_source n.now.net) (length n.now.net.nodes) (length n.now.net.nodes) sources.now }
+    ensures long { IfOk result (λ wide. length wide ≡ length n.now.net.nodes) }
+    ensures each { IfOk result (λ wide. (i : ℕ) → i < length n.now.net.nodes → slice_index_or wide i [] ≡ wide_sources n.now.net i) }
+{
+    let mut rows = Packed::new(alloc);
+    for i in 0..nodes_of(n) {
+        let wide = wide_among(alloc, n, readers, sources.row(i))?;
+        rows.push(wide.as_slice())?;
+    }
+    Ok(rows)
+}
