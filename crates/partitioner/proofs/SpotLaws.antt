@@ -182,3 +182,29 @@ left_later q c list rest e sorted h =
 
 pub left_sorted : (q : ℕ) (list rest : List ℕ) → list ≡ q ∷ rest → IsStrictlySortedBy nat_cmp list → IsStrictlySortedBy nat_cmp rest
 left_sorted q list rest e sorted = sorted_tail nat_cmp q rest (subst (λ (xs : List ℕ). IsStrictlySortedBy nat_cmp xs) e sorted)
+
+-- a node that is not read in a partition leaves it
+pub spots_left : (n : Net) (size : ℕ) (parts : PlainParts) (old new : Spots) (x q : ℕ) → AreSpots n size parts old → reader_count n parts.of x q ≡ 0 → length new.free ≡ length old.free → length new.nets ≡ length old.nets
+    → ((z r : ℕ) → (q ≡ r → ⊥) → has old.free z r ≡ true → has new.free z r ≡ true) → ((z r : ℕ) → (z ≡ x → ⊥) → has old.free z r ≡ true → has new.free z r ≡ true)
+    → ((r z : ℕ) → (x ≡ z → ⊥) → has old.nets r z ≡ true → has new.nets r z ≡ true) → ((r z : ℕ) → (r ≡ q → ⊥) → has old.nets r z ≡ true → has new.nets r z ≡ true)
+    → AreSpots n size parts new
+spots_left n size parts old new x q are none free_long nets_long free_kept free_others nets_kept nets_others =
+    record {
+      free_long = free_long ∙ are.free_long;
+      nets_long = nets_long ∙ are.nets_long;
+      nets = λ z r l m wide some. nets_at z r some (are.nets z r l m wide some) (cases_eq x z) (cases_eq r q);
+      free = λ z r l m wide some room. free_at z r some (are.free z r l m wide some room) (cases_eq z x) (cases_eq q r);
+    }
+  where
+    no : (z r : ℕ) → z ≡ x → r ≡ q → 0 < reader_count n parts.of z r → ⊥
+    no z r e f some = omega (arith, some, ap (λ (k : ℕ). reader_count n parts.of k r) e, ap (reader_count n parts.of x) f, none)
+
+    nets_at : (z r : ℕ) → 0 < reader_count n parts.of z r → has old.nets r z ≡ true → (x ≡ z) ⊎ (x ≡ z → ⊥) → (r ≡ q) ⊎ (r ≡ q → ⊥) → has new.nets r z ≡ true
+    nets_at z r some h (inr ne) from = nets_kept r z ne h
+    nets_at z r some h (inl e) (inr ne) = nets_others r z ne h
+    nets_at z r some h (inl e) (inl f) = absurd (no z r (sym e) f some)
+
+    free_at : (z r : ℕ) → 0 < reader_count n parts.of z r → has old.free z r ≡ true → (z ≡ x) ⊎ (z ≡ x → ⊥) → (q ≡ r) ⊎ (q ≡ r → ⊥) → has new.free z r ≡ true
+    free_at z r some h (inr ne) from = free_others z r ne h
+    free_at z r some h (inl e) (inr ne) = free_kept z r ne h
+    free_at z r some h (inl e) (inl f) = absurd (no z r e (sym f) some)

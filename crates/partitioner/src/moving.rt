@@ -12,7 +12,7 @@ use crate::counting::{count_at, set_count};
 use crate::nodes::nodes_of;
 use crate::partitioning::Partitioning;
 use crate::placing::{has_room, part_of};
-use crate::spots::{Spots, note_spots, open_spots, shut_spots};
+use crate::spots::{Spots, leave_spots, note_spots, open_spots, shut_spots};
 use flat_net::FlatNet;
 use std::collections::HashMap;
 use tmr_base::OutOfMemory;
@@ -94,5 +94,6 @@ pub fn move_to(
     open_spots(&mut spots.free, &spots.nets, a, nodes, was_full)?;
     let is_full = !has_room(n, p, size, b);
     shut_spots(&mut spots.free, &spots.nets, b, nodes, is_full);
+    leave_spots(n, p, spots, size, p.wide.row(i), a);
     Ok(())
 }

@@ -68,6 +68,7 @@ impl Sets {
         requires { x < length self.old }
         ensures long { length self.new ≡ length self.old }
         ensures kept { (z r : ℕ) → (q ≡ r → ⊥) → has self.old z r ≡ true → has self.new z r ≡ true }
+        ensures others { (z r : ℕ) → (z ≡ x → ⊥) → has self.old z r ≡ true → has self.new z r ≡ true }
     {
         let _was = self.sets[x as usize].remove(&q);
     }

@@ -8,6 +8,7 @@ ghost use Rattle.partitioner.specs.Sets.{has};
 ghost use Rattle.partitioner.specs.Tracking.{Tracks, parts_of};
 ghost use Rattle.partitioner.specs.Spotting.{AreSpots};
 
+use crate::counting::count_at;
 use crate::nodes::nodes_of;
 use crate::partitioning::Partitioning;
 use crate::placing::{has_room, part_of};
@@ -96,6 +97,23 @@ pub fn shut_spots(free: &mut Sets, nets: &Sets, q: u32, nodes: u32, is_full: boo
     for x in nets.set(q).iter() {
         if *x < nodes {
             free.remove(*x, q);
+        }
+    }
+}
+
+/// Takes partition q from the nodes of the row that are no longer read in it.
+pub fn leave_spots(n: &FlatNet, p: &Partitioning, spots: &mut Spots, size: u32, row: &[u32], q: u32)
+    requires tracks { Tracks n.now.net p.now }
+    requires spots { AreSpots n.now.net size (parts_of p.now) spots.old }
+    requires row { All (λ x. x < length n.now.net.nodes) row.now }
+    requires wide { All (λ x. is_wide n.now.net x ≡ true) row.now }
+    requires partition { q < p.now.count }
+    ensures { AreSpots n.now.net size (parts_of p.now) spots.new }
+{
+    for x in row {
+        if count_at(&p.counts, *x, q) == 0 {
+            spots.free.remove(*x, q);
+            spots.nets.remove(q, *x);
         }
     }
 }

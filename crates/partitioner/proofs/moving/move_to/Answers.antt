@@ -2,12 +2,12 @@ use Rattle.std.proofs.Common.{◌≡◌, ℕ, ◌<◌, ◌∙◌, true, false, n
 use Rattle.std.specs.List.{All}
 use Rattle.std.proofs.lemmas.Bool.{true≢false}
 use Rattle.tmr_base.specs.Parts.{PlainParts}
-use Rattle.partitioner.specs.Reading.{wide_sources}
+use Rattle.partitioner.specs.Reading.{is_wide, wide_sources}
 use Rattle.partitioner.specs.Sets.{has}
 use Rattle.partitioner.specs.Refining.{has_room, put}
 use Rattle.partitioner.specs.Tracking.{parts_of}
 use Rattle.partitioner.specs.Spotting.{AreSpots}
-use Rattle.partitioner.proofs.WideLaws.{wide_below}
+use Rattle.partitioner.proofs.WideLaws.{wide_below, wide_pass}
 use Rattle.partitioner.proofs.SpotLaws.{NotesMoved, spots_moved}
 use Rattle.partitioner.proofs.moving.move_to.Goals as goal
 
@@ -17,8 +17,8 @@ note_spots-requires-clause-row c =
     subst (λ (bound : ℕ). All (λ x. x < bound) c.row.result.now) (sym c.requires.spots.free_long)
     (subst (λ (xs : List ℕ). All (λ x. x < length c.args.n.now.net.nodes) xs) (sym row) (wide_below c.args.n.now.net c.args.i))
 
-pub returns-clause-spots : goal.returns-clause-spots
-returns-clause-spots c =
+pub leave_spots-requires-clause-spots : goal.leave_spots-requires-clause-spots
+leave_spots-requires-clause-spots c =
     let n = c.args.n.now.net in
     let parts = parts_of c.args.p.now in
     let row : c.row.result.now ≡ wide_sources n c.args.i = c.row.ensures ∙ c.in_ok-put_node.ensures.tracks.wide c.args.i c.requires.node in
@@ -48,3 +48,13 @@ returns-clause-spots c =
 
     full : has_room c.args.size (parts_of c.args.p.now) (get_or c.args.p.now.of.items c.args.i 0) ≡ false → not c.has_room-was_full.result ≡ true
     full shut = yes c.has_room-was_full.result (c.has_room-was_full.ensures ∙ (ap (has_room c.args.size (parts_of c.args.p.now)) c.part_of-a.ensures.value ∙ shut))
+
+pub leave_spots-requires-clause-row : goal.leave_spots-requires-clause-row
+leave_spots-requires-clause-row c =
+    let row : c.row-2.result.now ≡ wide_sources c.args.n.now.net c.args.i = c.row-2.ensures ∙ c.in_ok-put_node.ensures.tracks.wide c.args.i c.requires.node in
+    subst (λ (xs : List ℕ). All (λ x. x < length c.args.n.now.net.nodes) xs) (sym row) (wide_below c.args.n.now.net c.args.i)
+
+pub leave_spots-requires-clause-wide : goal.leave_spots-requires-clause-wide
+leave_spots-requires-clause-wide c =
+    let row : c.row-2.result.now ≡ wide_sources c.args.n.now.net c.args.i = c.row-2.ensures ∙ c.in_ok-put_node.ensures.tracks.wide c.args.i c.requires.node in
+    subst (λ (xs : List ℕ). All (λ x. is_wide c.args.n.now.net x ≡ true) xs) (sym row) (wide_pass c.args.n.now.net c.args.i)
