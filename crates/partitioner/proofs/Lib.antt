@@ -8,6 +8,7 @@ pub mod PutLaws
 pub mod LowestLaws
 pub mod CountLaws
 pub mod LossLaws
+pub mod GainLaws
 pub mod PlaceLaws
 pub mod HeldLaws
 pub mod TrackLaws

@@ -13,3 +13,4 @@ pub mod Leading
 pub mod Moving
 pub mod Sets
 pub mod Spotting
+pub mod Gaining

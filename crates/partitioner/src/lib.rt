@@ -6,6 +6,7 @@
 #![tactic(auto)]
 
 mod counting;
+mod gains;
 mod losses;
 mod minimal;
 mod moving;

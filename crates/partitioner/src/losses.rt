@@ -2,11 +2,13 @@
 ghost use Rattle.std.specs.Prelude.{◌≡◌, ◌<◌, ◌≤◌, ◌==◌, ℕ, Bool, true, length, slice_index, All, count_by};
 ghost use Rattle.flat_net.specs.Net.{Net};
 ghost use Rattle.partitioner.specs.Below.{one_if};
+ghost use Rattle.partitioner.specs.Gaining.{AreGains};
 ghost use Rattle.partitioner.specs.Reading.{reads_other};
 ghost use Rattle.partitioner.specs.Loss.{is_fresh, is_wanted, loss};
 ghost use Rattle.partitioner.specs.Tracking.{Tracks, reader_count};
 
 use crate::counting::count_at;
+use crate::gains::{Gains, missed_in};
 use crate::partitioning::Partitioning;
 use crate::wide::is_wide;
 use flat_net::FlatNet;
@@ -64,20 +66,22 @@ fn is_wanted(n: &FlatNet, p: &Partitioning, i: u32, q: u32) -> bool
 }
 
 /// The loss of node i in partition q, or where it is above `most`, some number above `most`.
-pub fn loss_up_to(n: &FlatNet, p: &Partitioning, i: u32, q: u32, most: u64) -> u64
+pub fn loss_up_to(n: &FlatNet, p: &Partitioning, gains: &Gains, i: u32, q: u32, most: u64) -> u64
     requires tracks { Tracks n.now.net p.now }
+    requires gains { AreGains n.now.net p.now i gains.now }
     requires node { i < length n.now.net.nodes }
     requires partition { q < p.now.count }
     ensures exact { result ≤ most → result ≡ loss n.now.net p.now.of.items i q }
     ensures above { most < result → most < loss n.now.net p.now.of.items i q }
 {
     let mine = u32::from(p.of[i as usize] == q);
-    let mut loss = u64::from(!is_wanted(n, p, i, q));
-    for x in p.sources.row(i) {
+    let row = p.sources.row(i);
+    let mut loss = u64::from(!is_wanted(n, p, i, q)) + u64::from(missed_in(n, p, gains, i, q));
+    for j in gains.counted as usize..row.len() {
         if most < loss {
             return loss;
         }
-        loss += u64::from(is_fresh(n, p, i, *x, q, mine));
+        loss += u64::from(is_fresh(n, p, i, row[j], q, mine));
     }
     loss
 }

@@ -15,20 +15,27 @@ use std::alloc::Global;
 use tmr_base::{OutOfMemory, Parts};
 
 /// Each node goes to where it stands.
-fn all_stay(n: &FlatNet, p: &Partitioning, spots: &Spots, size: u32) -> bool
+fn all_stay(
+    alloc: Global,
+    n: &FlatNet,
+    p: &Partitioning,
+    spots: &Spots,
+    size: u32,
+) -> Result<bool, OutOfMemory>
     requires tracks { Tracks n.now.net p.now }
     requires spots { AreSpots n.now.net size (parts_of p.now) spots.now }
-    ensures { IsTrue result ↔ IsMinimal n.now.net size (parts_of p.now) }
+    ensures { IfOk result (λ minimal. IsTrue minimal ↔ IsMinimal n.now.net size (parts_of p.now)) }
 {
     if !some_room(n, p, size) {
-        return true;
+        return Ok(true);
     }
     for i in 0..nodes_of(n) {
-        if place_of(n, p, spots, size, i) != part_of(n, p, i) {
-            return false;
+        let place = place_of(alloc, n, p, spots, size, i)?;
+        if place != part_of(n, p, i) {
+            return Ok(false);
         }
     }
-    true
+    Ok(true)
 }
 
 /// No single node moved to a partition with room lowers the cost. `parts` keeps the rule of sizes.
@@ -40,5 +47,6 @@ pub fn is_minimal(alloc: Global, n: &FlatNet, parts: &Parts, size: u32) -> Resul
     let p = track(alloc, n, parts)?;
     let mut spots = spots_of(alloc, n, &p)?;
     shut_full(n, &p, &mut spots, size);
-    Ok(all_stay(n, &p, &spots, size))
+    let minimal = all_stay(alloc, n, &p, &spots, size)?;
+    Ok(minimal)
 }

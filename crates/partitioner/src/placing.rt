@@ -1,17 +1,21 @@
 //! Where a node goes.
-ghost use Rattle.std.specs.Prelude.{◌≡◌, ◌<◌, ◌≤◌, ◌==◌, ℕ, Bool, true, false, length, slice_index};
+ghost use Rattle.std.specs.Prelude.{◌≡◌, ◌<◌, ◌≤◌, ◌==◌, ℕ, Bool, true, false, length, slice_index, IfOk};
 ghost use Rattle.flat_net.specs.Net.{Net};
 ghost use Rattle.partitioner.specs.Reading.{is_wide};
 ghost use Rattle.partitioner.specs.Refining.{has_room, place};
 ghost use Rattle.partitioner.specs.Tracking.{Tracks, parts_of};
 ghost use Rattle.partitioner.specs.Spotting.{AreSpots};
+ghost use Rattle.partitioner.specs.Gaining.{AreGains};
 ghost use Rattle.partitioner.specs.Leading.{HasNoRoom, IsLead, Leads, LeadsOpen, LeadsOrLoses, LeadsReaders, is_better, is_settled, start_of};
 
+use crate::gains::{Gains, gains_of, no_gains};
 use crate::losses::loss_up_to;
 use crate::partitioning::Partitioning;
 use crate::spots::Spots;
 use crate::wide::is_wide;
 use flat_net::FlatNet;
+use std::alloc::Global;
+use tmr_base::OutOfMemory;
 
 /// The best partition so far for a node, and the node's loss there.
 #[derive(Clone, Copy, Drop)]
@@ -54,8 +58,17 @@ fn is_settled(lead: Lead, start: u32, tried: u64) -> bool
 }
 
 /// The lead after partition q is tried for node i.
-fn consider(n: &FlatNet, p: &Partitioning, size: u32, i: u32, lead: Lead, q: u32) -> Lead
+fn consider(
+    n: &FlatNet,
+    p: &Partitioning,
+    gains: &Gains,
+    size: u32,
+    i: u32,
+    lead: Lead,
+    q: u32,
+) -> Lead
     requires tracks { Tracks n.now.net p.now }
+    requires gains { AreGains n.now.net p.now i gains.now }
     requires node { i < length n.now.net.nodes }
     requires partition { q < p.now.count }
     requires lead { IsLead n.now.net size p.now i lead }
@@ -67,7 +80,7 @@ fn consider(n: &FlatNet, p: &Partitioning, size: u32, i: u32, lead: Lead, q: u32
     if q == start || q == lead.place || !has_room(n, p, size, q) {
         return lead;
     }
-    let found = loss_up_to(n, p, i, q, lead.loss);
+    let found = loss_up_to(n, p, gains, i, q, lead.loss);
     if is_better(lead, start, found, q) {
         Lead {
             place: q,
@@ -79,8 +92,17 @@ fn consider(n: &FlatNet, p: &Partitioning, size: u32, i: u32, lead: Lead, q: u32
 }
 
 /// The lead after the partitions of all other readers of node x are tried for node i.
-fn consider_readers(n: &FlatNet, p: &Partitioning, size: u32, i: u32, lead: Lead, x: u32) -> Lead
+fn consider_readers(
+    n: &FlatNet,
+    p: &Partitioning,
+    gains: &Gains,
+    size: u32,
+    i: u32,
+    lead: Lead,
+    x: u32,
+) -> Lead
     requires tracks { Tracks n.now.net p.now }
+    requires gains { AreGains n.now.net p.now i gains.now }
     requires node { i < length n.now.net.nodes }
     requires read { x < length n.now.net.nodes }
     requires lead { IsLead n.now.net size p.now i lead }
@@ -90,7 +112,7 @@ fn consider_readers(n: &FlatNet, p: &Partitioning, size: u32, i: u32, lead: Lead
 {
     let mut lead = lead;
     for y in p.readers.row(x) {
-        lead = consider(n, p, size, i, lead, part_of(n, p, *y));
+        lead = consider(n, p, gains, size, i, lead, part_of(n, p, *y));
     }
     lead
 }
@@ -114,6 +136,7 @@ fn consider_spots(
     n: &FlatNet,
     p: &Partitioning,
     spots: &Spots,
+    gains: &Gains,
     size: u32,
     i: u32,
     lead: Lead,
@@ -122,6 +145,7 @@ fn consider_spots(
 ) -> Lead
     requires tracks { Tracks n.now.net p.now }
     requires spots { AreSpots n.now.net size (parts_of p.now) spots.now }
+    requires gains { AreGains n.now.net p.now i gains.now }
     requires node { i < length n.now.net.nodes }
     requires read { x < length n.now.net.nodes }
     requires wide { is_wide n.now.net x ≡ true }
@@ -134,7 +158,7 @@ fn consider_spots(
     let mut lead = lead;
     for q in spots.free.set(x).iter() {
         if *q < p.count {
-            lead = consider(n, p, size, i, lead, *q);
+            lead = consider(n, p, gains, size, i, lead, *q);
             if lead.loss <= tried && lead.place <= *q {
                 return lead;
             }
@@ -144,14 +168,22 @@ fn consider_spots(
 }
 
 /// The lead after the partitions of the nodes that read node i are tried for it.
-fn consider_own_readers(n: &FlatNet, p: &Partitioning, size: u32, i: u32, lead: Lead) -> Lead
+fn consider_own_readers(
+    n: &FlatNet,
+    p: &Partitioning,
+    gains: &Gains,
+    size: u32,
+    i: u32,
+    lead: Lead,
+) -> Lead
     requires tracks { Tracks n.now.net p.now }
+    requires gains { AreGains n.now.net p.now i gains.now }
     requires node { i < length n.now.net.nodes }
     requires lead { IsLead n.now.net size p.now i lead }
     ensures lead { IsLead n.now.net size p.now i result }
     ensures tried { LeadsReaders n.now.net size p.now i result.place i }
 {
-    consider_readers(n, p, size, i, lead, i)
+    consider_readers(n, p, gains, size, i, lead, i)
 }
 
 /// The lead after the partitions of node x and of its other readers are tried for node i. Those not met
@@ -160,6 +192,7 @@ fn consider_source(
     n: &FlatNet,
     p: &Partitioning,
     spots: &Spots,
+    gains: &Gains,
     size: u32,
     i: u32,
     lead: Lead,
@@ -168,6 +201,7 @@ fn consider_source(
 ) -> Lead
     requires tracks { Tracks n.now.net p.now }
     requires spots { AreSpots n.now.net size (parts_of p.now) spots.now }
+    requires gains { AreGains n.now.net p.now i gains.now }
     requires node { i < length n.now.net.nodes }
     requires read { x < length n.now.net.nodes }
     requires lead { IsLead n.now.net size p.now i lead }
@@ -177,40 +211,76 @@ fn consider_source(
     ensures own { LeadsOpen n.now.net size p.now i result.place (start_of p.now x) }
     ensures tried { LeadsReaders n.now.net size p.now i result.place x }
 {
-    let lead = consider(n, p, size, i, lead, part_of(n, p, x));
+    let lead = consider(n, p, gains, size, i, lead, part_of(n, p, x));
     if is_wide(n, &p.readers, x) {
-        consider_spots(n, p, spots, size, i, lead, x, tried)
+        consider_spots(n, p, spots, gains, size, i, lead, x, tried)
     } else {
-        consider_readers(n, p, size, i, lead, x)
+        consider_readers(n, p, gains, size, i, lead, x)
     }
 }
 
-/// The partition that node i goes to, which is its own where no move lowers the cost.
+/// The partition that node i goes to, where this one leads at first.
 ///
 /// A partition that was met by none of so many nodes that i reads loses at least as many pairs, so few
 /// of them need be tried.
-pub fn place_of(n: &FlatNet, p: &Partitioning, spots: &Spots, size: u32, i: u32) -> u32
+fn best_place(
+    n: &FlatNet,
+    p: &Partitioning,
+    spots: &Spots,
+    gains: &Gains,
+    size: u32,
+    i: u32,
+    lead: Lead,
+) -> u32
     requires tracks { Tracks n.now.net p.now }
     requires spots { AreSpots n.now.net size (parts_of p.now) spots.now }
+    requires gains { AreGains n.now.net p.now i gains.now }
     requires node { i < length n.now.net.nodes }
+    requires lead { IsLead n.now.net size p.now i lead }
     ensures { result ≡ place n.now.net size (parts_of p.now) i }
 {
     let start = part_of(n, p, i);
-    let mut lead = Lead {
-        place: start,
-        loss: loss_up_to(n, p, i, start, u64::MAX),
-    };
-    if is_settled(lead, start, 0) {
-        return start;
-    }
-    lead = consider_own_readers(n, p, size, i, lead);
+    let mut lead = consider_own_readers(n, p, gains, size, i, lead);
     let mut tried = 1;
     for x in p.sources.row(i) {
         if is_settled(lead, start, tried) {
             return lead.place;
         }
-        lead = consider_source(n, p, spots, size, i, lead, *x, tried);
+        lead = consider_source(n, p, spots, gains, size, i, lead, *x, tried);
         tried += 1;
     }
     lead.place
+}
+
+/// The partition that node i goes to, which is its own where no move lowers the cost.
+///
+/// Where the node loses many pairs, what it gains in each partition is counted once, rather than in each
+/// partition that is tried.
+pub fn place_of(
+    alloc: Global,
+    n: &FlatNet,
+    p: &Partitioning,
+    spots: &Spots,
+    size: u32,
+    i: u32,
+) -> Result<u32, OutOfMemory>
+    requires tracks { Tracks n.now.net p.now }
+    requires spots { AreSpots n.now.net size (parts_of p.now) spots.now }
+    requires node { i < length n.now.net.nodes }
+    ensures { IfOk result (λ q. q ≡ place n.now.net size (parts_of p.now) i) }
+{
+    let start = part_of(n, p, i);
+    let none = no_gains(alloc);
+    let lead = Lead {
+        place: start,
+        loss: loss_up_to(n, p, &none, i, start, u64::MAX),
+    };
+    if is_settled(lead, start, 0) {
+        return Ok(start);
+    }
+    if lead.loss <= 32 {
+        return Ok(best_place(n, p, spots, &none, size, i, lead));
+    }
+    let gains = gains_of(alloc, n, p, i)?;
+    Ok(best_place(n, p, spots, &gains, size, i, lead))
 }

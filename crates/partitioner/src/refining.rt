@@ -19,6 +19,7 @@ use tmr_base::{OutOfMemory, Parts};
 
 /// Moves node i to where it goes. Says whether it moved.
 fn move_node(
+    alloc: Global,
     n: &FlatNet,
     p: &mut Partitioning,
     spots: &mut Spots,
@@ -33,7 +34,7 @@ fn move_node(
     ensures parts { OnOk result (parts_of p.new ≡ move n.now.net size (parts_of p.old) i) }
     ensures still { IfOk result (λ moved. moved ≡ false → parts_of p.new ≡ parts_of p.old) }
 {
-    let place = place_of(n, p, spots, size, i);
+    let place = place_of(alloc, n, p, spots, size, i)?;
     if place == part_of(n, p, i) {
         return Ok(false);
     }
@@ -43,6 +44,7 @@ fn move_node(
 
 /// One pass over all nodes. Says whether a node moved.
 fn pass_once(
+    alloc: Global,
     n: &FlatNet,
     p: &mut Partitioning,
     spots: &mut Spots,
@@ -60,7 +62,7 @@ fn pass_once(
     }
     let mut moved = false;
     for i in 0..nodes_of(n) {
-        if move_node(n, p, spots, size, i)? {
+        if move_node(alloc, n, p, spots, size, i)? {
             moved = true;
         }
     }
@@ -69,6 +71,7 @@ fn pass_once(
 
 /// So many passes, ended after a pass without moves.
 fn pass_often(
+    alloc: Global,
     n: &FlatNet,
     p: &mut Partitioning,
     spots: &mut Spots,
@@ -83,7 +86,7 @@ fn pass_often(
 {
     let mut left = passes;
     while left > 0 {
-        if !pass_once(n, p, spots, size)? {
+        if !pass_once(alloc, n, p, spots, size)? {
             return Ok(());
         }
         left -= 1;
@@ -105,7 +108,7 @@ fn refined_parts(
     let mut p = track(alloc, n, parts)?;
     let mut spots = spots_of(alloc, n, &p)?;
     shut_full(n, &p, &mut spots, size);
-    pass_often(n, &mut p, &mut spots, size, passes)?;
+    pass_often(alloc, n, &mut p, &mut spots, size, passes)?;
     let Partitioning { count, of, .. } = p;
     Ok(Parts::make(count, of))
 }

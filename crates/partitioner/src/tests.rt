@@ -7,7 +7,7 @@ mod slow;
 
 use crate::{cost, is_minimal, plain, refine};
 use flat_net::FlatNet;
-use made::{INPUT, Made, design, made_nodes, wide_nodes};
+use made::{INPUT, Made, design, heavy_nodes, made_nodes, wide_nodes};
 use slow::{slow_cost, slow_is_minimal, slow_plain, slow_refined};
 use std::alloc::Global;
 use std::process::Abort;
@@ -302,6 +302,16 @@ fn nodes_that_many_read(rt: HostRuntime) -> Result<(), Fail> {
         for size in [4, 5] {
             compare(&rt, alloc, nodes.as_slice(), size, 2)?;
         }
+    }
+    Ok(())
+}
+
+#[test]
+fn nodes_that_read_many(rt: HostRuntime) -> Result<(), Fail> {
+    let alloc = rt.alloc();
+    for seed in 0..2 {
+        let nodes = heavy_nodes(alloc, seed)?;
+        compare(&rt, alloc, nodes.as_slice(), 15, 1)?;
     }
     Ok(())
 }

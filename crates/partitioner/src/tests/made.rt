@@ -137,3 +137,31 @@ pub fn wide_nodes(alloc: Global, seed: u64) -> Result<Vec<Made>, Fail> {
     }
     Ok(nodes)
 }
+
+/// Registers, and three tables in different partitions that read most of them. With an even seed most of
+/// the registers read node 0, else they read any nodes.
+pub fn heavy_nodes(alloc: Global, seed: u64) -> Result<Vec<Made>, Fail> {
+    let mut state = seed.wrapping_mul(0x9E37_79B9_7F4A_7C15);
+    let mut nodes = Vec::new(alloc);
+    for i in 0..60u64 {
+        let is_register = i % 20 != 7;
+        let mut pins = Vec::new(alloc);
+        if is_register {
+            let pick = next_number(&mut state);
+            let is_first = seed % 2 == 0 && pick % 8 != 0;
+            pins.push(if is_first {
+                0
+            } else {
+                (next_number(&mut state) % 60) as u32
+            })?;
+        } else {
+            for x in 0..60u64 {
+                if x % 20 != 7 && next_number(&mut state) % 8 != 0 {
+                    pins.push(x as u32)?;
+                }
+            }
+        }
+        nodes.push(Made { is_register, pins })?;
+    }
+    Ok(nodes)
+}

@@ -1,7 +1,7 @@
 use Rattle.std.proofs.Common.{◌≡◌, ◌+◌}
 use Rattle.partitioner.specs.Leading.{IsLead}
 use Rattle.partitioner.proofs.PlaceLaws.{LeadsOrMissed}
-use Rattle.partitioner.proofs.placing.place_of.Given as goal
+use Rattle.partitioner.proofs.placing.best_place.Given as goal
 
 abbrev pub invariant-loop-x : goal.invariant-loop-x
 invariant-loop-x l =

@@ -1,0 +1,193 @@
+-- Counting what is near in each partition.
+use Rattle.std.proofs.Common.{◌≡◌, ℕ, ◌+◌, ◌-◌, ◌<◌, ◌≤◌, ◌⊎◌, inl, inr, Bool, true, false, cond, eqb, not, ◌&&◌, ◌||◌, List, [], ◌∷◌, length, refl, sym, ◌∙◌, ap, arith, get_or, take}
+use Rattle.std.specs.List.{count_by, list_any}
+use Rattle.std.proofs.lemmas.Bool.{cases_Bool, eq-eqb, ne_eqb, true≢false, false≢true}
+use Rattle.std.proofs.lemmas.List.{length-take, take_all}
+use Rattle.std.proofs.lemmas.List.Folds.{list_any_more}
+use Rattle.std.proofs.lemmas.List.Sums.{sum_by-cons, sum_by_more, count_by-le-length}
+use Rattle.std.proofs.lemmas.List.Sorted.{length_permutation}
+use Rattle.flat_net.specs.Net.{Net}
+use Rattle.partitioner.specs.declared.partitioning.Partitioning.{Partitioning}
+use Rattle.partitioner.specs.declared.gains.Gains.{Gains}
+use Rattle.partitioner.specs.Below.{one_if}
+use Rattle.partitioner.specs.Counting.{count_at}
+use Rattle.partitioner.specs.Gaining.{AreGains, is_near}
+use Rattle.partitioner.specs.Loss.{is_kept}
+use Rattle.partitioner.specs.Reading.{reads_other, other_readers, other_sources}
+use Rattle.partitioner.specs.Tracking.{Tracks}
+use Rattle.partitioner.proofs.TrackLaws.{related_few}
+
+-- those that pass and those that do not are all
+count_both : (f : ℕ → Bool) (xs : List ℕ) → count_by (λ x. not (f x)) xs + count_by f xs ≡ length xs
+count_both f [] = refl
+count_both f (x ∷ xs) = go (f x) refl (count_both f xs)
+  where
+    go : (b : Bool) → f x ≡ b → count_by (λ y. not (f y)) xs + count_by f xs ≡ length xs → count_by (λ y. not (f y)) (x ∷ xs) + count_by f (x ∷ xs) ≡ length (x ∷ xs)
+    go true e before =
+        let fail : one_if (not (f x)) ≡ 0 = ap (λ (b : Bool). one_if (not b)) e in
+        let pass : one_if (f x) ≡ 1 = ap one_if e in
+        omega (arith, before, fail, pass, sum_by-cons (λ y. one_if (not (f y))) x xs, sum_by-cons (λ y. one_if (f y)) x xs)
+    go false e before =
+        let fail : one_if (not (f x)) ≡ 1 = ap (λ (b : Bool). one_if (not b)) e in
+        let pass : one_if (f x) ≡ 0 = ap one_if e in
+        omega (arith, before, fail, pass, sum_by-cons (λ y. one_if (not (f y))) x xs, sum_by-cons (λ y. one_if (f y)) x xs)
+
+-- so those that are not near are the rest
+pub missed_rest : (f : ℕ → Bool) (row : List ℕ) (k near : ℕ) → k ≤ length row → near ≡ count_by (λ x. not (f x)) (take k row) → (near ≤ k) × (k - near ≡ count_by f (take k row))
+missed_rest f row k near l is =
+    let both = count_both f (take k row) in
+    let long = length-take k row in
+    let few : length (take k row) ≡ k = omega (arith, long, l) in
+    (omega (arith, is, both, few), omega (arith, is, both, few))
+
+-- the counts within a turn, in which some partitions were met
+pub record InTurn (before near last : ℕ → ℕ) (turn : ℕ) (met : ℕ → Bool) : Type 0 where
+  pub near_is : (r : ℕ) → near r ≡ before r + one_if (met r)
+  pub now : (r : ℕ) → met r ≡ true → last r ≡ turn
+  pub past : (r : ℕ) → met r ≡ false → last r < turn
+
+pub turn_begins : (near last : ℕ → ℕ) (turn : ℕ) → ((r : ℕ) → last r < turn) → InTurn near near last turn (λ r. false)
+turn_begins near last turn low = record {
+  near_is = λ r. plus_none (near r);
+  now = λ r e. absurd (false≢true e);
+  past = λ r e. low r;
+}
+  where
+    plus_none : (a : ℕ) → a ≡ a + 0
+    plus_none a = omega arith
+
+pub turn_same : (before near last : ℕ → ℕ) (turn : ℕ) (met after : ℕ → Bool) → ((r : ℕ) → after r ≡ met r) → InTurn before near last turn met → InTurn before near last turn after
+turn_same before near last turn met after same is = record {
+  near_is = λ r. is.near_is r ∙ ap (λ (b : Bool). before r + one_if b) (sym (same r));
+  now = λ r e. is.now r (sym (same r) ∙ e);
+  past = λ r e. is.past r (sym (same r) ∙ e);
+}
+
+pub turn_goes_on : (before near last near' last' : ℕ → ℕ) (turn q : ℕ) (met after : ℕ → Bool) → InTurn before near last turn met → ((r : ℕ) → near' r ≡ near r + one_if (eqb q r && not (eqb (last r) turn))) → ((r : ℕ) → last' r ≡ cond (eqb q r) turn (last r)) → ((r : ℕ) → after r ≡ (met r || eqb q r)) → InTurn before near' last' turn after
+turn_goes_on before near last near' last' turn q met after is more latest same = record {
+  near_is = λ r. near_at r (cases_Bool (met r));
+  now = λ r e. now_at r (cases_Bool (met r)) (sym (same r) ∙ e);
+  past = λ r e. past_at r (cases_Bool (met r)) (sym (same r) ∙ e);
+}
+  where
+    none : (b : Bool) → (b && false) ≡ false
+    none true = refl
+    none false = refl
+
+    whole : (b : Bool) → (b && true) ≡ b
+    whole true = refl
+    whole false = refl
+
+    near_at : (r : ℕ) → (met r ≡ true) ⊎ (met r ≡ false) → near' r ≡ before r + one_if (after r)
+    near_at r (inl e) =
+        let so : one_if (met r) ≡ 1 = ap one_if e in
+        let still : one_if (after r) ≡ 1 = ap one_if (same r ∙ ap (λ (b : Bool). b || eqb q r) e) in
+        let added : one_if (eqb q r && not (eqb (last r) turn)) ≡ 0 = ap (λ (b : Bool). one_if (eqb q r && not b)) (eq-eqb (last r) turn (is.now r e)) ∙ ap one_if (none (eqb q r)) in
+        omega (arith, so, still, added, more r, is.near_is r)
+    near_at r (inr e) =
+        let so : one_if (met r) ≡ 0 = ap one_if e in
+        let still : one_if (after r) ≡ one_if (eqb q r) = ap one_if (same r ∙ ap (λ (b : Bool). b || eqb q r) e) in
+        let added : one_if (eqb q r && not (eqb (last r) turn)) ≡ one_if (eqb q r) =
+        ap (λ (b : Bool). one_if (eqb q r && not b)) (ne_eqb (last r) turn (λ f. omega (arith, f, is.past r e))) ∙ ap one_if (whole (eqb q r)) in
+        omega (arith, so, still, added, more r, is.near_is r)
+
+    now_at : (r : ℕ) → (met r ≡ true) ⊎ (met r ≡ false) → (met r || eqb q r) ≡ true → last' r ≡ turn
+    now_at r (inl e) any = latest r ∙ at (eqb q r)
+      where
+        at : (b : Bool) → cond b turn (last r) ≡ turn
+        at true = refl
+        at false = is.now r e
+    now_at r (inr e) any = latest r ∙ ap (λ (b : Bool). cond b turn (last r)) (sym (ap (λ (b : Bool). b || eqb q r) e) ∙ any)
+
+    past_at : (r : ℕ) → (met r ≡ true) ⊎ (met r ≡ false) → (met r || eqb q r) ≡ false → last' r < turn
+    past_at r (inl e) none = absurd (true≢false (sym (ap (λ (b : Bool). b || eqb q r) e) ∙ none))
+    past_at r (inr e) none =
+        let stays : last' r ≡ last r = latest r ∙ ap (λ (b : Bool). cond b turn (last r)) (sym (ap (λ (b : Bool). b || eqb q r) e) ∙ none) in
+        omega (arith, stays, is.past r e)
+
+-- the partitions of node x and, beside i, of its first m readers
+abbrev pub met_of : List ℕ → ℕ → ℕ → List ℕ → ℕ → ℕ → Bool
+met_of of i x row m r = eqb (get_or of x 0) r || list_any (λ y. not (eqb i y) && eqb (get_or of y 0) r) (take m row)
+
+pub met_first : (of : List ℕ) (i x : ℕ) (row : List ℕ) (q r : ℕ) → q ≡ get_or of x 0 → met_of of i x row 0 r ≡ (false || eqb q r)
+met_first of i x row q r e = or_none (eqb (get_or of x 0) r) ∙ ap (λ (k : ℕ). eqb k r) (sym e)
+  where
+    or_none : (b : Bool) → (b || false) ≡ b
+    or_none true = refl
+    or_none false = refl
+
+or_or : (a b c : Bool) → (a || (b || c)) ≡ ((a || b) || c)
+or_or true b c = refl
+or_or false b c = refl
+
+pub met_more : (of : List ℕ) (i x : ℕ) (row : List ℕ) (m q r : ℕ) → m < length row → (get_or row m 0 ≡ i → ⊥) → q ≡ get_or of (get_or row m 0) 0 → met_of of i x row (m + 1) r ≡ (met_of of i x row m r || eqb q r)
+met_more of i x row m q r l ne e =
+    ap (λ (b : Bool). eqb (get_or of x 0) r || b) (list_any_more (λ y. not (eqb i y) && eqb (get_or of y 0) r) row m 0 l
+    ∙ ap (λ (b : Bool). list_any (λ y. not (eqb i y) && eqb (get_or of y 0) r) (take m row) || b) (ap (λ (b : Bool). not b && eqb (get_or of (get_or row m 0) 0) r) (ne_eqb i (get_or row m 0) (λ f. ne (sym f))) ∙ ap (λ (k : ℕ). eqb k r) (sym e)))
+    ∙ or_or (eqb (get_or of x 0) r) (list_any (λ y. not (eqb i y) && eqb (get_or of y 0) r) (take m row)) (eqb q r)
+
+pub met_skipped : (of : List ℕ) (i x : ℕ) (row : List ℕ) (m r : ℕ) → m < length row → get_or row m 0 ≡ i → met_of of i x row (m + 1) r ≡ met_of of i x row m r
+met_skipped of i x row m r l e =
+    ap (λ (b : Bool). eqb (get_or of x 0) r || b) (list_any_more (λ y. not (eqb i y) && eqb (get_or of y 0) r) row m 0 l
+    ∙ (ap (λ (b : Bool). list_any (λ y. not (eqb i y) && eqb (get_or of y 0) r) (take m row) || (not b && eqb (get_or of (get_or row m 0) 0) r)) (eq-eqb i (get_or row m 0) (sym e))
+    ∙ or_none (list_any (λ y. not (eqb i y) && eqb (get_or of y 0) r) (take m row))))
+  where
+    or_none : (b : Bool) → (b || false) ≡ b
+    or_none true = refl
+    or_none false = refl
+
+pub met_all : (n : Net) (of : List ℕ) (i x : ℕ) (row : List ℕ) (m r : ℕ) → length row ≤ m → row ≡ other_readers n x → is_near n of i r x ≡ met_of of i x row m r
+met_all n of i x row m r past is =
+    either (eqb (get_or of x 0) r) (is_kept n of i x r)
+    ∙ ap (λ (xs : List ℕ). eqb (get_or of x 0) r || list_any (λ y. not (eqb i y) && eqb (get_or of y 0) r) xs) (sym (take_all m row past ∙ is))
+  where
+    either : (a b : Bool) → not (not a && not b) ≡ (a || b)
+    either true b = refl
+    either false true = refl
+    either false false = refl
+
+-- a turn at its end
+pub turn_near : (n : Net) (of : List ℕ) (i x : ℕ) (row : List ℕ) (m turn : ℕ) (before near last : ℕ → ℕ) → length row ≤ m → row ≡ other_readers n x → InTurn before near last turn (met_of of i x row m) → (q : ℕ) → near q ≡ before q + one_if (is_near n of i q x)
+turn_near n of i x row m turn before near last past is turned q = turned.near_is q ∙ ap (λ (b : Bool). before q + one_if b) (sym (met_all n of i x row m q past is))
+
+pub turn_last : (before near last : ℕ → ℕ) (turn : ℕ) (met : ℕ → Bool) → InTurn before near last turn met → (q : ℕ) → last q ≤ turn
+turn_last before near last turn met turned q = at (cases_Bool (met q))
+  where
+    at : (met q ≡ true) ⊎ (met q ≡ false) → last q ≤ turn
+    at (inl e) = omega (arith, turned.now q e)
+    at (inr e) = omega (arith, turned.past q e)
+
+-- a turn has few
+pub turn_few : (before near last : ℕ → ℕ) (turn : ℕ) (met : ℕ → Bool) (q : ℕ) → InTurn before near last turn met → before q < 4294967294 → near q < 4294967295
+turn_few before near last turn met q turned few = omega (arith, turned.near_is q, one_if_few (met q), few)
+  where
+    one_if_few : (b : Bool) → one_if b ≤ 1
+    one_if_few true = omega arith
+    one_if_few false = omega arith
+
+-- the counts after j turns
+pub record Gained (n : Net) (p : Partitioning) (i : ℕ) (row : List ℕ) (gains : Gains) (j : ℕ) : Type 0 where
+  pub counted : gains.counted ≡ j
+  pub near : (q : ℕ) → count_at gains.near i q ≡ count_by (is_near n p.of.items i q) (take j row)
+  pub last : (q : ℕ) → count_at gains.last i q ≤ j
+
+pub gained_few : (n : Net) (p : Partitioning) (i : ℕ) (row : List ℕ) (gains : Gains) (j q : ℕ) → Gained n p i row gains j → count_at gains.near i q ≤ j
+gained_few n p i row gains j q is = omega (arith, is.near q, count_by-le-length (is_near n p.of.items i q) (take j row), length-take j row)
+
+pub gained_more : (n : Net) (p : Partitioning) (i : ℕ) (row : List ℕ) (old new : Gains) (j : ℕ) → Gained n p i row old j → j < length row → new.counted ≡ j + 1 → ((q : ℕ) → count_at new.near i q ≡ count_at old.near i q + one_if (is_near n p.of.items i q (get_or row j 0))) → ((q : ℕ) → count_at new.last i q ≤ j + 1) → Gained n p i row new (j + 1)
+gained_more n p i row old new j is l counted near last = record {
+  counted = counted;
+  near = λ q. omega (arith, near q, is.near q, sum_by_more (λ x. one_if (is_near n p.of.items i q x)) row j 0 l);
+  last = last;
+}
+
+pub gained_gains : (n : Net) (p : Partitioning) (i : ℕ) (row : List ℕ) (gains : Gains) (j : ℕ) → row ≡ get_or p.sources i [] → j ≤ length row → Gained n p i row gains j → AreGains n p i gains
+gained_gains n p i row gains j at l is = record {
+  within = omega (arith, is.counted, l, ap length at);
+  near = λ q. is.near q ∙ (ap (λ (k : ℕ). count_by (is_near n p.of.items i q) (take k row)) (sym is.counted) ∙ ap (λ (xs : List ℕ). count_by (is_near n p.of.items i q) (take gains.counted xs)) at);
+}
+
+-- a node reads few others
+pub sources_few : (n : Net) (p : Partitioning) (i : ℕ) → Tracks n p → i < length n.nodes → length (get_or p.sources i []) ≤ length n.nodes
+sources_few n p i tracks l =
+    omega (arith, length_permutation (other_sources n i) (get_or p.sources i []) (tracks.sources i l), related_few (λ z y. reads_other n y z) (length n.nodes) i)
