@@ -1,7 +1,8 @@
 -- Counting what is near in each partition.
-use Rattle.std.proofs.Common.{◌≡◌, ℕ, ◌+◌, ◌-◌, ◌<◌, ◌≤◌, ◌⊎◌, inl, inr, Bool, true, false, cond, eqb, not, ◌&&◌, ◌||◌, List, [], ◌∷◌, length, refl, sym, ◌∙◌, ap, arith, get_or, take}
+use Rattle.std.proofs.Common.{◌≡◌, ℕ, ◌+◌, ◌-◌, ◌<◌, ◌≤◌, ◌⊎◌, inl, inr, Bool, true, false, cond, eqb, ltb, not, ◌&&◌, ◌||◌, List, [], ◌∷◌, length, refl, sym, ◌∙◌, ap, arith, get_or, take}
 use Rattle.std.specs.List.{count_by, list_any}
-use Rattle.std.proofs.lemmas.Bool.{cases_Bool, eq-eqb, ne_eqb, true≢false, false≢true}
+use Rattle.std.proofs.lemmas.Bool.Decides.{nat_tests}
+use Rattle.std.proofs.lemmas.Bool.{cases_Bool, eq-eqb, lt-ltb, ne_eqb, true≢false, false≢true}
 use Rattle.std.proofs.lemmas.List.{length-take, take_all}
 use Rattle.std.proofs.lemmas.List.Folds.{list_any_more}
 use Rattle.std.proofs.lemmas.List.Sums.{sum_by-cons, sum_by_more, count_by-le-length}
@@ -10,9 +11,8 @@ use Rattle.flat_net.specs.Net.{Net}
 use Rattle.partitioner.specs.declared.partitioning.Partitioning.{Partitioning}
 use Rattle.partitioner.specs.declared.gains.Gains.{Gains}
 use Rattle.partitioner.specs.Below.{one_if}
-use Rattle.partitioner.specs.Counting.{count_at}
-use Rattle.partitioner.specs.Gaining.{AreGains, is_near}
-use Rattle.partitioner.specs.Loss.{is_kept}
+use Rattle.partitioner.specs.Gaining.{AreBegun, AreGains, AreKept, is_near, last_in, near_in}
+use Rattle.partitioner.specs.Loss.{is_fresh, is_kept}
 use Rattle.partitioner.specs.Reading.{reads_other, other_readers, other_sources}
 use Rattle.partitioner.specs.Tracking.{Tracks}
 use Rattle.partitioner.proofs.TrackLaws.{related_few}
@@ -146,6 +146,15 @@ met_all n of i x row m r past is =
     either false true = refl
     either false false = refl
 
+-- a turn in which some partitions were met
+pub record IsTurned (old new : Gains) (count : ℕ) (met : ℕ → Bool) : Type 0 where
+  pub turned : InTurn (near_in old) (near_in new) (last_in new) old.turn met
+  pub counted : new.counted ≡ old.counted
+  pub from : new.from ≡ old.from
+  pub turn : new.turn ≡ old.turn
+  pub near_long : length new.near.items ≡ count
+  pub last_long : length new.last.items ≡ count
+
 -- a turn at its end
 pub turn_near : (n : Net) (of : List ℕ) (i x : ℕ) (row : List ℕ) (m turn : ℕ) (before near last : ℕ → ℕ) → length row ≤ m → row ≡ other_readers n x → InTurn before near last turn (met_of of i x row m) → (q : ℕ) → near q ≡ before q + one_if (is_near n of i q x)
 turn_near n of i x row m turn before near last past is turned q = turned.near_is q ∙ ap (λ (b : Bool). before q + one_if b) (sym (met_all n of i x row m q past is))
@@ -167,18 +176,55 @@ turn_few before near last turn met q turned few = omega (arith, turned.near_is q
 
 -- the counts after j turns
 pub record Gained (n : Net) (p : Partitioning) (i : ℕ) (row : List ℕ) (gains : Gains) (j : ℕ) : Type 0 where
+  pub kept : AreKept p.count gains
   pub counted : gains.counted ≡ j
-  pub near : (q : ℕ) → count_at gains.near i q ≡ count_by (is_near n p.of.items i q) (take j row)
-  pub last : (q : ℕ) → count_at gains.last i q ≤ j
+  pub turn : gains.turn ≡ gains.from + j
+  pub few : gains.from ≤ 9223372036854775808
+  pub near : (q : ℕ) → near_in gains q ≡ count_by (is_near n p.of.items i q) (take j row)
 
-pub gained_few : (n : Net) (p : Partitioning) (i : ℕ) (row : List ℕ) (gains : Gains) (j q : ℕ) → Gained n p i row gains j → count_at gains.near i q ≤ j
+pub none_near : (from last near : ℕ) → last ≤ from → cond (ltb from last) near 0 ≡ 0
+none_near from last near l = ap (λ (b : Bool). cond b near 0) (ltb_past from last l)
+  where
+    ltb_past : (from last : ℕ) → last ≤ from → ltb from last ≡ false
+    ltb_past from last l = grind (arith, nat_tests)
+
+pub some_near : (from last near : ℕ) → from < last → cond (ltb from last) near 0 ≡ near
+some_near from last near l = ap (λ (b : Bool). cond b near 0) (lt-ltb from last l)
+
+-- what is not near, where something was counted and where nothing was
+pub missed_some : (n : Net) (p : Partitioning) (i q : ℕ) (gains : Gains) → AreGains n p i gains → gains.from < last_in gains q
+    → (get_or gains.near.items q 0 ≤ gains.counted) × (gains.counted - get_or gains.near.items q 0 ≡ count_by (λ x. is_fresh n p.of.items i x q) (take gains.counted (get_or p.sources i [])))
+missed_some n p i q gains is l =
+    missed_rest (λ x. is_fresh n p.of.items i x q) (get_or p.sources i []) gains.counted (get_or gains.near.items q 0) is.within
+    (sym (some_near gains.from (last_in gains q) (get_or gains.near.items q 0) l) ∙ is.near q)
+
+pub missed_all : (n : Net) (p : Partitioning) (i q : ℕ) (gains : Gains) → AreGains n p i gains → last_in gains q ≤ gains.from → gains.counted ≡ count_by (λ x. is_fresh n p.of.items i x q) (take gains.counted (get_or p.sources i []))
+missed_all n p i q gains is l =
+    less_none gains.counted
+    ∙ (missed_rest (λ x. is_fresh n p.of.items i x q) (get_or p.sources i []) gains.counted 0 is.within (sym (none_near gains.from (last_in gains q) (get_or gains.near.items q 0) l) ∙ is.near q)).1
+  where
+    less_none : (a : ℕ) → a ≡ a - 0
+    less_none a = omega arith
+
+pub gained_first : (n : Net) (p : Partitioning) (i : ℕ) (row : List ℕ) (gains : Gains) → AreBegun p.count gains → Gained n p i row gains 0
+gained_first n p i row gains is = record {
+  kept = is.kept;
+  counted = is.none;
+  turn = omega (arith, is.now);
+  few = omega (arith, is.now, is.few);
+  near = λ q. none_near gains.from (last_in gains q) (get_or gains.near.items q 0) (omega (arith, is.kept.past q, is.now));
+}
+
+pub gained_few : (n : Net) (p : Partitioning) (i : ℕ) (row : List ℕ) (gains : Gains) (j q : ℕ) → Gained n p i row gains j → near_in gains q ≤ j
 gained_few n p i row gains j q is = omega (arith, is.near q, count_by-le-length (is_near n p.of.items i q) (take j row), length-take j row)
 
-pub gained_more : (n : Net) (p : Partitioning) (i : ℕ) (row : List ℕ) (old new : Gains) (j : ℕ) → Gained n p i row old j → j < length row → new.counted ≡ j + 1 → ((q : ℕ) → count_at new.near i q ≡ count_at old.near i q + one_if (is_near n p.of.items i q (get_or row j 0))) → ((q : ℕ) → count_at new.last i q ≤ j + 1) → Gained n p i row new (j + 1)
-gained_more n p i row old new j is l counted near last = record {
-  counted = counted;
+pub gained_more : (n : Net) (p : Partitioning) (i : ℕ) (row : List ℕ) (old new : Gains) (j : ℕ) → Gained n p i row old j → j < length row → AreKept p.count new → new.counted ≡ old.counted + 1 → new.from ≡ old.from → new.turn ≡ old.turn + 1 → ((q : ℕ) → near_in new q ≡ near_in old q + one_if (is_near n p.of.items i q (get_or row j 0))) → Gained n p i row new (j + 1)
+gained_more n p i row old new j is l kept counted from turn near = record {
+  kept = kept;
+  counted = omega (arith, counted, is.counted);
+  turn = omega (arith, turn, from, is.turn);
+  few = omega (arith, from, is.few);
   near = λ q. omega (arith, near q, is.near q, sum_by_more (λ x. one_if (is_near n p.of.items i q x)) row j 0 l);
-  last = last;
 }
 
 pub gained_gains : (n : Net) (p : Partitioning) (i : ℕ) (row : List ℕ) (gains : Gains) (j : ℕ) → row ≡ get_or p.sources i [] → j ≤ length row → Gained n p i row gains j → AreGains n p i gains

@@ -2,7 +2,7 @@
 ghost use Rattle.std.specs.Prelude.{◌≡◌, ◌<◌, ◌≤◌, ◌==◌, ℕ, Bool, true, length, slice_index, All, count_by};
 ghost use Rattle.flat_net.specs.Net.{Net};
 ghost use Rattle.partitioner.specs.Below.{one_if};
-ghost use Rattle.partitioner.specs.Gaining.{AreGains};
+ghost use Rattle.partitioner.specs.Gaining.{AreGains, AreKept};
 ghost use Rattle.partitioner.specs.Reading.{reads_other};
 ghost use Rattle.partitioner.specs.Loss.{is_fresh, is_wanted, loss};
 ghost use Rattle.partitioner.specs.Tracking.{Tracks, reader_count};
@@ -68,6 +68,7 @@ fn is_wanted(n: &FlatNet, p: &Partitioning, i: u32, q: u32) -> bool
 /// The loss of node i in partition q, or where it is above `most`, some number above `most`.
 pub fn loss_up_to(n: &FlatNet, p: &Partitioning, gains: &Gains, i: u32, q: u32, most: u64) -> u64
     requires tracks { Tracks n.now.net p.now }
+    requires kept { AreKept p.now.count gains.now }
     requires gains { AreGains n.now.net p.now i gains.now }
     requires node { i < length n.now.net.nodes }
     requires partition { q < p.now.count }

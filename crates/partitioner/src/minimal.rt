@@ -4,7 +4,9 @@ ghost use Rattle.partitioner.specs.Sizes.{KeepsSize};
 ghost use Rattle.partitioner.specs.Refining.{IsMinimal};
 ghost use Rattle.partitioner.specs.Tracking.{Tracks, parts_of};
 ghost use Rattle.partitioner.specs.Spotting.{AreSpots};
+ghost use Rattle.partitioner.specs.Gaining.{AreKept};
 
+use crate::gains::{Gains, no_gains};
 use crate::nodes::nodes_of;
 use crate::partitioning::Partitioning;
 use crate::placing::{part_of, place_of, some_room};
@@ -15,27 +17,21 @@ use std::alloc::Global;
 use tmr_base::{OutOfMemory, Parts};
 
 /// Each node goes to where it stands.
-fn all_stay(
-    alloc: Global,
-    n: &FlatNet,
-    p: &Partitioning,
-    spots: &Spots,
-    size: u32,
-) -> Result<bool, OutOfMemory>
+fn all_stay(n: &FlatNet, p: &Partitioning, spots: &Spots, gains: &mut Gains, size: u32) -> bool
     requires tracks { Tracks n.now.net p.now }
     requires spots { AreSpots n.now.net size (parts_of p.now) spots.now }
-    ensures { IfOk result (λ minimal. IsTrue minimal ↔ IsMinimal n.now.net size (parts_of p.now)) }
+    requires kept { AreKept p.now.count gains.old }
+    ensures { IsTrue result ↔ IsMinimal n.now.net size (parts_of p.now) }
 {
     if !some_room(n, p, size) {
-        return Ok(true);
+        return true;
     }
     for i in 0..nodes_of(n) {
-        let place = place_of(alloc, n, p, spots, size, i)?;
-        if place != part_of(n, p, i) {
-            return Ok(false);
+        if place_of(n, p, spots, gains, size, i) != part_of(n, p, i) {
+            return false;
         }
     }
-    Ok(true)
+    true
 }
 
 /// No single node moved to a partition with room lowers the cost. `parts` keeps the rule of sizes.
@@ -47,6 +43,6 @@ pub fn is_minimal(alloc: Global, n: &FlatNet, parts: &Parts, size: u32) -> Resul
     let p = track(alloc, n, parts)?;
     let mut spots = spots_of(alloc, n, &p)?;
     shut_full(n, &p, &mut spots, size);
-    let minimal = all_stay(alloc, n, &p, &spots, size)?;
-    Ok(minimal)
+    let mut gains = no_gains(alloc, p.count)?;
+    Ok(all_stay(n, &p, &spots, &mut gains, size))
 }

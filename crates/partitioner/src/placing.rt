@@ -1,21 +1,19 @@
 //! Where a node goes.
-ghost use Rattle.std.specs.Prelude.{◌≡◌, ◌<◌, ◌≤◌, ◌==◌, ℕ, Bool, true, false, length, slice_index, IfOk};
+ghost use Rattle.std.specs.Prelude.{◌≡◌, ◌<◌, ◌≤◌, ◌==◌, ℕ, Bool, true, false, length, slice_index};
 ghost use Rattle.flat_net.specs.Net.{Net};
 ghost use Rattle.partitioner.specs.Reading.{is_wide};
 ghost use Rattle.partitioner.specs.Refining.{has_room, place};
 ghost use Rattle.partitioner.specs.Tracking.{Tracks, parts_of};
 ghost use Rattle.partitioner.specs.Spotting.{AreSpots};
-ghost use Rattle.partitioner.specs.Gaining.{AreGains};
+ghost use Rattle.partitioner.specs.Gaining.{AreGains, AreKept};
 ghost use Rattle.partitioner.specs.Leading.{HasNoRoom, IsLead, Leads, LeadsOpen, LeadsOrLoses, LeadsReaders, is_better, is_settled, start_of};
 
-use crate::gains::{Gains, gains_of, no_gains};
+use crate::gains::{Gains, begin, count_gains};
 use crate::losses::loss_up_to;
 use crate::partitioning::Partitioning;
 use crate::spots::Spots;
 use crate::wide::is_wide;
 use flat_net::FlatNet;
-use std::alloc::Global;
-use tmr_base::OutOfMemory;
 
 /// The best partition so far for a node, and the node's loss there.
 #[derive(Clone, Copy, Drop)]
@@ -68,6 +66,7 @@ fn consider(
     q: u32,
 ) -> Lead
     requires tracks { Tracks n.now.net p.now }
+    requires kept { AreKept p.now.count gains.now }
     requires gains { AreGains n.now.net p.now i gains.now }
     requires node { i < length n.now.net.nodes }
     requires partition { q < p.now.count }
@@ -102,6 +101,7 @@ fn consider_readers(
     x: u32,
 ) -> Lead
     requires tracks { Tracks n.now.net p.now }
+    requires kept { AreKept p.now.count gains.now }
     requires gains { AreGains n.now.net p.now i gains.now }
     requires node { i < length n.now.net.nodes }
     requires read { x < length n.now.net.nodes }
@@ -145,6 +145,7 @@ fn consider_spots(
 ) -> Lead
     requires tracks { Tracks n.now.net p.now }
     requires spots { AreSpots n.now.net size (parts_of p.now) spots.now }
+    requires kept { AreKept p.now.count gains.now }
     requires gains { AreGains n.now.net p.now i gains.now }
     requires node { i < length n.now.net.nodes }
     requires read { x < length n.now.net.nodes }
@@ -177,6 +178,7 @@ fn consider_own_readers(
     lead: Lead,
 ) -> Lead
     requires tracks { Tracks n.now.net p.now }
+    requires kept { AreKept p.now.count gains.now }
     requires gains { AreGains n.now.net p.now i gains.now }
     requires node { i < length n.now.net.nodes }
     requires lead { IsLead n.now.net size p.now i lead }
@@ -201,6 +203,7 @@ fn consider_source(
 ) -> Lead
     requires tracks { Tracks n.now.net p.now }
     requires spots { AreSpots n.now.net size (parts_of p.now) spots.now }
+    requires kept { AreKept p.now.count gains.now }
     requires gains { AreGains n.now.net p.now i gains.now }
     requires node { i < length n.now.net.nodes }
     requires read { x < length n.now.net.nodes }
@@ -234,6 +237,7 @@ fn best_place(
 ) -> u32
     requires tracks { Tracks n.now.net p.now }
     requires spots { AreSpots n.now.net size (parts_of p.now) spots.now }
+    requires kept { AreKept p.now.count gains.now }
     requires gains { AreGains n.now.net p.now i gains.now }
     requires node { i < length n.now.net.nodes }
     requires lead { IsLead n.now.net size p.now i lead }
@@ -254,33 +258,34 @@ fn best_place(
 
 /// The partition that node i goes to, which is its own where no move lowers the cost.
 ///
-/// Where the node loses many pairs, what it gains in each partition is counted once, rather than in each
-/// partition that is tried.
+/// Where the node loses more than a few pairs, what it gains in each partition is counted once, rather
+/// than in each partition that is tried.
 pub fn place_of(
-    alloc: Global,
     n: &FlatNet,
     p: &Partitioning,
     spots: &Spots,
+    gains: &mut Gains,
     size: u32,
     i: u32,
-) -> Result<u32, OutOfMemory>
+) -> u32
     requires tracks { Tracks n.now.net p.now }
     requires spots { AreSpots n.now.net size (parts_of p.now) spots.now }
+    requires kept { AreKept p.now.count gains.old }
     requires node { i < length n.now.net.nodes }
-    ensures { IfOk result (λ q. q ≡ place n.now.net size (parts_of p.now) i) }
+    ensures place { result ≡ place n.now.net size (parts_of p.now) i }
+    ensures kept { AreKept p.now.count gains.new }
 {
     let start = part_of(n, p, i);
-    let none = no_gains(alloc);
+    begin(gains, p.count);
     let lead = Lead {
         place: start,
-        loss: loss_up_to(n, p, &none, i, start, u64::MAX),
+        loss: loss_up_to(n, p, gains, i, start, u64::MAX),
     };
     if is_settled(lead, start, 0) {
-        return Ok(start);
+        return start;
     }
-    if lead.loss <= 32 {
-        return Ok(best_place(n, p, spots, &none, size, i, lead));
+    if lead.loss > 8 {
+        count_gains(n, p, gains, i);
     }
-    let gains = gains_of(alloc, n, p, i)?;
-    Ok(best_place(n, p, spots, &gains, size, i, lead))
+    best_place(n, p, spots, gains, size, i, lead)
 }

@@ -6,7 +6,9 @@ ghost use Rattle.partitioner.specs.Sizes.{KeepsSize};
 ghost use Rattle.partitioner.specs.Refining.{move, pass, refined};
 ghost use Rattle.partitioner.specs.Tracking.{Tracks, parts_of};
 ghost use Rattle.partitioner.specs.Spotting.{AreSpots};
+ghost use Rattle.partitioner.specs.Gaining.{AreKept};
 
+use crate::gains::{Gains, no_gains};
 use crate::moving::move_to;
 use crate::nodes::nodes_of;
 use crate::partitioning::Partitioning;
@@ -19,22 +21,24 @@ use tmr_base::{OutOfMemory, Parts};
 
 /// Moves node i to where it goes. Says whether it moved.
 fn move_node(
-    alloc: Global,
     n: &FlatNet,
     p: &mut Partitioning,
     spots: &mut Spots,
+    gains: &mut Gains,
     size: u32,
     i: u32,
 ) -> Result<bool, OutOfMemory>
     requires tracks { Tracks n.now.net p.old }
     requires spots { AreSpots n.now.net size (parts_of p.old) spots.old }
+    requires kept { AreKept p.old.count gains.old }
     requires node { i < length n.now.net.nodes }
     ensures tracks { OnOk result (Tracks n.now.net p.new) }
     ensures spots { OnOk result (AreSpots n.now.net size (parts_of p.new) spots.new) }
+    ensures kept { OnOk result (AreKept p.new.count gains.new) }
     ensures parts { OnOk result (parts_of p.new ≡ move n.now.net size (parts_of p.old) i) }
     ensures still { IfOk result (λ moved. moved ≡ false → parts_of p.new ≡ parts_of p.old) }
 {
-    let place = place_of(alloc, n, p, spots, size, i)?;
+    let place = place_of(n, p, spots, gains, size, i);
     if place == part_of(n, p, i) {
         return Ok(false);
     }
@@ -44,16 +48,18 @@ fn move_node(
 
 /// One pass over all nodes. Says whether a node moved.
 fn pass_once(
-    alloc: Global,
     n: &FlatNet,
     p: &mut Partitioning,
     spots: &mut Spots,
+    gains: &mut Gains,
     size: u32,
 ) -> Result<bool, OutOfMemory>
     requires tracks { Tracks n.now.net p.old }
     requires spots { AreSpots n.now.net size (parts_of p.old) spots.old }
+    requires kept { AreKept p.old.count gains.old }
     ensures tracks { OnOk result (Tracks n.now.net p.new) }
     ensures spots { OnOk result (AreSpots n.now.net size (parts_of p.new) spots.new) }
+    ensures kept { OnOk result (AreKept p.new.count gains.new) }
     ensures parts { OnOk result (parts_of p.new ≡ pass n.now.net size (parts_of p.old)) }
     ensures still { IfOk result (λ moved. moved ≡ false → parts_of p.new ≡ parts_of p.old) }
 {
@@ -62,7 +68,7 @@ fn pass_once(
     }
     let mut moved = false;
     for i in 0..nodes_of(n) {
-        if move_node(alloc, n, p, spots, size, i)? {
+        if move_node(n, p, spots, gains, size, i)? {
             moved = true;
         }
     }
@@ -71,22 +77,24 @@ fn pass_once(
 
 /// So many passes, ended after a pass without moves.
 fn pass_often(
-    alloc: Global,
     n: &FlatNet,
     p: &mut Partitioning,
     spots: &mut Spots,
+    gains: &mut Gains,
     size: u32,
     passes: u32,
 ) -> Result<(), OutOfMemory>
     requires tracks { Tracks n.now.net p.old }
     requires spots { AreSpots n.now.net size (parts_of p.old) spots.old }
+    requires kept { AreKept p.old.count gains.old }
     ensures tracks { OnOk result (Tracks n.now.net p.new) }
     ensures spots { OnOk result (AreSpots n.now.net size (parts_of p.new) spots.new) }
+    ensures kept { OnOk result (AreKept p.new.count gains.new) }
     ensures parts { OnOk result (parts_of p.new ≡ refined n.now.net size (parts_of p.old) passes) }
 {
     let mut left = passes;
     while left > 0 {
-        if !pass_once(alloc, n, p, spots, size)? {
+        if !pass_once(n, p, spots, gains, size)? {
             return Ok(());
         }
         left -= 1;
@@ -108,7 +116,8 @@ fn refined_parts(
     let mut p = track(alloc, n, parts)?;
     let mut spots = spots_of(alloc, n, &p)?;
     shut_full(n, &p, &mut spots, size);
-    pass_often(alloc, n, &mut p, &mut spots, size, passes)?;
+    let mut gains = no_gains(alloc, p.count)?;
+    pass_often(n, &mut p, &mut spots, &mut gains, size, passes)?;
     let Partitioning { count, of, .. } = p;
     Ok(Parts::make(count, of))
 }

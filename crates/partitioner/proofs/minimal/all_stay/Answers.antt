@@ -4,16 +4,16 @@ use Rattle.partitioner.specs.Tracking.{parts_of}
 use Rattle.partitioner.proofs.MinimalLaws.{all_stay_minimal, mover_not_minimal}
 use Rattle.partitioner.proofs.minimal.all_stay.Goals as goal
 
-pub returns-then-place-part_of : goal.returns-then-place-part_of
-returns-then-place-part_of c = (
+pub returns-then-place_of-part_of : goal.returns-then-place_of-part_of
+returns-then-place_of-part_of c = (
   λ h. absurd (false≢true h),
   λ minimal. absurd (mover_not_minimal c.args.n.now.net c.args.size (parts_of c.args.p.now) c.loop-i.i (omega (arith, c.nodes_of-i-end.ensures.count, c.loop-i-test.true))
-      (λ e. c.if-place-part_of.true (c.in_ok-place.ensures ∙ (e ∙ sym c.part_of.ensures.value))) minimal),
+      (λ e. c.if-place_of-part_of.true (c.place_of.ensures.place ∙ (e ∙ sym c.part_of.ensures.value))) minimal),
 )
 
 pub returns : goal.returns
 returns c = (
-  λ h. all_stay_minimal c.args.n.now.net c.args.size (parts_of c.args.p.now) (λ i l. c.loop-i.invariant i (omega (arith, l, c.nodes_of-i-end.ensures.count, c.loop-i-test.false))),
+  λ h. all_stay_minimal c.args.n.now.net c.args.size (parts_of c.args.p.now) (λ i l. c.loop-i.invariant.1 i (omega (arith, l, c.nodes_of-i-end.ensures.count, c.loop-i-test.false))),
   λ minimal. refl,
 )
 

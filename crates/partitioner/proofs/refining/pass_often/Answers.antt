@@ -7,7 +7,7 @@ use Rattle.partitioner.proofs.refining.pass_often.Goals as goal
 pub loop-left-init : goal.loop-left-init
 loop-left-init c =
     let none : 0 ≡ c.args.passes - c.args.passes = omega arith in
-    ((c.requires.tracks, c.requires.spots), sym (refined_none c.args.n.now.net c.args.size (parts_of c.args.p.now)) ∙ ap (λ (k : ℕ). refined c.args.n.now.net c.args.size (parts_of c.args.p.now) k) none, omega arith)
+    ((c.requires.tracks, c.requires.spots, c.requires.kept), sym (refined_none c.args.n.now.net c.args.size (parts_of c.args.p.now)) ∙ ap (λ (k : ℕ). refined c.args.n.now.net c.args.size (parts_of c.args.p.now) k) none, omega arith)
 
 pub returns-then-not-branch-clause-parts : goal.returns-then-not-branch-clause-parts
 returns-then-not-branch-clause-parts c =
@@ -24,7 +24,7 @@ loop-left-preserved c =
     let n = c.args.n.now.net in
     let before = parts_of c.args.p.now in
     let more : (c.args.passes - c.loop-left.left) + 1 ≡ c.args.passes - (c.loop-left.left - 1) = omega (arith, c.loop-left.invariant.2, c.loop-left-test.true) in (
-      (c.in_ok-pass_once.ensures.tracks, c.in_ok-pass_once.ensures.spots),
+      (c.in_ok-pass_once.ensures.tracks, c.in_ok-pass_once.ensures.spots, c.in_ok-pass_once.ensures.kept),
       c.in_ok-pass_once.ensures.parts ∙ (ap (pass n c.args.size) c.loop-left.invariant.1 ∙ (sym (refined_more n c.args.size before (c.args.passes - c.loop-left.left)) ∙ ap (λ (k : ℕ). refined n c.args.size before k) more)),
       omega (arith, c.loop-left.invariant.2),
     )
@@ -35,5 +35,6 @@ returns c =
     record {
       tracks = c.loop-left.invariant.0.0;
       spots = c.loop-left.invariant.0.1;
+      kept = c.loop-left.invariant.0.2;
       parts = c.loop-left.invariant.1 ∙ ap (λ (k : ℕ). refined c.args.n.now.net c.args.size (parts_of c.args.p.now) k) all;
     }

@@ -8,7 +8,7 @@ use Rattle.partitioner.proofs.refining.pass_once.Goals as goal
 use Rattle.partitioner.proofs.refining.pass_once.Goals.{then-branch, else-branch}
 
 pub loop-i-init : goal.loop-i-init
-loop-i-init c = record { tracks = c.requires.tracks; spotted = c.requires.spots; parts = sym (moves_none c.args.n.now.net c.args.size (parts_of c.args.p.now)); still = λ h. refl }
+loop-i-init c = record { tracks = c.requires.tracks; spotted = c.requires.spots; kept = c.requires.kept; parts = sym (moves_none c.args.n.now.net c.args.size (parts_of c.args.p.now)); still = λ h. refl }
 
 pub loop-i-preserved : goal.loop-i-preserved
 loop-i-preserved c =
@@ -18,8 +18,8 @@ loop-i-preserved c =
     let after : parts_of c.move_node.new.p ≡ moves n c.args.size before (i + 1) =
     c.in_ok-move_node.ensures.parts ∙ (ap (λ (parts : PlainParts). move n c.args.size parts i) c.loop-i.invariant.parts ∙ sym (moves_more n c.args.size before i)) in
     elim c.if-branch.branch [
-      | then-branch w ↦ record { tracks = c.in_ok-move_node.ensures.tracks; spotted = c.in_ok-move_node.ensures.spots; parts = after; still = λ h. absurd (true≢false (sym w.moved-is ∙ h)) }
-      | else-branch w ↦ record { tracks = c.in_ok-move_node.ensures.tracks; spotted = c.in_ok-move_node.ensures.spots; parts = after; still = λ h. c.in_ok-move_node.ensures.still w.if-branch.false ∙ c.loop-i.invariant.still (sym w.moved-is ∙ h) }
+      | then-branch w ↦ record { tracks = c.in_ok-move_node.ensures.tracks; spotted = c.in_ok-move_node.ensures.spots; kept = c.in_ok-move_node.ensures.kept; parts = after; still = λ h. absurd (true≢false (sym w.moved-is ∙ h)) }
+      | else-branch w ↦ record { tracks = c.in_ok-move_node.ensures.tracks; spotted = c.in_ok-move_node.ensures.spots; kept = c.in_ok-move_node.ensures.kept; parts = after; still = λ h. c.in_ok-move_node.ensures.still w.if-branch.false ∙ c.loop-i.invariant.still (sym w.moved-is ∙ h) }
     ]
 
 pub returns-then-not-some_room-clause-parts : goal.returns-then-not-some_room-clause-parts

@@ -3,17 +3,20 @@ use Rattle.tmr_base.specs.Parts.{PlainParts}
 use Rattle.flat_net.specs.Net.{Net}
 use Rattle.partitioner.specs.declared.partitioning.Partitioning.{Partitioning}
 use Rattle.partitioner.specs.declared.spots.Spots.{Spots}
+use Rattle.partitioner.specs.declared.gains.Gains.{Gains}
 use Rattle.partitioner.specs.Refining.{moves}
 use Rattle.partitioner.specs.Tracking.{Tracks, parts_of}
 use Rattle.partitioner.specs.Spotting.{AreSpots}
+use Rattle.partitioner.specs.Gaining.{AreKept}
 use Rattle.partitioner.proofs.refining.pass_once.Given as goal
 
 -- the first k nodes were moved
-pub record Moved (n : Net) (size : ℕ) (before : PlainParts) (p : Partitioning) (spots : Spots) (k : ℕ) (moved : Bool) : Type 0 where
+pub record Moved (n : Net) (size : ℕ) (before : PlainParts) (p : Partitioning) (spots : Spots) (gains : Gains) (k : ℕ) (moved : Bool) : Type 0 where
   pub tracks : Tracks n p
   pub spotted : AreSpots n size (parts_of p) spots
+  pub kept : AreKept p.count gains
   pub parts : parts_of p ≡ moves n size before k
   pub still : moved ≡ false → parts_of p ≡ before
 
 abbrev pub invariant-loop-i : goal.invariant-loop-i
-invariant-loop-i l = Moved l.n.net l.size (parts_of l.initial.p) l.p l.spots l.i l.moved
+invariant-loop-i l = Moved l.n.net l.size (parts_of l.initial.p) l.p l.spots l.gains l.i l.moved
