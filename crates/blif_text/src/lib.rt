@@ -18,8 +18,6 @@ mod progress;
 mod reader;
 mod row;
 mod table;
-#[cfg(test)]
-mod tests;
 mod text;
 mod word;
 

@@ -6,8 +6,6 @@
 #![tactic(auto)]
 
 mod nodes;
-#[cfg(test)]
-mod tests;
 mod text;
 mod words;
 

@@ -16,8 +16,6 @@ mod line_kinds;
 mod lines;
 mod reading;
 mod role;
-#[cfg(test)]
-mod tests;
 mod text;
 mod triples;
 mod writing;

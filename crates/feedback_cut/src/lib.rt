@@ -19,8 +19,6 @@ mod readers;
 mod reversing;
 mod searching;
 mod spans;
-#[cfg(test)]
-mod tests;
 
 pub use cutting::{CutPins, cut};
 pub use graph::Graph;

@@ -40,5 +40,3 @@ pub use flattening::{Flat, flatten};
 use graph::Graph;
 use ports::Ports;
 
-#[cfg(test)]
-mod tests;

@@ -21,8 +21,6 @@ mod refining;
 mod rows;
 mod sets;
 mod spots;
-#[cfg(test)]
-mod tests;
 mod tracking;
 mod wide;
 

@@ -16,8 +16,6 @@ mod ordering;
 mod ranks;
 mod reaching;
 mod registers;
-#[cfg(test)]
-mod tests;
 mod tops;
 mod uncut;
 
