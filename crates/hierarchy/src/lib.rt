@@ -39,4 +39,3 @@ pub use flat_text::text_length;
 pub use flattening::{Flat, flatten};
 use graph::Graph;
 use ports::Ports;
-
