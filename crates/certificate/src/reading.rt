@@ -66,17 +66,21 @@ fn give_copies(
         node: x,
         copy: CopyNo::First,
     };
-    give(roles, inputs, copies[0], first, line)?;
     let second = Role::Copy {
         node: x,
         copy: CopyNo::Second,
     };
-    give(roles, inputs, copies[1], second, line)?;
     let third = Role::Copy {
         node: x,
         copy: CopyNo::Third,
     };
-    give(roles, inputs, copies[2], third, line)
+    match give(roles, inputs, copies[0], first, line) {
+        Ok(()) => match give(roles, inputs, copies[1], second, line) {
+            Ok(()) => give(roles, inputs, copies[2], third, line),
+            Err(fault) => Err(fault),
+        },
+        Err(fault) => Err(fault),
+    }
 }
 
 /// The depth of the next partition.

@@ -14,8 +14,6 @@ mod kind;
 mod net;
 mod nodes;
 mod order;
-#[cfg(test)]
-mod tests;
 mod wires;
 mod wiring;
 

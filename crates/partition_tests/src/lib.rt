@@ -1,8 +1,10 @@
-//! Tests of cuts, depths and partitions, over small made designs.
+//! Tests of certificate texts, and of cuts, depths and partitions of small made designs.
 //!
 //! They stand in a crate of their own, since a crate with tests is proved twice.
 #![tactic(auto)]
 
+#[cfg(test)]
+mod certificates;
 #[cfg(test)]
 mod chains;
 #[cfg(test)]

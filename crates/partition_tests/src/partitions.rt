@@ -77,22 +77,35 @@ fn a_buffer_at_the_border(rt: HostRuntime) -> Result<(), Fail> {
     Ok(())
 }
 
+/// What was found has these partitions and this cost, and no single move lowers it.
+fn is_settled(found: &Outcome, of: &[u32], count: u32, cost: u64) -> bool {
+    found.of.as_slice() == of && found.count == count && found.cost == cost && found.minimal
+}
+
 #[test]
-fn no_nodes_and_no_room(rt: HostRuntime) -> Result<(), Fail> {
+fn no_nodes(rt: HostRuntime) -> Result<(), Fail> {
     let alloc = rt.alloc();
-    let none = found(alloc, &design(alloc, &[])?, 4294967295, 8)?;
-    assert_eq!(rt; none.of.len(), 0);
-    assert_eq!(rt; none.count, 0);
-    assert_eq!(rt; none.cost, 0);
-    assert_eq!(rt; none.minimal, true);
+    let n = design(alloc, &[])?;
+    let none = found(alloc, &n, 4294967295, 8)?;
+    assert!(rt; is_settled(&none, &[], 0, 0));
+    Ok(())
+}
+
+#[test]
+fn a_partition_for_each_node(rt: HostRuntime) -> Result<(), Fail> {
+    let alloc = rt.alloc();
     let n = design_of(alloc, EIGHT_BUFFERS)?;
     let single = found(alloc, &n, 1, 8)?;
-    assert_eq!(rt; single.of.as_slice(), [0, 1, 2, 3, 4, 5, 6, 7].as_slice());
-    assert_eq!(rt; single.cost, 6);
-    assert_eq!(rt; single.minimal, true);
+    assert!(rt; is_settled(&single, [0, 1, 2, 3, 4, 5, 6, 7].as_slice(), 8, 6));
+    Ok(())
+}
+
+#[test]
+fn one_partition(rt: HostRuntime) -> Result<(), Fail> {
+    let alloc = rt.alloc();
+    let n = design_of(alloc, EIGHT_BUFFERS)?;
     let whole = found(alloc, &n, 64, 8)?;
-    assert_eq!(rt; whole.count, 1);
-    assert_eq!(rt; whole.cost, 0);
+    assert!(rt; is_settled(&whole, [0; 8].as_slice(), 1, 0));
     Ok(())
 }
 
@@ -210,10 +223,7 @@ fn no_move_at_size_1(rt: HostRuntime) -> Result<(), Fail> {
     let n = design(alloc, nodes.as_slice())?;
     for passes in [0, 8] {
         let after = found(alloc, &n, 1, passes)?;
-        assert!(rt; after.of.as_slice() == [0, 1, 2].as_slice());
-        assert!(rt; after.count == 3);
-        assert!(rt; after.cost == 3);
-        assert!(rt; after.minimal);
+        assert!(rt; is_settled(&after, [0, 1, 2].as_slice(), 3, 3));
     }
     Ok(())
 }

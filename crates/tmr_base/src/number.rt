@@ -57,20 +57,3 @@ pub fn read_u32(bytes: &[u8]) -> Option<u32>
         }
     }
 }
-
-#[cfg(test)]
-mod tests {
-    use super::*;
-
-    #[test]
-    fn numbers_are_read(rt: HostRuntime) {
-        assert_eq!(rt; read_u32(b"0"), Some(0));
-        assert_eq!(rt; read_u32(b"4294967295"), Some(4_294_967_295));
-        assert_eq!(rt; read_u32(b"4294967296"), None);
-        assert_eq!(rt; read_u32(b"007"), None);
-        assert_eq!(rt; read_u32(b"+7"), None);
-        assert_eq!(rt; read_u32(b""), None);
-        assert_eq!(rt; read_u64(b"18446744073709551615"), Some(u64::MAX));
-        assert_eq!(rt; read_u64(b"18446744073709551616"), None);
-    }
-}

@@ -54,19 +54,3 @@ impl Parts {
         self.of[i as usize]
     }
 }
-
-#[cfg(test)]
-mod tests {
-    use super::*;
-    use std::test::Fail;
-
-    #[test]
-    fn numbers_passed_in(rt: HostRuntime) -> Result<(), Fail> {
-        let parts = Parts::make(3, vec![in rt.alloc(); 2, 0, 2]?);
-        assert_eq!(rt; parts.count(), 3);
-        assert_eq!(rt; parts.len(), 3);
-        assert_eq!(rt; parts.of(0), 2);
-        assert_eq!(rt; parts.of(1), 0);
-        Ok(())
-    }
-}

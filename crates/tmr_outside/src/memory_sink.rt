@@ -121,20 +121,45 @@ impl Sink for MemSink {
 #[cfg(test)]
 mod tests {
     use super::*;
+    use std::str;
     use std::test::Fail;
+
+    /// What a put answers.
+    fn put(sink: &mut MemSink, text: &str) -> &'static str {
+        match sink.put(text.as_bytes()) {
+            Ok(()) => "put",
+            Err(PutFault::Failed) => "failed",
+            Err(PutFault::Memory) => "memory",
+        }
+    }
+
+    fn written(sink: &MemSink) -> Result<&str, Fail> {
+        Ok(str::from_utf8(sink.written())?)
+    }
+
+    fn fail_at(sink: &mut MemSink, put: u64, keep: u64) -> Result<(), Fail> {
+        sink.fail_at(put, keep)?;
+        Ok(())
+    }
+
+    /// A sink whose puts 1 and 2 fail; the first of them lets three bytes out.
+    fn failing_sink(alloc: Global) -> Result<MemSink, Fail> {
+        let mut sink = MemSink::new(alloc);
+        fail_at(&mut sink, 1, 9)?;
+        fail_at(&mut sink, 1, 3)?;
+        fail_at(&mut sink, 2, 9)?;
+        Ok(sink)
+    }
 
     #[test]
     fn puts_are_kept_and_fail_by_their_number(rt: HostRuntime) -> Result<(), Fail> {
-        let mut sink = MemSink::new(rt.alloc());
-        sink.fail_at(1, 9)?;
-        sink.fail_at(1, 3)?;
-        sink.fail_at(2, 9)?;
-        sink.put(b"one ")?;
-        assert_eq!(rt; sink.put(b"accepted"), Err(PutFault::Failed));
-        assert_eq!(rt; sink.written(), b"one acc".as_slice());
-        assert_eq!(rt; sink.put(b" two"), Err(PutFault::Failed));
-        sink.put(b" three")?;
-        assert_eq!(rt; sink.written(), b"one acc two three".as_slice());
+        let mut sink = failing_sink(rt.alloc())?;
+        assert_eq!(rt; put(&mut sink, "one "), "put");
+        assert_eq!(rt; put(&mut sink, "accepted"), "failed");
+        assert_eq!(rt; written(&sink)?, "one acc");
+        assert_eq!(rt; put(&mut sink, " two"), "failed");
+        assert_eq!(rt; put(&mut sink, " three"), "put");
+        assert_eq!(rt; written(&sink)?, "one acc two three");
         Ok(())
     }
 }

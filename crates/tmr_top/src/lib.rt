@@ -10,8 +10,6 @@ mod program;
 mod reasons;
 mod status;
 mod taker;
-#[cfg(test)]
-mod tests;
 mod texts;
 mod validation;
 

@@ -199,6 +199,3 @@ pub fn run<F: Files, S: Sink>(alloc: Global, words: &[String], files: &mut F, ou
 {
     decide_and_put(alloc, words, files, out)
 }
-
-#[cfg(test)]
-mod tests;
