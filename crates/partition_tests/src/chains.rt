@@ -1,5 +1,5 @@
 //! Labels and depths of small designs.
-ghost use Rattle.std.specs.Prelude.{◌≡◌, ◌<◌, ◌≤◌, length, IfOk};
+ghost use Rattle.std.specs.Prelude.{◌≡◌, ◌<◌, length};
 
 use crate::made::{design_of, one_partition, parts_of, push_number, ring};
 use feedback_cut::cut;

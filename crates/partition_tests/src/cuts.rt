@@ -1,5 +1,5 @@
 //! Components and cuts of small designs.
-ghost use Rattle.std.specs.Prelude.{◌≡◌, ◌<◌, ◌≤◌, All, length, IfOk};
+ghost use Rattle.std.specs.Prelude.{◌≡◌, ◌<◌, length};
 
 use crate::made::{design_of, one_partition, parts_of, push_number, ring};
 use feedback_cut::{components, cut};
