@@ -15,8 +15,8 @@ use Rattle.hierarchy.specs.Faults.{elements_fault, model_fault}
 use Rattle.hierarchy.specs.Found.{IsOrder}
 use Rattle.hierarchy.specs.Library.{IsPlaceable}
 use Rattle.hierarchy.specs.Flatten.{IsSound}
-use Rattle.blif_writer.specs.Text.{net_words}
-use Rattle.blif_writer.specs.Model.{init_of, element_of, model_of}
+use Rattle.blif_writer.specs.Text.{start_of, with_marks, net_words}
+use Rattle.blif_writer.specs.Model.{element_of, free_model}
 
 -- ---- its flat elements
 
@@ -24,9 +24,9 @@ abbrev net_control : Option (Edge × List ℕ) → Option (Edge × PlacedNet)
 net_control None = None
 net_control (Some (edge, clock)) = Some (edge, main_net clock)
 
-abbrev net_element : Net → Node → NetElement
-net_element n (Table name cover pins) = NetTable (map main_net (net_words n pins)) (main_net name) cover
-net_element n (Register name init pin) = NetRegister (main_net (name_of n pin)) (main_net name) (net_control n.clock) (init_of init)
+abbrev net_element : Net → Node × Bool → NetElement
+net_element n (Table name cover pins, free) = NetTable (map main_net (net_words n pins)) (main_net name) cover
+net_element n (Register name init pin, free) = NetRegister (main_net (name_of n pin)) (main_net name) (net_control n.clock) (start_of free init)
 
 main_resolved : (name : List ℕ) → resolve (main_level ∷ []) name ≡ main_net name
 unfolding resolve actual_of
@@ -40,15 +40,15 @@ control_resolved : (c : Option (Edge × List ℕ)) → resolved_control (main_le
 control_resolved None = refl
 control_resolved (Some (edge, clock)) = ap (λ (x : PlacedNet). let o : Option (Edge × PlacedNet) = Some (edge, x) in o) (main_resolved clock)
 
-elements_are : (n : Net) (nodes : List Node) (inner : List Level → List ℕ → List NetElement) (number : ℕ) → elements_with inner (main_level ∷ []) number (map (element_of n) nodes) ≡ map (net_element n) nodes
+elements_are : (n : Net) (nodes : List (Node × Bool)) (inner : List Level → List ℕ → List NetElement) (number : ℕ) → elements_with inner (main_level ∷ []) number (map (element_of n) nodes) ≡ map (net_element n) nodes
 unfolding elements_with
 elements_are n [] inner number = refl
-elements_are n (Table name cover pins ∷ nodes) inner number = rw (all_resolved (net_words n pins), main_resolved name, elements_are n nodes inner number) refl
-elements_are n (Register name init pin ∷ nodes) inner number = rw (main_resolved (name_of n pin), main_resolved name, control_resolved n.clock, elements_are n nodes inner number) refl
+elements_are n ((Table name cover pins, free) ∷ nodes) inner number = rw (all_resolved (net_words n pins), main_resolved name, elements_are n nodes inner number) refl
+elements_are n ((Register name init pin, free) ∷ nodes) inner number = rw (main_resolved (name_of n pin), main_resolved name, control_resolved n.clock, elements_are n nodes inner number) refl
 
-flat_are : (n : Net) → flat_elements (model_of n ∷ []) ≡ map (net_element n) n.nodes
-unfolding flat_elements model_of
-flat_are n = elements_are n n.nodes (elements_to (model_of n ∷ []) 1) 0
+flat_are : (n : Net) (free : List Bool) → flat_elements (free_model n free ∷ []) ≡ map (net_element n) (with_marks free n.nodes)
+unfolding flat_elements free_model
+flat_are n free = elements_are n (with_marks free n.nodes) (elements_to (free_model n free ∷ []) 1) 0
 
 texts_same : (names : List (List ℕ)) → map net_text (map main_net names) ≡ names
 texts_same [] = refl
@@ -58,17 +58,17 @@ control_same : (c : Option (Edge × List ℕ)) → named_control (net_control c)
 control_same None = refl
 control_same (Some (edge, clock)) = refl
 
-named_same : (n : Net) (nodes : List Node) → map named (map (net_element n) nodes) ≡ map (element_of n) nodes
+named_same : (n : Net) (nodes : List (Node × Bool)) → map named (map (net_element n) nodes) ≡ map (element_of n) nodes
 named_same n [] = refl
-named_same n (Table name cover pins ∷ nodes) = rw (texts_same (net_words n pins), named_same n nodes) refl
-named_same n (Register name init pin ∷ nodes) = rw (control_same n.clock, named_same n nodes) refl
+named_same n ((Table name cover pins, free) ∷ nodes) = rw (texts_same (net_words n pins), named_same n nodes) refl
+named_same n ((Register name init pin, free) ∷ nodes) = rw (control_same n.clock, named_same n nodes) refl
 
-pub flat_model_is : (n : Net) → flat_model (model_of n ∷ []) ≡ model_of n
-unfolding flat_model model_of
-flat_model_is n = ap (λ (es : List PlainElement). let m : PlainModel = record { name = (model_of n).name; inputs = (model_of n).inputs; outputs = (model_of n).outputs; elements = es } in m) (ap (map named) (flat_are n) ∙ (named_same n n.nodes ∙ sym (elements_of n)))
+pub flat_model_is : (n : Net) (free : List Bool) → flat_model (free_model n free ∷ []) ≡ free_model n free
+unfolding flat_model free_model
+flat_model_is n free = ap (λ (es : List PlainElement). let m : PlainModel = record { name = (free_model n free).name; inputs = (free_model n free).inputs; outputs = (free_model n free).outputs; elements = es } in m) (ap (map named) (flat_are n free) ∙ (named_same n (with_marks free n.nodes) ∙ sym (elements_of n free)))
   where
-    elements_of : (n : Net) → (model_of n).elements ≡ map (element_of n) n.nodes
-    elements_of n = refl
+    elements_of : (n : Net) (free : List Bool) → (free_model n free).elements ≡ map (element_of n) (with_marks free n.nodes)
+    elements_of n free = refl
 
 -- ---- no two of its nets share a text
 
@@ -89,10 +89,10 @@ control_main : (c : Option (Edge × List ℕ)) → AreMain (control_nets (net_co
 control_main None = tt
 control_main (Some (edge, clock)) = (refl, tt)
 
-nodes_main : (n : Net) (nodes : List Node) → AreMain (flat_map nets_of (map (net_element n) nodes))
+nodes_main : (n : Net) (nodes : List (Node × Bool)) → AreMain (flat_map nets_of (map (net_element n) nodes))
 nodes_main n [] = tt
-nodes_main n (Table name cover pins ∷ nodes) = main_join (map main_net (net_words n pins) ++ main_net name ∷ []) (flat_map nets_of (map (net_element n) nodes)) (main_join (map main_net (net_words n pins)) (main_net name ∷ []) (names_main (net_words n pins)) (refl, tt)) (nodes_main n nodes)
-nodes_main n (Register name init pin ∷ nodes) = (refl, (refl, main_join (control_nets (net_control n.clock)) (flat_map nets_of (map (net_element n) nodes)) (control_main n.clock) (nodes_main n nodes)))
+nodes_main n ((Table name cover pins, free) ∷ nodes) = main_join (map main_net (net_words n pins) ++ main_net name ∷ []) (flat_map nets_of (map (net_element n) nodes)) (main_join (map main_net (net_words n pins)) (main_net name ∷ []) (names_main (net_words n pins)) (refl, tt)) (nodes_main n nodes)
+nodes_main n ((Register name init pin, free) ∷ nodes) = (refl, (refl, main_join (control_nets (net_control n.clock)) (flat_map nets_of (map (net_element n) nodes)) (control_main n.clock) (nodes_main n nodes)))
 
 found_main : (p : PlacedNet → Bool) (xs : List PlacedNet) (y : PlacedNet) → AreMain xs → find p xs ≡ Some y → (y.path ≡ []) × (p y ≡ true)
 found_main p [] y a e = absurd cc
@@ -121,41 +121,41 @@ unfolding clash_after
 none_clash seen [] a b = refl
 none_clash seen (net ∷ nets) a b = rw (not_taken seen net a b.0) (none_clash (seen ++ net ∷ []) nets (main_join seen (net ∷ []) a (b.0, tt)) b.1)
 
-walked_main : (n : Net) → AreMain (walked (model_of n ∷ []))
+walked_main : (n : Net) (free : List Bool) → AreMain (walked (free_model n free ∷ []))
 unfolding walked
-walked_main n = main_join (map main_net (model_of n).inputs ++ flat_map nets_of (flat_elements (model_of n ∷ []))) (map main_net (model_of n).outputs) (main_join (map main_net (model_of n).inputs) (flat_map nets_of (flat_elements (model_of n ∷ []))) (names_main (model_of n).inputs) (subst (λ (es : List NetElement). AreMain (flat_map nets_of es)) (sym (flat_are n)) (nodes_main n n.nodes))) (names_main (model_of n).outputs)
+walked_main n free = main_join (map main_net (free_model n free).inputs ++ flat_map nets_of (flat_elements (free_model n free ∷ []))) (map main_net (free_model n free).outputs) (main_join (map main_net (free_model n free).inputs) (flat_map nets_of (flat_elements (free_model n free ∷ []))) (names_main (free_model n free).inputs) (subst (λ (es : List NetElement). AreMain (flat_map nets_of es)) (sym (flat_are n free)) (nodes_main n (with_marks free n.nodes)))) (names_main (free_model n free).outputs)
 
-pub no_clash : (n : Net) → name_clash (model_of n ∷ []) ≡ None
-no_clash n = none_clash [] (walked (model_of n ∷ [])) tt (walked_main n)
+pub no_clash : (n : Net) (free : List Bool) → name_clash (free_model n free ∷ []) ≡ None
+no_clash n free = none_clash [] (walked (free_model n free ∷ [])) tt (walked_main n free)
 
 -- ---- it places no models
 
-no_fault : (names : List (List ℕ)) (ports : List PlainPorts) (n : Net) (nodes : List Node) → elements_fault names ports (map (element_of n) nodes) ≡ None
+no_fault : (names : List (List ℕ)) (ports : List PlainPorts) (n : Net) (nodes : List (Node × Bool)) → elements_fault names ports (map (element_of n) nodes) ≡ None
 unfolding elements_fault
 no_fault names ports n [] = refl
-no_fault names ports n (Table name cover pins ∷ nodes) = no_fault names ports n nodes
-no_fault names ports n (Register name init pin ∷ nodes) = no_fault names ports n nodes
+no_fault names ports n ((Table name cover pins, free) ∷ nodes) = no_fault names ports n nodes
+no_fault names ports n ((Register name init pin, free) ∷ nodes) = no_fault names ports n nodes
 
-model_faultless : (library : List PlainModel) (n : Net) → model_fault library (model_of n) ≡ None
-unfolding model_of
-model_faultless library n = no_fault (names_of library) (map ports_of library) n n.nodes
+model_faultless : (library : List PlainModel) (n : Net) (free : List Bool) → model_fault library (free_model n free) ≡ None
+unfolding free_model
+model_faultless library n free = no_fault (names_of library) (map ports_of library) n (with_marks free n.nodes)
 
-placeable : (n : Net) → IsPlaceable (model_of n ∷ [])
-placeable n zero m lt e r = ap (model_fault (model_of n ∷ [])) (some_is m (model_of n) (sym e)) ∙ model_faultless (model_of n ∷ []) n
+placeable : (n : Net) (free : List Bool) → IsPlaceable (free_model n free ∷ [])
+placeable n free zero m lt e r = ap (model_fault (free_model n free ∷ [])) (some_is m (free_model n free) (sym e)) ∙ model_faultless (free_model n free ∷ []) n free
   where
     some_is : (u v : PlainModel) → Some u ≡ Some v → u ≡ v
     some_is u v e = cc
-placeable n (suc k) m lt e r = absurd (omega arith)
+placeable n free (suc k) m lt e r = absurd (omega arith)
 
-none_placed : (names : List (List ℕ)) (n : Net) (nodes : List Node) → placed_in names (map (element_of n) nodes) ≡ []
+none_placed : (names : List (List ℕ)) (n : Net) (nodes : List (Node × Bool)) → placed_in names (map (element_of n) nodes) ≡ []
 unfolding placed_in
 none_placed names n [] = refl
-none_placed names n (Table name cover pins ∷ nodes) = none_placed names n nodes
-none_placed names n (Register name init pin ∷ nodes) = none_placed names n nodes
+none_placed names n ((Table name cover pins, free) ∷ nodes) = none_placed names n nodes
+none_placed names n ((Register name init pin, free) ∷ nodes) = none_placed names n nodes
 
-graph_is : (n : Net) → graph (model_of n ∷ []) ≡ [] ∷ []
-unfolding model_of
-graph_is n = ap (λ (r : List ℕ). r ∷ []) (none_placed (names_of (model_of n ∷ [])) n n.nodes)
+graph_is : (n : Net) (free : List Bool) → graph (free_model n free ∷ []) ≡ [] ∷ []
+unfolding free_model
+graph_is n free = ap (λ (r : List ℕ). r ∷ []) (none_placed (names_of (free_model n free ∷ [])) n (with_marks free n.nodes))
 
 abbrev lone : List (List ℕ)
 lone = [] ∷ []
@@ -193,5 +193,5 @@ lone_order = record {
     after : (k i : ℕ) → k < 1 → i < length (row lone (get_or (0 ∷ []) k 0)) → (j : ℕ) × (j < k) × (get_or (0 ∷ []) j 0 ≡ get_or (row lone (get_or (0 ∷ []) k 0)) i 0)
     after k i lt less = let long : length (row lone (get_or (0 ∷ []) k 0)) ≡ 0 = ap length (no_row (get_or (0 ∷ []) k 0)) in absurd (omega arith)
 
-pub sound : (n : Net) → IsSound (model_of n ∷ [])
-sound n = record { placeable = placeable n; order = 0 ∷ []; ordered = subst (λ (rows : List (List ℕ)). IsOrder rows (0 ∷ [])) (sym (graph_is n)) lone_order }
+pub sound : (n : Net) (free : List Bool) → IsSound (free_model n free ∷ [])
+sound n free = record { placeable = placeable n free; order = 0 ∷ []; ordered = subst (λ (rows : List (List ℕ)). IsOrder rows (0 ∷ [])) (sym (graph_is n free)) lone_order }

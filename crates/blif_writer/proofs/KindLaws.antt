@@ -19,7 +19,9 @@ use Rattle.blif_text.specs.Library.{Differ}
 use Rattle.blif_text.specs.Views.{bit as output, marked}
 use Rattle.blif_text.specs.Kind.{name_kind, names_kind, model_kind, port_kind, ports_kind, table_kind, type_kind, init_kind, ends_kind, control_kind, latch_kind, row_of, row_kind, open_model, table_before, Shape, here_of, here, kind_here, kind_at, lists, is_model, first_bad}
 use Rattle.hierarchy.proofs.NameSets.{none_before}
-use Rattle.blif_writer.specs.Text.{bit, edge_word, row_line, row_lines, net_words, clock_words, control_words, node_lines, flat_lines}
+use Rattle.blif_text.specs.declared.library.Init.{Init}
+use Rattle.blif_text.specs.declared.library.Init.TheVariants.{Zero, One, Free, Unknown}
+use Rattle.blif_writer.specs.Text.{bit, init_word, start_of, with_marks, edge_word, row_line, row_lines, net_words, clock_words, control_words, node_lines, free_lines}
 use Rattle.blif_writer.proofs.Clean.{both_true, AreNames, IsLine, AreLines, names_join, lines_join, numbered}
 
 -- ---- names
@@ -228,10 +230,12 @@ table_good pins out k ls ok e wide rows fine number earlier body opened =
 
 -- ---- latches
 
-init_good : (b : Bool) → init_kind (bit b) ≡ None
+init_good : (b : Init) → init_kind (init_word b) ≡ None
 unfolding init_kind
-init_good true = refl
-init_good false = refl
+init_good Zero = refl
+init_good One = refl
+init_good Free = refl
+init_good Unknown = refl
 
 edge_good : (edge : Edge) → type_kind (edge_word edge) ≡ None
 unfolding type_kind
@@ -243,10 +247,10 @@ abbrev pub IsControl : Option (Edge × List ℕ) → Type 0
 IsControl None = Unit {0}
 IsControl (Some (edge, clock)) = (is_name clock ≡ true) × (clock ≢ codes "NIL")
 
-abbrev pub latch_words : List ℕ → List ℕ → Option (Edge × List ℕ) → Bool → List (List ℕ)
-latch_words pin out control b = pin ∷ out ∷ (control_words control ++ bit b ∷ [])
+abbrev pub latch_words : List ℕ → List ℕ → Option (Edge × List ℕ) → Init → List (List ℕ)
+latch_words pin out control b = pin ∷ out ∷ (control_words control ++ init_word b ∷ [])
 
-latch_fine : (pin out : List ℕ) (control : Option (Edge × List ℕ)) (b : Bool) → is_name pin ≡ true → is_name out ≡ true → IsControl control → latch_kind (latch_words pin out control b) ≡ None
+latch_fine : (pin out : List ℕ) (control : Option (Edge × List ℕ)) (b : Init) → is_name pin ≡ true → is_name out ≡ true → IsControl control → latch_kind (latch_words pin out control b) ≡ None
 unfolding latch_kind ends_kind control_kind
 latch_fine pin out None b p o c = rw (name_good pin p, name_good out o, init_good b) refl
 latch_fine pin out (Some (edge, clock)) b p o c = rw (name_good pin p, name_good out o, edge_good edge, name_good clock c.0, init_good b) refl
@@ -261,7 +265,7 @@ opens_latch : (number : ℕ) (args : List (List ℕ)) (earlier body : List State
 unfolding open_model word_of
 opens_latch number args earlier body opened = rw opened refl
 
-pub latch_good : (pin out : List ℕ) (control : Option (Edge × List ℕ)) (b : Bool) (ls : List (List (List ℕ))) → is_name pin ≡ true → is_name out ≡ true → IsControl control → AreGood ls → AreGood ((codes ".latch" ∷ latch_words pin out control b) ∷ ls)
+pub latch_good : (pin out : List ℕ) (control : Option (Edge × List ℕ)) (b : Init) (ls : List (List (List ℕ))) → is_name pin ≡ true → is_name out ≡ true → IsControl control → AreGood ls → AreGood ((codes ".latch" ∷ latch_words pin out control b) ∷ ls)
 unfolding word_of
 latch_good pin out control b ls p o c fine number earlier body opened =
     let args : List (List ℕ) = latch_words pin out control b in
@@ -276,32 +280,32 @@ abbrev pub IsSpelled : Net → Node → Type 0
 IsSpelled n (Table name cover pins) = AreNames (net_words n pins) × (is_name name ≡ true) × (length pins ≡ cover.width) × IsCover cover
 IsSpelled n (Register name init pin) = (is_name (name_of n pin) ≡ true) × (is_name name ≡ true) × IsControl n.clock
 
-abbrev pub AreSpelled : Net → List Node → Type 0
+abbrev pub AreSpelled : Net → List (Node × Bool) → Type 0
 AreSpelled n [] = Unit {0}
-AreSpelled n (node ∷ nodes) = IsSpelled n node × AreSpelled n nodes
+AreSpelled n (node ∷ nodes) = IsSpelled n node.0 × AreSpelled n nodes
 
 pub rows_from : (width : ℕ) (rows : List (List ℕ)) → All (λ row. IsRow width row) rows → AreRows width rows
 rows_from width [] all = tt
 rows_from width (row ∷ rows) all = (All-head (λ row. IsRow width row) row rows all, rows_from width rows (All-tail (λ row. IsRow width row) row rows all))
 
-node_good : (n : Net) (node : Node) (ls : List (List (List ℕ))) → IsSpelled n node → AreGood ls → AreGood (node_lines n node ++ ls)
-node_good n (Table name cover pins) ls ok fine = table_good (net_words n pins) name cover ls ok.0 ok.1 (length-map pins (name_of n) ∙ ok.2) (rows_from cover.width cover.rows ok.3.rows) fine
-node_good n (Register name init pin) ls ok fine = latch_good (name_of n pin) name n.clock init ls ok.0 ok.1 ok.2 fine
+node_good : (n : Net) (node : Node × Bool) (ls : List (List (List ℕ))) → IsSpelled n node.0 → AreGood ls → AreGood (node_lines n node ++ ls)
+node_good n (Table name cover pins, free) ls ok fine = table_good (net_words n pins) name cover ls ok.0 ok.1 (length-map pins (name_of n) ∙ ok.2) (rows_from cover.width cover.rows ok.3.rows) fine
+node_good n (Register name init pin, free) ls ok fine = latch_good (name_of n pin) name n.clock (start_of free init) ls ok.0 ok.1 ok.2 fine
 
-nodes_good : (n : Net) (nodes : List Node) (ls : List (List (List ℕ))) → AreSpelled n nodes → AreGood ls → AreGood (flat_map (node_lines n) nodes ++ ls)
+nodes_good : (n : Net) (nodes : List (Node × Bool)) (ls : List (List (List ℕ))) → AreSpelled n nodes → AreGood ls → AreGood (flat_map (node_lines n) nodes ++ ls)
 nodes_good n [] ls ok fine = fine
 nodes_good n (node ∷ nodes) ls ok fine =
     let whole : (node_lines n node ++ flat_map (node_lines n) nodes) ++ ls ≡ node_lines n node ++ (flat_map (node_lines n) nodes ++ ls) = append_assoc (node_lines n node) (flat_map (node_lines n) nodes) ls in
     λ number earlier body opened. ap (λ (l : List (List (List ℕ))). first_bad earlier (numbered number l)) whole ∙ node_good n node (flat_map (node_lines n) nodes ++ ls) ok.0 (nodes_good n nodes ls ok.1 fine) number earlier body opened
 
 -- what the text of a design needs
-pub record IsText (n : Net) : Type 0 where
+pub record IsText (n : Net) (free : List Bool) : Type 0 where
   pub model : is_name n.model ≡ true
   pub inputs : AreNames (n.inputs ++ clock_words n.clock)
   pub inputs_differ : Differ (n.inputs ++ clock_words n.clock)
   pub outputs : AreNames (net_words n n.outputs)
   pub outputs_differ : Differ (net_words n n.outputs)
-  pub nodes : AreSpelled n n.nodes
+  pub nodes : AreSpelled n (with_marks free n.nodes)
 
 -- the first three statements
 abbrev pub model_statement : Net → Statement
@@ -313,12 +317,12 @@ inputs_statement n = statement 2 (codes ".inputs") (n.inputs ++ clock_words n.cl
 abbrev pub outputs_statement : Net → Statement
 outputs_statement n = statement 3 (codes ".outputs") (net_words n n.outputs)
 
-abbrev pub behind_ports : Net → List (List (List ℕ))
-behind_ports n = flat_map (node_lines n) n.nodes ++ (codes ".end" ∷ []) ∷ []
+abbrev pub behind_ports : Net → List Bool → List (List (List ℕ))
+behind_ports n free = flat_map (node_lines n) (with_marks free n.nodes) ++ (codes ".end" ∷ []) ∷ []
 
-pub flat_numbered : (n : Net) → numbered 1 (flat_lines n) ≡ model_statement n ∷ inputs_statement n ∷ outputs_statement n ∷ numbered 4 (behind_ports n)
-unfolding flat_lines word_of
-flat_numbered n = refl
+pub flat_numbered : (n : Net) (free : List Bool) → numbered 1 (free_lines n free) ≡ model_statement n ∷ inputs_statement n ∷ outputs_statement n ∷ numbered 4 (behind_ports n free)
+unfolding free_lines word_of
+flat_numbered n free = refl
 
 model_good : (n : Net) (rest : List Statement) → is_name n.model ≡ true → first_bad (model_statement n ∷ []) rest ≡ None → first_bad [] (model_statement n ∷ rest) ≡ None
 unfolding first_bad here open_model kind_at model_kind word_of
@@ -337,22 +341,28 @@ unfolding open_model word_of
 opens_outputs n = refl
 
 -- no statement of the text is bad
-pub text_good : (n : Net) → IsText n → first_bad [] (numbered 1 (flat_lines n)) ≡ None
+pub text_good : (n : Net) (free : List Bool) → IsText n free → first_bad [] (numbered 1 (free_lines n free)) ≡ None
 unfolding word_of
-text_good n t =
-    let rest : List Statement = numbered 4 (behind_ports n) in
+text_good n free t =
+    let rest : List Statement = numbered 4 (behind_ports n free) in
     let earlier : List Statement = model_statement n ∷ [] in
     let later : List Statement = inputs_statement n ∷ earlier in
-    let nodes = nodes_good n n.nodes ((codes ".end" ∷ []) ∷ []) t.nodes end_good 4 (outputs_statement n ∷ later) (outputs_statement n ∷ inputs_statement n ∷ []) (opens_outputs n) in
+    let nodes = nodes_good n (with_marks free n.nodes) ((codes ".end" ∷ []) ∷ []) t.nodes end_good 4 (outputs_statement n ∷ later) (outputs_statement n ∷ inputs_statement n ∷ []) (opens_outputs n) in
     let outputs = good later (inputs_statement n ∷ []) (outputs_statement n) rest (opens_inputs n) (ports_good [] (net_words n n.outputs) t.outputs t.outputs_differ) nodes in
     let inputs = good earlier [] (inputs_statement n) (outputs_statement n ∷ rest) (opens_model n) (ports_good [] (n.inputs ++ clock_words n.clock) t.inputs t.inputs_differ) outputs in
-    ap (first_bad []) (flat_numbered n) ∙ model_good n (inputs_statement n ∷ outputs_statement n ∷ rest) t.model inputs
+    ap (first_bad []) (flat_numbered n free) ∙ model_good n (inputs_statement n ∷ outputs_statement n ∷ rest) t.model inputs
 
 -- ---- all lines are lines of names
 
 bit_name : (b : Bool) → is_name (bit b) ≡ true
 bit_name true = refl
 bit_name false = refl
+
+init_name : (b : Init) → is_name (init_word b) ≡ true
+init_name Zero = refl
+init_name One = refl
+init_name Free = refl
+init_name Unknown = refl
 
 edge_name : (edge : Edge) → is_name (edge_word edge) ≡ true
 edge_name Rising = refl
@@ -398,14 +408,14 @@ rows_names : (on : Bool) (width : ℕ) (rows : List (List ℕ)) → AreRows widt
 rows_names on width [] ok = tt
 rows_names on width (row ∷ rows) ok = (row_names on row ok.0.1, rows_names on width rows ok.1)
 
-node_names : (n : Net) (node : Node) → IsSpelled n node → AreLines (node_lines n node)
-node_names n (Table name cover pins) ok = ((refl, names_join (net_words n pins) (name ∷ []) ok.0 (ok.1, tt)), rows_names cover.is_on cover.width cover.rows (rows_from cover.width cover.rows ok.3.rows))
-node_names n (Register name init pin) ok = ((refl, (ok.0, (ok.1, names_join (control_words n.clock) (bit init ∷ []) (control_names n.clock ok.2) (bit_name init, tt)))), tt)
+node_names : (n : Net) (node : Node × Bool) → IsSpelled n node.0 → AreLines (node_lines n node)
+node_names n (Table name cover pins, free) ok = ((refl, names_join (net_words n pins) (name ∷ []) ok.0 (ok.1, tt)), rows_names cover.is_on cover.width cover.rows (rows_from cover.width cover.rows ok.3.rows))
+node_names n (Register name init pin, free) ok = ((refl, (ok.0, (ok.1, names_join (control_words n.clock) (init_word (start_of free init) ∷ []) (control_names n.clock ok.2) (init_name (start_of free init), tt)))), tt)
 
-nodes_names : (n : Net) (nodes : List Node) → AreSpelled n nodes → AreLines (flat_map (node_lines n) nodes)
+nodes_names : (n : Net) (nodes : List (Node × Bool)) → AreSpelled n nodes → AreLines (flat_map (node_lines n) nodes)
 nodes_names n [] ok = tt
 nodes_names n (node ∷ nodes) ok = lines_join (node_lines n node) (flat_map (node_lines n) nodes) (node_names n node ok.0) (nodes_names n nodes ok.1)
 
-pub text_lines : (n : Net) → IsText n → AreLines (flat_lines n)
-unfolding flat_lines
-text_lines n t = ((refl, (t.model, tt)), ((refl, t.inputs), ((refl, t.outputs), lines_join (flat_map (node_lines n) n.nodes) ((codes ".end" ∷ []) ∷ []) (nodes_names n n.nodes t.nodes) ((refl, tt), tt))))
+pub text_lines : (n : Net) (free : List Bool) → IsText n free → AreLines (free_lines n free)
+unfolding free_lines
+text_lines n free t = ((refl, (t.model, tt)), ((refl, t.inputs), ((refl, t.outputs), lines_join (flat_map (node_lines n) (with_marks free n.nodes)) ((codes ".end" ∷ []) ∷ []) (nodes_names n (with_marks free n.nodes) t.nodes) ((refl, tt), tt))))

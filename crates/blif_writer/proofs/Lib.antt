@@ -10,3 +10,6 @@ pub mod Flattened
 pub mod Redrafted
 pub mod Again
 pub mod Lengths
+pub mod Growth
+pub mod Charges
+pub mod Places

@@ -1,5 +1,5 @@
 -- The draft of the one model has no fault, and gives the design back.
-use Rattle.std.proofs.Common.{◌≡◌, ◌≢◌, ℕ, suc, ◌+◌, ◌<◌, ◌⊎◌, inl, inr, Bool, true, false, cond, List, [], ◌∷◌, ◌++◌, length, map, get_or, Option, Some, None, refl, sym, ap, subst, ◌∙◌, append_assoc, arith}
+use Rattle.std.proofs.Common.{◌≡◌, ◌≢◌, ℕ, suc, ◌+◌, ◌-◌, ◌<◌, ◌⊎◌, inl, inr, Bool, true, false, cond, List, [], ◌∷◌, ◌++◌, length, map, get_or, slice_get, Option, Some, None, refl, sym, ap, subst, ◌∙◌, append_assoc, arith}
 use Rattle.std.specs.Prelude.{◌||◌, not, count_by, filter, codes, All}
 use Rattle.std.specs.List.{flat_map}
 use Rattle.std.specs.Str.{bytes_eq}
@@ -9,17 +9,20 @@ use Rattle.std.proofs.lemmas.List.Elements.{filter-append, All-head, All-tail}
 use Rattle.std.proofs.lemmas.List.Folds.{list_any_at}
 use Rattle.tmr_base.specs.declared.ids.Edge.{Edge}
 use Rattle.tmr_base.specs.declared.ids.Edge.TheVariants.{Rising, Falling}
-use Rattle.flat_net.specs.Net.{Net, Node, Table, Register, IsValid, IsWired, IsClockOf, IsOrder, net_count, net_names, name_of, node_name, is_register, register_count}
+use Rattle.flat_net.specs.Net.{Net, Node, Table, Register, IsValid, IsWired, IsClockOf, IsOrder, IsInitOf, net_count, net_names, name_of, node_of, node_name, is_register, register_count}
 use Rattle.flat_net.specs.Draft.{PlainDraft, Element, TableOf, LatchOf, out_of, reads_of}
 use Rattle.flat_net.specs.Faults.{is_among, first_control, clock_from, clock_of, is_clock, net_inputs, draft_names, number_in, node_of_element, net_of_draft, is_driven_before, same_control, is_unlike_any, is_mixed, draft_reads, is_no_net, IsDrivenOnce, HasOneClock, HasCleanClock, IsDriven, IsFaultless}
 use Rattle.flat_net.proofs.Names.{eq_true, eq_false}
 use Rattle.flat_net.proofs.Sound.{among_number}
 use Rattle.blif_text.specs.Library.{Differ}
-use Rattle.hierarchy.specs.Drafted.{starts_with, drafted, draft_of, is_assumed, assumed}
+use Rattle.hierarchy.specs.Drafted.{starts_with, drafted, draft_of, is_open, open_mark, open_marks, assumed}
+use Rattle.hierarchy.proofs.Marks.{marks_counted}
+use Rattle.flat_net.specs.Free.{node_bit}
+use Rattle.flat_net.proofs.Slots.{slot_at}
 use Rattle.hierarchy.proofs.NameSets.{none_before}
-use Rattle.blif_writer.specs.Text.{net_words, clock_words}
-use Rattle.blif_writer.specs.Model.{init_of, element_of, model_of}
-use Rattle.blif_writer.proofs.NodeLines.{input_name}
+use Rattle.blif_writer.specs.Text.{start_of, with_marks, net_words, clock_words}
+use Rattle.blif_writer.specs.Model.{element_of, free_model}
+use Rattle.blif_writer.proofs.NodeLines.{input_name, bit_of, bit_is}
 use Rattle.blif_writer.proofs.Differing.{differ_from}
 use Rattle.blif_writer.proofs.Valid.{names_long, whole_apart, EachNode, each_node}
 
@@ -35,29 +38,98 @@ draft_elements n = map (draft_element n) n.nodes
 abbrev pub net_draft : Net → PlainDraft
 net_draft n = record { model = n.model; inputs = n.inputs ++ clock_words n.clock; outputs = net_words n n.outputs; elements = draft_elements n }
 
-starts_again : (b : Bool) → starts_with (init_of b) ≡ b
-starts_again true = refl
-starts_again false = refl
+starts_again : (free init : Bool) → (free ≡ true → init ≡ false) → starts_with (start_of free init) ≡ init
+starts_again true init h = sym (h refl)
+starts_again false true h = refl
+starts_again false false h = refl
 
-drafted_again : (n : Net) (nodes : List Node) → flat_map drafted (map (element_of n) nodes) ≡ map (draft_element n) nodes
-drafted_again n [] = refl
-drafted_again n (Table name cover pins ∷ nodes) = ap (λ (es : List Element). TableOf (net_words n pins) name cover ∷ es) (drafted_again n nodes)
-drafted_again n (Register name init pin ∷ nodes) = ap (λ (b : Bool). LatchOf (name_of n pin) name n.clock b ∷ flat_map drafted (map (element_of n) nodes)) (starts_again init) ∙ ap (λ (es : List Element). LatchOf (name_of n pin) name n.clock init ∷ es) (drafted_again n nodes)
+open_again : (free init : Bool) → is_open (start_of free init) ≡ free
+open_again true init = refl
+open_again false true = refl
+open_again false false = refl
 
-pub draft_is : (n : Net) → draft_of (model_of n) ≡ net_draft n
-unfolding draft_of model_of
-draft_is n = ap (λ (es : List Element). let d : PlainDraft = record { model = n.model; inputs = n.inputs ++ clock_words n.clock; outputs = net_words n n.outputs; elements = es } in d) (drafted_again n n.nodes)
+-- marked are only registers whose initial value is 0
+abbrev pub IsMarkable : Node × Bool → Type 0
+IsMarkable (Table name cover pins, free) = free ≡ false
+IsMarkable (Register name init pin, free) = free ≡ true → init ≡ false
 
--- no initial value is open
-none_open : (n : Net) (nodes : List Node) → count_by is_assumed (map (element_of n) nodes) ≡ 0
-none_open n [] = refl
-none_open n (Table name cover pins ∷ nodes) = sum_by-cons (λ x. cond (is_assumed x) 1 0) (element_of n (Table name cover pins)) (map (element_of n) nodes) ∙ ap (λ (k : ℕ). 0 + k) (none_open n nodes)
-none_open n (Register name true pin ∷ nodes) = sum_by-cons (λ x. cond (is_assumed x) 1 0) (element_of n (Register name true pin)) (map (element_of n) nodes) ∙ ap (λ (k : ℕ). 0 + k) (none_open n nodes)
-none_open n (Register name false pin ∷ nodes) = sum_by-cons (λ x. cond (is_assumed x) 1 0) (element_of n (Register name false pin)) (map (element_of n) nodes) ∙ ap (λ (k : ℕ). 0 + k) (none_open n nodes)
+abbrev pub AreMarkable : List (Node × Bool) → Type 0
+AreMarkable [] = Unit {0}
+AreMarkable (node ∷ nodes) = IsMarkable node × AreMarkable nodes
 
-pub none_assumed : (n : Net) → 0 ≡ assumed (model_of n)
-unfolding assumed model_of
-none_assumed n = sym (none_open n n.nodes)
+markable_one : (node : Node) (free : Bool) → (free ≡ true → IsInitOf (Some node) false) → IsMarkable (node, free)
+markable_one (Table name cover pins) false h = refl
+markable_one (Table name cover pins) true h = absurd (h refl)
+markable_one (Register name init pin) free h = h
+
+markable_from : (free : List Bool) (nodes : List Node) → ((i : ℕ) → i < length nodes → bit_of free i ≡ true → IsInitOf (slice_get nodes i) false) → AreMarkable (with_marks free nodes)
+unfolding with_marks
+markable_from [] [] each = tt
+markable_from (bit ∷ free) [] each = tt
+markable_from [] (node ∷ nodes) each = (markable_one node false (each 0 (omega arith)), markable_from [] nodes (λ i l. each (suc i) (omega (arith, l))))
+markable_from (bit ∷ free) (node ∷ nodes) each = (markable_one node bit (each 0 (omega arith)), markable_from free nodes (λ i l. each (suc i) (omega (arith, l))))
+
+pub markable : (n : Net) (free : List Bool) → ((x : ℕ) → node_bit (length n.inputs) free x ≡ true → IsInitOf (node_of n x) false) → AreMarkable (with_marks free n.nodes)
+markable n free marks = markable_from free n.nodes (λ i l e. subst (λ (o : Option Node). IsInitOf o false) (there i) (marks (length n.inputs + i) (bit_is (length n.inputs) free (length n.inputs + i) i refl ∙ e)))
+  where
+    there : (i : ℕ) → node_of n (length n.inputs + i) ≡ slice_get n.nodes i
+    there i = let less : length n.inputs + i - length n.inputs ≡ i = omega arith in slot_at (length n.inputs) n.nodes (length n.inputs + i) (omega arith) ∙ ap (slice_get n.nodes) less
+
+no_bit : (i : ℕ) → bit_of [] i ≡ true → ⊥
+no_bit i e = cc
+
+pub none_markable : (n : Net) → AreMarkable (with_marks [] n.nodes)
+none_markable n = markable_from [] n.nodes (λ i l e. absurd (no_bit i e))
+
+one_drafted : (n : Net) (node : Node) (bit : Bool) (rest : List (Node × Bool)) (nodes : List Node) → IsMarkable (node, bit) → flat_map drafted (map (element_of n) rest) ≡ map (draft_element n) nodes → flat_map drafted (map (element_of n) ((node, bit) ∷ rest)) ≡ map (draft_element n) (node ∷ nodes)
+one_drafted n (Table name cover pins) bit rest nodes ok e = ap (λ (es : List Element). TableOf (net_words n pins) name cover ∷ es) e
+one_drafted n (Register name init pin) bit rest nodes ok e = ap (λ (b : Bool). LatchOf (name_of n pin) name n.clock b ∷ flat_map drafted (map (element_of n) rest)) (starts_again bit init ok) ∙ ap (λ (es : List Element). LatchOf (name_of n pin) name n.clock init ∷ es) e
+
+drafted_again : (n : Net) (free : List Bool) (nodes : List Node) → AreMarkable (with_marks free nodes) → flat_map drafted (map (element_of n) (with_marks free nodes)) ≡ map (draft_element n) nodes
+unfolding with_marks
+drafted_again n [] [] ok = refl
+drafted_again n (bit ∷ free) [] ok = refl
+drafted_again n [] (node ∷ nodes) ok = one_drafted n node false (with_marks [] nodes) nodes ok.0 (drafted_again n [] nodes ok.1)
+drafted_again n (bit ∷ free) (node ∷ nodes) ok = one_drafted n node bit (with_marks free nodes) nodes ok.0 (drafted_again n free nodes ok.1)
+
+pub draft_is : (n : Net) (free : List Bool) → AreMarkable (with_marks free n.nodes) → draft_of (free_model n free) ≡ net_draft n
+unfolding draft_of free_model
+draft_is n free ok = ap (λ (es : List Element). let d : PlainDraft = record { model = n.model; inputs = n.inputs ++ clock_words n.clock; outputs = net_words n n.outputs; elements = es } in d) (drafted_again n free n.nodes ok)
+
+-- ---- the marks
+
+abbrev pub mark_in : Node × Bool → Bool
+mark_in node = node.1
+
+marks_again : (n : Net) (nodes : List (Node × Bool)) → AreMarkable nodes → flat_map open_mark (map (element_of n) nodes) ≡ map mark_in nodes
+marks_again n [] ok = refl
+marks_again n ((Table name cover pins, free) ∷ nodes) ok = ap (λ (b : Bool). b ∷ flat_map open_mark (map (element_of n) nodes)) (sym ok.0) ∙ ap (λ (bs : List Bool). free ∷ bs) (marks_again n nodes ok.1)
+marks_again n ((Register name init pin, free) ∷ nodes) ok = ap (λ (b : Bool). b ∷ flat_map open_mark (map (element_of n) nodes)) (open_again free init) ∙ ap (λ (bs : List Bool). free ∷ bs) (marks_again n nodes ok.1)
+
+all_marks : (free : List Bool) (nodes : List Node) → length free ≡ length nodes → map mark_in (with_marks free nodes) ≡ free
+unfolding with_marks
+all_marks [] [] e = refl
+all_marks (bit ∷ free) [] e = absurd (omega (arith, e))
+all_marks [] (node ∷ nodes) e = absurd (omega (arith, e))
+all_marks (bit ∷ free) (node ∷ nodes) e = ap (λ (bs : List Bool). bit ∷ bs) (all_marks free nodes (omega (arith, e)))
+
+no_marks : (nodes : List Node) → count_by (λ bit. bit) (map mark_in (with_marks [] nodes)) ≡ 0
+unfolding with_marks
+no_marks [] = refl
+no_marks (node ∷ nodes) = sum_by-cons (λ bit. cond bit 1 0) false (map mark_in (with_marks [] nodes)) ∙ ap (λ (k : ℕ). 0 + k) (no_marks nodes)
+
+-- the marks are read back
+pub open_are : (n : Net) (free : List Bool) → length free ≡ length n.nodes → AreMarkable (with_marks free n.nodes) → free ≡ open_marks (free_model n free)
+unfolding open_marks free_model
+open_are n free long ok = sym (marks_again n (with_marks free n.nodes) ok ∙ all_marks free n.nodes long)
+
+no_open : (n : Net) → open_marks (free_model n []) ≡ map mark_in (with_marks [] n.nodes)
+unfolding open_marks free_model
+no_open n = marks_again n (with_marks [] n.nodes) (none_markable n)
+
+-- without marks no initial value is open
+pub none_assumed : (n : Net) → 0 ≡ assumed (free_model n [])
+none_assumed n = sym (sym (marks_counted (free_model n [])) ∙ (ap (count_by (λ bit. bit)) (no_open n) ∙ no_marks n.nodes))
 
 -- ---- the clock
 

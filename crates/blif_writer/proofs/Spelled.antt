@@ -17,8 +17,10 @@ use Rattle.blif_text.specs.Models.{PlainElement, PlainModel, Table as TableEleme
 use Rattle.blif_text.specs.Reading.{reading_of, reading}
 use Rattle.blif_text.proofs.Tables.{table_is}
 use Rattle.hierarchy.proofs.NameSets.{none_before}
-use Rattle.blif_writer.specs.Text.{bit, edge_word, row_line, row_lines, net_words, clock_words, node_lines, flat_lines, flat_text}
-use Rattle.blif_writer.specs.Model.{init_of, element_of, model_of}
+use Rattle.blif_writer.specs.Text.{edge_word, row_line, row_lines, init_word, start_of, with_marks, net_words, clock_words, node_lines, free_lines, free_text}
+use Rattle.blif_text.specs.declared.library.Init.{Init}
+use Rattle.blif_text.specs.declared.library.Init.TheVariants.{Zero, One, Free, Unknown}
+use Rattle.blif_writer.specs.Model.{element_of, free_model}
 use Rattle.blif_writer.proofs.Clean.{numbered, statements_again}
 use Rattle.blif_writer.proofs.KindLaws.{AreRows, rows_from, IsControl, IsSpelled, AreSpelled, IsText, first_word, bit_is, row_read, row_statement, row_numbered, table_statement, table_numbered, latch_words, latch_statement, latch_numbered, model_statement, inputs_statement, outputs_statement, behind_ports, flat_numbered, text_good, text_lines}
 
@@ -46,11 +48,11 @@ rows_body : (on : Bool) (width : ℕ) (rs : List (List ℕ)) → AreRows width r
 rows_body on width [] ok = tt
 rows_body on width (row ∷ rs) ok = row_body on row (map (row_line on) rs) ok.0.1 (rows_body on width rs ok.1)
 
-node_body : (n : Net) (node : Node) → IsSpelled n node → AreBody (node_lines n node)
-node_body n (Table name cover pins) ok = (inl refl, rows_body cover.is_on cover.width cover.rows (rows_from cover.width cover.rows ok.3.rows))
-node_body n (Register name init pin) ok = (inr (inl refl), tt)
+node_body : (n : Net) (node : Node × Bool) → IsSpelled n node.0 → AreBody (node_lines n node)
+node_body n (Table name cover pins, free) ok = (inl refl, rows_body cover.is_on cover.width cover.rows (rows_from cover.width cover.rows ok.3.rows))
+node_body n (Register name init pin, free) ok = (inr (inl refl), tt)
 
-nodes_body : (n : Net) (nodes : List Node) → AreSpelled n nodes → AreBody (flat_map (node_lines n) nodes)
+nodes_body : (n : Net) (nodes : List (Node × Bool)) → AreSpelled n nodes → AreBody (flat_map (node_lines n) nodes)
 nodes_body n [] ok = tt
 nodes_body n (node ∷ nodes) ok = body_join (node_lines n node) (flat_map (node_lines n) nodes) (node_body n node ok.0) (nodes_body n nodes ok.1)
 
@@ -133,11 +135,11 @@ rows_passed on width (row ∷ rs) number ls es ok is =
     let here : elements (row_statement number on row ∷ numbered (number + 1) (map (row_line on) rs ++ ls)) ≡ es = rows_passed on width rs (number + 1) ls es ok.1 is in
     ap elements (row_numbered number on row (map (row_line on) rs ++ ls) ok.0.1) ∙ here
 
-no_rows : (n : Net) (nodes : List Node) (width number : ℕ) → rows width (numbered number (flat_map (node_lines n) nodes)) ≡ []
+no_rows : (n : Net) (nodes : List (Node × Bool)) (width number : ℕ) → rows width (numbered number (flat_map (node_lines n) nodes)) ≡ []
 unfolding rows word_of
 no_rows n [] width number = refl
-no_rows n (Table name cover pins ∷ nodes) width number = refl
-no_rows n (Register name init pin ∷ nodes) width number = refl
+no_rows n ((Table name cover pins, free) ∷ nodes) width number = refl
+no_rows n ((Register name init pin, free) ∷ nodes) width number = refl
 
 table_again : (number : ℕ) (pins : List (List ℕ)) (out : List ℕ) (k : PlainCover) (ls : List (List (List ℕ))) (es : List PlainElement) → length pins ≡ k.width → IsCover k → ((width later : ℕ) → rows width (numbered later ls) ≡ []) → ((later : ℕ) → elements (numbered later ls) ≡ es)
     → elements (numbered number ((codes ".names" ∷ (pins ++ out ∷ [])) ∷ (row_lines k ++ ls))) ≡ TableElement pins out k ∷ es
@@ -166,38 +168,40 @@ table_again number pins out k ls es wide cover ends is =
     here : elements (table_statement number (pins ++ out ∷ []) ∷ numbered (number + 1) (row_lines k ++ ls)) ≡ TableElement pins out k ∷ es
     here = ap (λ (e : PlainElement). e ∷ elements (numbered (number + 1) (row_lines k ++ ls))) first ∙ ap (λ (more : List PlainElement). TableElement pins out k ∷ more) rest
 
-init_again : (b : Bool) → init (bit b) ≡ init_of b
-init_again true = refl
-init_again false = refl
+init_again : (b : Init) → init (init_word b) ≡ b
+init_again Zero = refl
+init_again One = refl
+init_again Free = refl
+init_again Unknown = refl
 
 edge_again : (e : Edge) → edge (edge_word e) ≡ e
 edge_again Rising = refl
 edge_again Falling = refl
 
-latch_read : (pin out : List ℕ) (clock : Option (Edge × List ℕ)) (b : Bool) → IsControl clock → register (latch_words pin out clock b) ≡ LatchElement pin out clock (init_of b) ∷ []
+latch_read : (pin out : List ℕ) (clock : Option (Edge × List ℕ)) (b : Init) → IsControl clock → register (latch_words pin out clock b) ≡ LatchElement pin out clock b ∷ []
 unfolding register
 latch_read pin out None b c = rw (init_again b) refl
 latch_read pin out (Some (e, name)) b c = rw (init_again b, eq_false name (codes "NIL") c.1, edge_again e) refl
 
-latch_again : (number : ℕ) (pin out : List ℕ) (clock : Option (Edge × List ℕ)) (b : Bool) (ls : List (List (List ℕ))) (es : List PlainElement) → IsControl clock → ((later : ℕ) → elements (numbered later ls) ≡ es)
-    → elements (numbered number ((codes ".latch" ∷ latch_words pin out clock b) ∷ ls)) ≡ LatchElement pin out clock (init_of b) ∷ es
+latch_again : (number : ℕ) (pin out : List ℕ) (clock : Option (Edge × List ℕ)) (b : Init) (ls : List (List (List ℕ))) (es : List PlainElement) → IsControl clock → ((later : ℕ) → elements (numbered later ls) ≡ es)
+    → elements (numbered number ((codes ".latch" ∷ latch_words pin out clock b) ∷ ls)) ≡ LatchElement pin out clock b ∷ es
 unfolding elements word_of
 latch_again number pin out clock b ls es c is =
     ap elements (latch_numbered number (latch_words pin out clock b) ls) ∙ here
   where
-    here : elements (latch_statement number (latch_words pin out clock b) ∷ numbered (number + 1) ls) ≡ LatchElement pin out clock (init_of b) ∷ es
-    here = ap (λ (e : List PlainElement). e ++ elements (numbered (number + 1) ls)) (latch_read pin out clock b c) ∙ ap (λ (more : List PlainElement). LatchElement pin out clock (init_of b) ∷ more) (is (number + 1))
+    here : elements (latch_statement number (latch_words pin out clock b) ∷ numbered (number + 1) ls) ≡ LatchElement pin out clock b ∷ es
+    here = ap (λ (e : List PlainElement). e ++ elements (numbered (number + 1) ls)) (latch_read pin out clock b c) ∙ ap (λ (more : List PlainElement). LatchElement pin out clock b ∷ more) (is (number + 1))
 
-elements_again : (n : Net) (nodes : List Node) → AreSpelled n nodes → (number : ℕ) → elements (numbered number (flat_map (node_lines n) nodes)) ≡ map (element_of n) nodes
+elements_again : (n : Net) (nodes : List (Node × Bool)) → AreSpelled n nodes → (number : ℕ) → elements (numbered number (flat_map (node_lines n) nodes)) ≡ map (element_of n) nodes
 unfolding elements
 elements_again n [] ok number = none
   where
     none : elements [] ≡ []
     none = refl
-elements_again n (Table name cover pins ∷ nodes) ok number =
+elements_again n ((Table name cover pins, free) ∷ nodes) ok number =
     table_again number (net_words n pins) name cover (flat_map (node_lines n) nodes) (map (element_of n) nodes) (length-map pins (name_of n) ∙ ok.0.2) ok.0.3 (no_rows n nodes) (elements_again n nodes ok.1)
-elements_again n (Register name init pin ∷ nodes) ok number =
-    latch_again number (name_of n pin) name n.clock init (flat_map (node_lines n) nodes) (map (element_of n) nodes) ok.0.2 (elements_again n nodes ok.1)
+elements_again n ((Register name init pin, free) ∷ nodes) ok number =
+    latch_again number (name_of n pin) name n.clock (start_of free init) (flat_map (node_lines n) nodes) (map (element_of n) nodes) ok.0.2 (elements_again n nodes ok.1)
 
 -- ---- the model
 
@@ -209,53 +213,53 @@ appearing_all listed (name ∷ names) differ =
     rw (none_before listed name names differ) (appearing_all (listed ++ name ∷ []) names (subst Differ (sym whole) differ) ∙ whole)
 
 -- the statements of the model
-abbrev own_statements : Net → List Statement
-own_statements n = inputs_statement n ∷ outputs_statement n ∷ numbered 4 (flat_map (node_lines n) n.nodes)
+abbrev own_statements : Net → List Bool → List Statement
+own_statements n free = inputs_statement n ∷ outputs_statement n ∷ numbered 4 (flat_map (node_lines n) (with_marks free n.nodes))
 
-own_again : (n : Net) → IsText n → own (inputs_statement n ∷ outputs_statement n ∷ numbered 4 (behind_ports n)) ≡ own_statements n
+own_again : (n : Net) (free : List Bool) → IsText n free → own (inputs_statement n ∷ outputs_statement n ∷ numbered 4 (behind_ports n free)) ≡ own_statements n free
 unfolding own word_of
-own_again n t = ap (λ (ss : List Statement). inputs_statement n ∷ outputs_statement n ∷ ss) (own_body 4 (flat_map (node_lines n) n.nodes) (nodes_body n n.nodes t.nodes))
+own_again n free t = ap (λ (ss : List Statement). inputs_statement n ∷ outputs_statement n ∷ ss) (own_body 4 (flat_map (node_lines n) (with_marks free n.nodes)) (nodes_body n (with_marks free n.nodes) t.nodes))
 
-no_more : (n : Net) → IsText n → models (inputs_statement n ∷ outputs_statement n ∷ numbered 4 (behind_ports n)) ≡ []
+no_more : (n : Net) (free : List Bool) → IsText n free → models (inputs_statement n ∷ outputs_statement n ∷ numbered 4 (behind_ports n free)) ≡ []
 unfolding models word_of
-no_more n t = models_body 4 (flat_map (node_lines n) n.nodes) (nodes_body n n.nodes t.nodes)
+no_more n free t = models_body 4 (flat_map (node_lines n) (with_marks free n.nodes)) (nodes_body n (with_marks free n.nodes) t.nodes)
 
-inputs_again : (n : Net) → IsText n → appearing [] (listed is_port_in (own_statements n)) ≡ n.inputs ++ clock_words n.clock
+inputs_again : (n : Net) (free : List Bool) → IsText n free → appearing [] (listed is_port_in (own_statements n free)) ≡ n.inputs ++ clock_words n.clock
 unfolding listed word_of
-inputs_again n t =
-    let none : listed is_port_in (numbered 4 (flat_map (node_lines n) n.nodes)) ≡ [] = no_inputs 4 (flat_map (node_lines n) n.nodes) (nodes_body n n.nodes t.nodes) in
+inputs_again n free t =
+    let none : listed is_port_in (numbered 4 (flat_map (node_lines n) (with_marks free n.nodes))) ≡ [] = no_inputs 4 (flat_map (node_lines n) (with_marks free n.nodes)) (nodes_body n (with_marks free n.nodes) t.nodes) in
     ap (λ (more : List (List ℕ)). appearing [] ((n.inputs ++ clock_words n.clock) ++ more)) none ∙ (ap (appearing []) (append-nil (n.inputs ++ clock_words n.clock)) ∙ appearing_all [] (n.inputs ++ clock_words n.clock) t.inputs_differ)
 
-outputs_again : (n : Net) → IsText n → listed is_port_out (own_statements n) ≡ net_words n n.outputs
+outputs_again : (n : Net) (free : List Bool) → IsText n free → listed is_port_out (own_statements n free) ≡ net_words n n.outputs
 unfolding listed word_of
-outputs_again n t =
-    let none : listed is_port_out (numbered 4 (flat_map (node_lines n) n.nodes)) ≡ [] = no_outputs 4 (flat_map (node_lines n) n.nodes) (nodes_body n n.nodes t.nodes) in
+outputs_again n free t =
+    let none : listed is_port_out (numbered 4 (flat_map (node_lines n) (with_marks free n.nodes))) ≡ [] = no_outputs 4 (flat_map (node_lines n) (with_marks free n.nodes)) (nodes_body n (with_marks free n.nodes) t.nodes) in
     ap (λ (more : List (List ℕ)). net_words n n.outputs ++ more) none ∙ append-nil (net_words n n.outputs)
 
-own_elements : (n : Net) → IsText n → elements (own_statements n) ≡ map (element_of n) n.nodes
+own_elements : (n : Net) (free : List Bool) → IsText n free → elements (own_statements n free) ≡ map (element_of n) (with_marks free n.nodes)
 unfolding elements word_of
-own_elements n t = elements_again n n.nodes t.nodes 4
+own_elements n free t = elements_again n (with_marks free n.nodes) t.nodes 4
 
-model_again : (n : Net) → IsText n → model n.model (own_statements n) ≡ model_of n
-unfolding model model_of
-model_again n t = rw (inputs_again n t, outputs_again n t, own_elements n t) refl
+model_again : (n : Net) (free : List Bool) → IsText n free → model n.model (own_statements n free) ≡ free_model n free
+unfolding model free_model
+model_again n free t = rw (inputs_again n free t, outputs_again n free t, own_elements n free t) refl
 
-models_again : (n : Net) → IsText n → models (numbered 1 (flat_lines n)) ≡ model_of n ∷ []
+models_again : (n : Net) (free : List Bool) → IsText n free → models (numbered 1 (free_lines n free)) ≡ free_model n free ∷ []
 unfolding models word_of
-models_again n t = ap models (flat_numbered n) ∙ whole
+models_again n free t = ap models (flat_numbered n free) ∙ whole
   where
-    whole : models (model_statement n ∷ inputs_statement n ∷ outputs_statement n ∷ numbered 4 (behind_ports n)) ≡ model_of n ∷ []
+    whole : models (model_statement n ∷ inputs_statement n ∷ outputs_statement n ∷ numbered 4 (behind_ports n free)) ≡ free_model n free ∷ []
     whole =
-        ap (λ (body : List Statement). model n.model body ∷ models (inputs_statement n ∷ outputs_statement n ∷ numbered 4 (behind_ports n))) (own_again n t)
-        ∙ (ap (λ (m : PlainModel). m ∷ models (inputs_statement n ∷ outputs_statement n ∷ numbered 4 (behind_ports n))) (model_again n t)
-        ∙ ap (λ (ms : List PlainModel). model_of n ∷ ms) (no_more n t))
+        ap (λ (body : List Statement). model n.model body ∷ models (inputs_statement n ∷ outputs_statement n ∷ numbered 4 (behind_ports n free))) (own_again n free t)
+        ∙ (ap (λ (m : PlainModel). m ∷ models (inputs_statement n ∷ outputs_statement n ∷ numbered 4 (behind_ports n free))) (model_again n free t)
+        ∙ ap (λ (ms : List PlainModel). free_model n free ∷ ms) (no_more n free t))
 
 -- reading the text gives the one model
-pub reading_again : (n : Net) → IsText n → reading (flat_text n) ≡ Ok (model_of n ∷ [])
+pub reading_again : (n : Net) (free : List Bool) → IsText n free → reading (free_text n free) ≡ Ok (free_model n free ∷ [])
 unfolding reading_of
-reading_again n t =
-    let whole = statements_again (flat_lines n) (text_lines n t) in
-    ap reading_of (whole ∙ flat_numbered n) ∙ (first ∙ ap Ok (ap models (sym (flat_numbered n)) ∙ models_again n t))
+reading_again n free t =
+    let whole = statements_again (free_lines n free) (text_lines n free t) in
+    ap reading_of (whole ∙ flat_numbered n free) ∙ (first ∙ ap Ok (ap models (sym (flat_numbered n free)) ∙ models_again n free t))
   where
-    first : reading_of (model_statement n ∷ inputs_statement n ∷ outputs_statement n ∷ numbered 4 (behind_ports n)) ≡ Ok (models (model_statement n ∷ inputs_statement n ∷ outputs_statement n ∷ numbered 4 (behind_ports n)))
-    first = rw (ap (first_bad []) (sym (flat_numbered n)) ∙ text_good n t) refl
+    first : reading_of (model_statement n ∷ inputs_statement n ∷ outputs_statement n ∷ numbered 4 (behind_ports n free)) ≡ Ok (models (model_statement n ∷ inputs_statement n ∷ outputs_statement n ∷ numbered 4 (behind_ports n free)))
+    first = rw (ap (first_bad []) (sym (flat_numbered n free)) ∙ text_good n free t) refl

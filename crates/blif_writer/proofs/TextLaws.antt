@@ -1,10 +1,10 @@
 -- All lines of a text, one after the other.
-use Rattle.std.proofs.Common.{◌≡◌, ℕ, List, [], ◌∷◌, ◌++◌, sym, ap, ◌∙◌, append_assoc}
+use Rattle.std.proofs.Common.{◌≡◌, ℕ, Bool, List, [], ◌∷◌, ◌++◌, sym, ap, ◌∙◌, append_assoc}
 use Rattle.std.specs.Prelude.{codes}
 use Rattle.std.specs.List.{flat_map}
 use Rattle.std.proofs.lemmas.List.Concat.{flat_map-append}
 use Rattle.flat_net.specs.Net.{Net}
-use Rattle.blif_writer.specs.Text.{line_text, lines_text, net_words, clock_words, node_lines, flat_lines, flat_text}
+use Rattle.blif_writer.specs.Text.{line_text, lines_text, net_words, clock_words, with_marks, node_lines, free_lines, free_text}
 use Rattle.blif_writer.specs.Left.{nodes_left, spaced, spaced_line}
 use Rattle.blif_writer.proofs.Putting.{joined}
 
@@ -23,19 +23,19 @@ three : (a b c x y z m : List ℕ) → a ≡ x → b ≡ y → c ≡ z → a ++ 
 three a b c x y z m ea eb ec = cc
 
 -- the text of a design, piece by piece
-text_is : (n : Net) → flat_text n ≡ spaced_line (codes ".model") (n.model ∷ []) ++ (spaced_line (codes ".inputs") (n.inputs ++ clock_words n.clock) ++ (spaced_line (codes ".outputs") (net_words n n.outputs) ++ (nodes_left n 0 ++ lines_text ((codes ".end" ∷ []) ∷ []))))
-unfolding flat_lines
-text_is n =
+text_is : (n : Net) (free : List Bool) → free_text n free ≡ spaced_line (codes ".model") (n.model ∷ []) ++ (spaced_line (codes ".inputs") (n.inputs ++ clock_words n.clock) ++ (spaced_line (codes ".outputs") (net_words n n.outputs) ++ (nodes_left n free 0 ++ lines_text ((codes ".end" ∷ []) ∷ []))))
+unfolding free_lines
+text_is n free =
     let ins = n.inputs ++ clock_words n.clock in
     let outs = net_words n n.outputs in
     let end : List (List (List ℕ)) = (codes ".end" ∷ []) ∷ [] in
-    let nodes = flat_map-append line_text (flat_map (node_lines n) n.nodes) end in
+    let nodes = flat_map-append line_text (flat_map (node_lines n) (with_marks free n.nodes)) end in
     ap (λ (t : List ℕ). line_text (codes ".model" ∷ n.model ∷ []) ++ (line_text (codes ".inputs" ∷ ins) ++ (line_text (codes ".outputs" ∷ outs) ++ t))) nodes
-    ∙ three (line_text (codes ".model" ∷ n.model ∷ [])) (line_text (codes ".inputs" ∷ ins)) (line_text (codes ".outputs" ∷ outs)) (spaced_line (codes ".model") (n.model ∷ [])) (spaced_line (codes ".inputs") ins) (spaced_line (codes ".outputs") outs) (nodes_left n 0 ++ lines_text end)
+    ∙ three (line_text (codes ".model" ∷ n.model ∷ [])) (line_text (codes ".inputs" ∷ ins)) (line_text (codes ".outputs" ∷ outs)) (spaced_line (codes ".model") (n.model ∷ [])) (spaced_line (codes ".inputs") ins) (spaced_line (codes ".outputs") outs) (nodes_left n free 0 ++ lines_text end)
     (line_is (codes ".model") (n.model ∷ [])) (line_is (codes ".inputs") ins) (line_is (codes ".outputs") outs)
 
 -- all lines are put
-pub text_put : (n : Net) (o0 o1 o2 o3 o4 o5 : List ℕ) → o0 ≡ [] → o1 ≡ o0 ++ spaced_line (codes ".model") (n.model ∷ []) → o2 ≡ o1 ++ spaced_line (codes ".inputs") (n.inputs ++ clock_words n.clock) → o3 ≡ o2 ++ spaced_line (codes ".outputs") (net_words n n.outputs)
-    → o4 ≡ o3 ++ nodes_left n 0 → o5 ≡ o4 ++ lines_text ((codes ".end" ∷ []) ∷ []) → o5 ≡ flat_text n
-text_put n o0 o1 o2 o3 o4 o5 e0 e1 e2 e3 e4 e5 =
-    in_a_row (spaced_line (codes ".model") (n.model ∷ [])) (spaced_line (codes ".inputs") (n.inputs ++ clock_words n.clock)) (spaced_line (codes ".outputs") (net_words n n.outputs)) (nodes_left n 0) (lines_text ((codes ".end" ∷ []) ∷ [])) o0 o1 o2 o3 o4 o5 e0 e1 e2 e3 e4 e5 ∙ sym (text_is n)
+pub text_put : (n : Net) (free : List Bool) (o0 o1 o2 o3 o4 o5 : List ℕ) → o0 ≡ [] → o1 ≡ o0 ++ spaced_line (codes ".model") (n.model ∷ []) → o2 ≡ o1 ++ spaced_line (codes ".inputs") (n.inputs ++ clock_words n.clock) → o3 ≡ o2 ++ spaced_line (codes ".outputs") (net_words n n.outputs)
+    → o4 ≡ o3 ++ nodes_left n free 0 → o5 ≡ o4 ++ lines_text ((codes ".end" ∷ []) ∷ []) → o5 ≡ free_text n free
+text_put n free o0 o1 o2 o3 o4 o5 e0 e1 e2 e3 e4 e5 =
+    in_a_row (spaced_line (codes ".model") (n.model ∷ [])) (spaced_line (codes ".inputs") (n.inputs ++ clock_words n.clock)) (spaced_line (codes ".outputs") (net_words n n.outputs)) (nodes_left n free 0) (lines_text ((codes ".end" ∷ []) ∷ [])) o0 o1 o2 o3 o4 o5 e0 e1 e2 e3 e4 e5 ∙ sym (text_is n free)

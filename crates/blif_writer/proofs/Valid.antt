@@ -1,12 +1,12 @@
 -- What a valid design gives to its text.
-use Rattle.std.proofs.Common.{◌≡◌, ℕ, suc, ◌+◌, ◌<◌, true, false, List, [], ◌∷◌, ◌++◌, length, map, get_or, Option, Some, None, sym, subst, ◌∙◌, arith}
+use Rattle.std.proofs.Common.{◌≡◌, Bool, ℕ, suc, ◌+◌, ◌<◌, true, false, List, [], ◌∷◌, ◌++◌, length, map, get_or, Option, Some, None, sym, subst, ◌∙◌, arith}
 use Rattle.std.specs.Prelude.{All}
 use Rattle.std.proofs.lemmas.List.{length-append, length-map, append-nil, get_or-map, get_or_default}
 use Rattle.std.proofs.lemmas.List.Elements.{All-head, All-tail}
 use Rattle.tmr_base.specs.Names.{is_name}
 use Rattle.tmr_base.specs.declared.ids.Edge.{Edge}
 use Rattle.flat_net.specs.Net.{Net, Node, Table, Register, IsValid, IsWired, IsClockOf, net_count, net_names, name_of, node_of, node_name}
-use Rattle.blif_writer.specs.Text.{net_words, clock_words}
+use Rattle.blif_writer.specs.Text.{with_marks, net_words, clock_words}
 use Rattle.blif_writer.proofs.Clean.{AreNames, names_join}
 use Rattle.blif_writer.proofs.KindLaws.{IsControl, IsSpelled, AreSpelled, IsText}
 use Rattle.blif_writer.proofs.NodeLines.{input_name, node_at, name_is}
@@ -82,17 +82,29 @@ spelled_node : (n : Net) (node : Node) → IsValid n → is_name (node_name node
 spelled_node n (Table name cover pins) v e wired = (net_names_are n pins v wired.0, e, wired.1, wired.2)
 spelled_node n (Register name init pin) v e wired = (v.names_are_names pin wired, e, control_is n v)
 
-spelled_nodes : (n : Net) (nodes : List Node) → EachNode (IsSpelled n) nodes → AreSpelled n nodes
+-- a property of each node that stands there with its mark
+abbrev pub EachMarked : (Node → Type 0) → List (Node × Bool) → Type 0
+EachMarked P [] = Unit {0}
+EachMarked P (node ∷ nodes) = P node.0 × EachMarked P nodes
+
+pub each_marked : (P : Node → Type 0) (free : List Bool) (nodes : List Node) → EachNode P nodes → EachMarked P (with_marks free nodes)
+unfolding with_marks
+each_marked P [] [] each = tt
+each_marked P (bit ∷ free) [] each = tt
+each_marked P [] (node ∷ nodes) each = (each.0, each_marked P [] nodes each.1)
+each_marked P (bit ∷ free) (node ∷ nodes) each = (each.0, each_marked P free nodes each.1)
+
+spelled_nodes : (n : Net) (nodes : List (Node × Bool)) → EachMarked (IsSpelled n) nodes → AreSpelled n nodes
 spelled_nodes n [] each = tt
 spelled_nodes n (node ∷ nodes) each = (each.0, spelled_nodes n nodes each.1)
 
 -- a valid design has a text
-pub valid_text : (n : Net) → IsValid n → IsText n
-valid_text n v = record {
+pub valid_text : (n : Net) (free : List Bool) → IsValid n → IsText n free
+valid_text n free v = record {
   model = v.model_is_name;
   inputs = names_join n.inputs (clock_words n.clock) (inputs_are n v) (clock_names n.clock (control_is n v));
   inputs_differ = differ_from (n.inputs ++ clock_words n.clock) (apart_left (n.inputs ++ clock_words n.clock) (map node_name n.nodes) (whole_apart n v));
   outputs = net_names_are n n.outputs v v.outputs_in_range;
   outputs_differ = differ_from (net_words n n.outputs) (outputs_apart n v);
-  nodes = spelled_nodes n n.nodes (each_node n (IsSpelled n) (λ x node lt at. spelled_node n node v (subst (λ (w : List ℕ). is_name w ≡ true) (name_is n x node at) (v.names_are_names x lt)) (v.wired x node at)));
+  nodes = spelled_nodes n (with_marks free n.nodes) (each_marked (IsSpelled n) free n.nodes (each_node n (IsSpelled n) (λ x node lt at. spelled_node n node v (subst (λ (w : List ℕ). is_name w ≡ true) (name_is n x node at) (v.names_are_names x lt)) (v.wired x node at))));
 }

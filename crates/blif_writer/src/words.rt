@@ -1,7 +1,7 @@
 //! Words and rows, put one after the other.
 ghost use Rattle.std.specs.Prelude.{◌≡◌, ◌<◌, ◌≤◌, ◌++◌, ◌∷◌, [], length, OnOk};
 ghost use Rattle.flat_net.specs.Net.{node_of, net_count, pins_at};
-ghost use Rattle.blif_writer.specs.Text.{bit, edge_word, row_line, row_lines, line_text, lines_text, net_words, clock_words, control_words};
+ghost use Rattle.blif_writer.specs.Text.{bit, init_word, start_of, edge_word, row_line, row_lines, line_text, lines_text, net_words, clock_words, control_words};
 ghost use Rattle.blif_writer.specs.Left.{spaced};
 
 use flat_net::FlatNet;
@@ -24,12 +24,21 @@ fn bit_byte(value: bool) -> u8
     if value { b'1' } else { b'0' }
 }
 
-/// Puts a blank and `1` or `0`.
-pub fn put_bit(out: &mut Vec<u8>, value: bool) -> Result<(), AllocError>
-    ensures { OnOk result (out.new.items ≡ out.old.items ++ 32 ∷ bit value) }
+fn start_byte(init: bool, free: bool) -> u8
+    ensures { result ∷ [] ≡ init_word (start_of free init) }
+{
+    if free {
+        return b'3';
+    }
+    if init { b'1' } else { b'0' }
+}
+
+/// Puts a blank and `3` where the value in cycle 0 is free, else `1` or `0`.
+pub fn put_start(out: &mut Vec<u8>, init: bool, free: bool) -> Result<(), AllocError>
+    ensures { OnOk result (out.new.items ≡ out.old.items ++ 32 ∷ init_word (start_of free init)) }
 {
     out.push(b' ')?;
-    out.push(bit_byte(value))?;
+    out.push(start_byte(init, free))?;
     Ok(())
 }
 

@@ -1,7 +1,7 @@
 -- What is written is read again: words, numbers, names and lines.
-use Rattle.std.proofs.Common.{◌≡◌, ℕ, zero, suc, ◌+◌, ◌^◌, ◌<◌, ◌≤◌, true, false, nat_lt, List, [], ◌∷◌, ◌++◌, length, get_or, Some, Ok, refl, sym, ap, ◌∙◌, arith}
+use Rattle.std.proofs.Common.{◌≡◌, ℕ, zero, suc, ◌+◌, ◌^◌, ◌<◌, ◌≤◌, Bool, true, false, nat_lt, nat_eq, List, [], ◌∷◌, ◌++◌, length, get_or, Some, Ok, refl, sym, ap, ◌∙◌, arith}
 use Rattle.std.proofs.Common.{◌⊎◌, inl, inr, append_assoc, take, drop}
-use Rattle.std.specs.Prelude.{codes, position, ◌==◌, ◌&&◌, not}
+use Rattle.std.specs.Prelude.{if◌then◌else◌, codes, position, ◌==◌, ◌&&◌, not}
 use Rattle.std.specs.Str.{bytes_eq}
 use Rattle.std.specs.List.{join_with_byte, position_or_len, before_first, after_first, list_all, AllByRecursion, All}
 use Rattle.std.specs.Fmt.{decimal}
@@ -24,10 +24,11 @@ use Rattle.tmr_base.specs.Names.{is_name, is_name_byte}
 use Rattle.tmr_base.proofs.NumberLaws.{number_again}
 use Rattle.flat_net.specs.Net.{Net, IsValid, net_names, net_named, net_count, name_of}
 use Rattle.certificate.specs.declared.role.Role.TheVariants.{Voter}
-use Rattle.certificate.specs.Lines.{Rest, next_line, words_of, form_words, number_at, is_full, is_line_feed, is_blank}
-use Rattle.certificate.specs.Plain.{IsNode, AreNodes}
+use Rattle.certificate.specs.declared.fault.CertFault.TheVariants.{UnknownNet}
+use Rattle.certificate.specs.Lines.{Rest, want, next_line, words_of, form_words, number_at, is_full, is_line_feed, is_blank}
+use Rattle.certificate.specs.Plain.{IsNode, IsVoted, AreNodes}
 use Rattle.certificate.specs.Text.{line_text, three_words, part_line, node_line}
-use Rattle.certificate.specs.Reading.{known, known_three, three_numbers, node_numbers, read_node, copy_named, voter_numbers, read_voter, read_part, read_parts}
+use Rattle.certificate.specs.Folding.{known, voted, known_three, three_numbers, node_numbers, read_node, copy_named, voter_numbers, read_voter, read_part, read_parts}
 use Rattle.certificate.proofs.Cases.{AreSmall, both_true}
 
 abbrev pub IsWord : List ℕ → Type 0
@@ -137,16 +138,30 @@ position_there w ws x lt e = go (below_or_not (position_or_len (bytes_eq w) ws) 
         let yes : bytes_eq w (get_or ws x []) ≡ true = (bytes_eq-Decides w (get_or ws x [])).1 (sym e) in
         absurd (cc (no, yes))
 
+named_again : (n : Net) (x : ℕ) → IsValid n → x < net_count n → position (bytes_eq (name_of n x)) (net_names n) ≡ Some x
+named_again n x valid lt =
+    let there = position_there (name_of n x) (net_names n) x (omega (arith, names_long n, lt)) refl in
+    let p = position-Some (bytes_eq (name_of n x)) (net_names n) there.0 [] there.1 in
+    let same : name_of n x ≡ name_of n there.0 = (bytes_eq-Decides (name_of n x) (get_or (net_names n) there.0 [])).0 p.1 in
+    let is : x ≡ there.0 = valid.names_differ x there.0 lt (omega (arith, names_long n, p.0)) same in
+    there.1 ∙ ap Some (sym is)
+
 pub known_again : (n : Net) (x line : ℕ) → IsValid n → IsNode n x → known n (name_of n x) line ≡ Ok x
 unfolding known net_named
 known_again n x line valid node =
-    let there = position_there (name_of n x) (net_names n) x (omega (arith, names_long n, node.1)) refl in
-    let p = position-Some (bytes_eq (name_of n x)) (net_names n) there.0 [] there.1 in
-    let same : name_of n x ≡ name_of n there.0 = (bytes_eq-Decides (name_of n x) (get_or (net_names n) there.0 [])).0 p.1 in
-    let is : x ≡ there.0 = valid.names_differ x there.0 node.1 (omega (arith, names_long n, p.0)) same in
-    let found : position (bytes_eq (name_of n x)) (net_names n) ≡ Some x = there.1 ∙ ap Some (sym is) in
     let high : nat_lt x (length n.inputs) ≡ false = le-ltb x (length n.inputs) node.0 in
-    rw found (rw high refl)
+    rw (named_again n x valid node.1) (rw high refl)
+
+is_one : (version : ℕ) → nat_eq version 1 ≡ true → version ≡ 1
+is_one version e = grind (arith, nat_tests)
+
+pub voted_again : (version : ℕ) (n : Net) (x line : ℕ) → IsValid n → IsVoted version n x → voted version n (name_of n x) line ≡ Ok x
+unfolding voted net_named
+voted_again version n x line valid voted_net = go (nat_eq version 1) refl
+  where
+    go : (b : Bool) → nat_eq version 1 ≡ b → (if b then known n (name_of n x) line else want (position (bytes_eq (name_of n x)) (net_names n)) (UnknownNet line)) ≡ Ok x
+    go true t = known_again n x line valid (voted_net.0 (is_one version t), voted_net.1)
+    go false t = rw (named_again n x valid voted_net.1) refl
 
 pub known_three_again : (h : Net) (t : Three) (line : ℕ) → IsValid h → AreNodes h t → known_three h (name_of h t.first) (name_of h t.second) (name_of h t.third) line ≡ Ok t
 unfolding known_three
@@ -206,20 +221,20 @@ voter_numbers_again : (n h : Net) (g x p : ℕ) (c : CopyNo) (line : ℕ) → p 
 unfolding voter_numbers
 voter_numbers_again n h g x p c line small = rw (number_at_again p line small, copy_again c) refl
 
-pub read_voter_again : (n h : Net) (text : List ℕ) (g x p parts : ℕ) (c : CopyNo) (line : ℕ) → words_of text ≡ voter_text n h g x p c → IsValid n → IsValid h → IsNode h g → IsNode n x → p < parts → parts ≤ 2 ^ 32 → list_all is_full (voter_text n h g x p c) ≡ true
-    → read_voter n h g parts text line ≡ Ok (Voter (record { 0 = x }) (record { 0 = p }) c)
+pub read_voter_again : (version : ℕ) (n h : Net) (text : List ℕ) (g x p parts : ℕ) (c : CopyNo) (line : ℕ) → words_of text ≡ voter_text n h g x p c → IsValid n → IsValid h → IsNode h g → IsVoted version n x → p < parts → parts ≤ 2 ^ 32 → list_all is_full (voter_text n h g x p c) ≡ true
+    → read_voter version n h g parts text line ≡ Ok (Voter (record { 0 = x }) (record { 0 = p }) c)
 unfolding read_voter
-read_voter_again n h text g x p parts c line all valid valid_h node_h node low small full =
+read_voter_again version n h text g x p parts c line all valid valid_h node_h voted_net low small full =
     let form = form_again text (codes "voter") (name_of h g ∷ name_of n x ∷ decimal p ∷ decimal (copy_number c) ∷ []) 5 line all refl full in
-    rw form (rw (voter_numbers_again n h g x p c line (omega arith), known_again h g line valid_h node_h, known_again n x line valid node, same_number g, lt-ltb p parts low) refl)
+    rw form (rw (voter_numbers_again n h g x p c line (omega arith), known_again h g line valid_h node_h, voted_again version n x line valid voted_net, same_number g, lt-ltb p parts low) refl)
 
 -- ---- each word of a line is a word
 
 all_cons : (w : List ℕ) (ws : List (List ℕ)) → is_full w ≡ true → list_all is_full ws ≡ true → list_all is_full (w ∷ ws) ≡ true
 all_cons w ws e f = rw (e, f) refl
 
-name_ok : (n : Net) (x : ℕ) → IsValid n → IsNode n x → IsWord (name_of n x) × (is_full (name_of n x) ≡ true)
-name_ok n x valid node = let e = valid.names_are_names x node.1 in (name_word (name_of n x) e, name_full (name_of n x) e)
+name_ok : (n : Net) (x : ℕ) → IsValid n → x < net_count n → IsWord (name_of n x) × (is_full (name_of n x) ≡ true)
+name_ok n x valid lt = let e = valid.names_are_names x lt in (name_word (name_of n x) e, name_full (name_of n x) e)
 
 number_ok : (m : ℕ) → m < 2 ^ 32 → IsWord (decimal m) × (is_full (decimal m) ≡ true)
 number_ok m small = (number_word m (omega arith), number_full m (omega arith))
@@ -236,13 +251,13 @@ more_words w ws one ok = record { words = (one.0, ok.words); full = all_cons w w
 
 pub node_line_ok : (n h : Net) (x p : ℕ) (copies labels : Three) → IsValid n → IsValid h → IsNode n x → AreNodes h copies → p < 2 ^ 32 → AreSmall labels → LineOk (node_line n h x p copies labels)
 node_line_ok n h x p copies labels valid valid_h node nodes low small =
-    more_words _ _ (coded (codes "node") refl, refl) (more_words _ _ (name_ok n x valid node) (more_words _ _ (number_ok p low)
-    (more_words _ _ (name_ok h copies.first valid_h nodes.0) (more_words _ _ (name_ok h copies.second valid_h nodes.1) (more_words _ _ (name_ok h copies.third valid_h nodes.2)
+    more_words _ _ (coded (codes "node") refl, refl) (more_words _ _ (name_ok n x valid node.1) (more_words _ _ (number_ok p low)
+    (more_words _ _ (name_ok h copies.first valid_h nodes.0.1) (more_words _ _ (name_ok h copies.second valid_h nodes.1.1) (more_words _ _ (name_ok h copies.third valid_h nodes.2.1)
     (more_words _ _ (number_ok labels.first small.0) (more_words _ _ (number_ok labels.second small.1) (more_words _ _ (number_ok labels.third small.2) no_words))))))))
 
-pub voter_text_ok : (n h : Net) (g x p : ℕ) (c : CopyNo) → IsValid n → IsValid h → IsNode h g → IsNode n x → p < 2 ^ 32 → LineOk (voter_text n h g x p c)
-voter_text_ok n h g x p c valid valid_h node_h node low =
-    more_words _ _ (coded (codes "voter") refl, refl) (more_words _ _ (name_ok h g valid_h node_h) (more_words _ _ (name_ok n x valid node) (more_words _ _ (number_ok p low) (more_words _ _ (number_ok (copy_number c) (copy_small c)) no_words))))
+pub voter_text_ok : (n h : Net) (g x p : ℕ) (c : CopyNo) → IsValid n → IsValid h → IsNode h g → x < net_count n → p < 2 ^ 32 → LineOk (voter_text n h g x p c)
+voter_text_ok n h g x p c valid valid_h node_h lt low =
+    more_words _ _ (coded (codes "voter") refl, refl) (more_words _ _ (name_ok h g valid_h node_h.1) (more_words _ _ (name_ok n x valid lt) (more_words _ _ (number_ok p low) (more_words _ _ (number_ok (copy_number c) (copy_small c)) no_words))))
 
 pub parts_line_ok : (count : ℕ) → count < 2 ^ 32 → LineOk (codes "parts" ∷ decimal count ∷ [])
 parts_line_ok count small = more_words _ _ (coded (codes "parts") refl, refl) (more_words _ _ (number_ok count small) no_words)

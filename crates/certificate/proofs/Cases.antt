@@ -1,10 +1,11 @@
 -- What a reading that did not fail has met.
-use Rattle.std.proofs.Common.{◌≡◌, ℕ, zero, suc, ◌+◌, ◌^◌, ◌<◌, ◌≤◌, Bool, true, false, cond, nat_lt, List, [], ◌∷◌, ◌++◌, length, get_or, Option, Some, None, Result, Ok, Err, refl, sym, ap, subst, ◌∙◌, add-zero, arith}
+use Rattle.std.proofs.Common.{◌≡◌, ℕ, zero, suc, ◌+◌, ◌^◌, ◌<◌, ◌≤◌, ◌⊎◌, inl, inr, Bool, true, false, cond, nat_lt, nat_eq, List, [], ◌∷◌, ◌++◌, length, get_or, Option, Some, None, Result, Ok, Err, refl, sym, ap, subst, ◌∙◌, add-zero, arith}
 use Rattle.std.specs.Prelude.{if◌then◌else◌, codes, ◌&&◌, ◌==◌, position}
 use Rattle.std.specs.Str.{bytes_eq}
 use Rattle.std.specs.List.{list_all}
 use Rattle.std.specs.Fmt.{decimal}
 use Rattle.std.proofs.lemmas.Bool.{ltb-true, ltb-false, eqb-true}
+use Rattle.std.proofs.lemmas.Bool.Decides.{nat_tests}
 use Rattle.std.proofs.lemmas.List.{length-append, length-map}
 use Rattle.std.proofs.lemmas.List.Quantifiers.{position-Some}
 use Rattle.std.proofs.lemmas.Slice.Eq.{bytes_eq-Decides}
@@ -20,9 +21,9 @@ use Rattle.flat_net.specs.Net.{Net, net_names, net_named, net_count, name_of}
 use Rattle.certificate.specs.declared.fault.CertFault.{CertFault}
 use Rattle.certificate.specs.declared.fault.CertFault.TheVariants.{Line, UnknownNet, Order, Range}
 use Rattle.certificate.specs.Lines.{◌>>=◌, want, hold, number_at, words_of, word, is_full, has_form, form_words}
-use Rattle.certificate.specs.Plain.{IsNode, AreNodes}
+use Rattle.certificate.specs.Plain.{IsNode, IsVoted, AreNodes}
 use Rattle.certificate.specs.Text.{three_words, node_line, part_line, voter_line}
-use Rattle.certificate.specs.Reading.{known, known_three, three_numbers, node_or_none, NodeLine, node_numbers, read_node, copy_named, voter_numbers, read_voter, read_part, read_parts, repeat}
+use Rattle.certificate.specs.Folding.{version_named, known, voted, known_three, three_numbers, node_or_none, NodeLine, node_numbers, read_node, copy_named, voter_numbers, read_voter, read_part, read_parts, repeat}
 
 -- the value of a step that did not fail
 pub bind_ok : {A B : Type 0} (r : Result A CertFault) (f : A → Result B CertFault) (y : B) → (r >>= f) ≡ Ok y → (x : A) × (r ≡ Ok x) × (f x ≡ Ok y)
@@ -79,6 +80,32 @@ known_is n name line x e =
     let o = node_found (length n.inputs) (position (bytes_eq name) (net_names n)) x (want_ok (node_or_none (length n.inputs) (position (bytes_eq name) (net_names n))) (UnknownNet line) x e) in
     let p = position-Some (bytes_eq name) (net_names n) x [] o.0 in
     ((bytes_eq-Decides name (get_or (net_names n) x [])).0 p.1, (o.1, omega (arith, names_long n, p.0)))
+
+not_one : (version : ℕ) → nat_eq version 1 ≡ false → version ≡ 1 → ⊥
+not_one version e f = grind (arith, nat_tests)
+
+-- and so is that of a net of which there are voters
+pub voted_is : (version : ℕ) (n : Net) (name : List ℕ) (line x : ℕ) → voted version n name line ≡ Ok x → (name ≡ name_of n x) × IsVoted version n x
+unfolding voted net_named
+voted_is version n name line x e = go (nat_eq version 1) refl e
+  where
+    go : (b : Bool) → nat_eq version 1 ≡ b → (if b then known n name line else want (position (bytes_eq name) (net_names n)) (UnknownNet line)) ≡ Ok x → (name ≡ name_of n x) × IsVoted version n x
+    go true t f = let k = known_is n name line x f in (k.0, (λ _. k.1.0, k.1.1))
+    go false t f =
+        let p = position-Some (bytes_eq name) (net_names n) x [] (want_ok (position (bytes_eq name) (net_names n)) (UnknownNet line) x f) in
+        ((bytes_eq-Decides name (get_or (net_names n) x [])).0 p.1, (λ one. absurd (not_one version t one), omega (arith, names_long n, p.0)))
+
+-- a first line names version 1 or 2
+pub version_is : (line : List ℕ) (version : ℕ) → version_named line ≡ Some version → ((version ≡ 1) × (line ≡ codes "tmr-cert 1")) ⊎ ((version ≡ 2) × (line ≡ codes "tmr-cert 2"))
+version_is line version e = first (bytes_eq line (codes "tmr-cert 1")) refl e
+  where
+    second : (b : Bool) → bytes_eq line (codes "tmr-cert 2") ≡ b → cond b (Some 2) None ≡ Some version → ((version ≡ 1) × (line ≡ codes "tmr-cert 1")) ⊎ ((version ≡ 2) × (line ≡ codes "tmr-cert 2"))
+    second true t f = inr (cc, (bytes_eq-Decides line (codes "tmr-cert 2")).0 t)
+    second false t f = absurd cc
+
+    first : (b : Bool) → bytes_eq line (codes "tmr-cert 1") ≡ b → cond b (Some 1) (cond (bytes_eq line (codes "tmr-cert 2")) (Some 2) None) ≡ Some version → ((version ≡ 1) × (line ≡ codes "tmr-cert 1")) ⊎ ((version ≡ 2) × (line ≡ codes "tmr-cert 2"))
+    first true t f = inl (cc, (bytes_eq-Decides line (codes "tmr-cert 1")).0 t)
+    first false t f = second (bytes_eq line (codes "tmr-cert 2")) refl f
 
 pub number_is : (bytes : List ℕ) (line m : ℕ) → number_at bytes line ≡ Ok m → (bytes ≡ decimal m) × (m < 2 ^ 32)
 unfolding number_at
@@ -241,34 +268,34 @@ voter_numbers_read words line x e =
       copy = copy_number_is (word words 4) c.0 (want_ok (copy_named (word words 4)) (Line line) c.0 c.1);
     })
 
-pub record VoterRead (n h : Net) (g parts : ℕ) (text : List ℕ) (role : Role) : Type 0 where
+pub record VoterRead (version : ℕ) (n h : Net) (g parts : ℕ) (text : List ℕ) (role : Role) : Type 0 where
   pub x : ℕ
   pub p : ℕ
   pub c : CopyNo
   pub is : role ≡ Voter (record { 0 = x }) (record { 0 = p }) c
-  pub node : IsNode n x
+  pub voted : IsVoted version n x
   pub part : p < parts
   pub words : voter_line n h g role ≡ words_of text ∷ []
 
-pub read_voter_read : (n h : Net) (g parts : ℕ) (text : List ℕ) (line : ℕ) (role : Role) → read_voter n h g parts text line ≡ Ok role → VoterRead n h g parts text role
+pub read_voter_read : (version : ℕ) (n h : Net) (g parts : ℕ) (text : List ℕ) (line : ℕ) (role : Role) → read_voter version n h g parts text line ≡ Ok role → VoterRead version n h g parts text role
 unfolding read_voter
-read_voter_read n h g parts text line role e =
+read_voter_read version n h g parts text line role e =
     let form = bind_ok (form_words text 5 (codes "voter") line) _ role e in
     let words : List (List ℕ) = form.0 in
     let f = form_is text 5 (codes "voter") line words form.1 in
     let numbers = bind_ok (voter_numbers words line) _ role form.2 in
     let named = bind_ok (known h (word words 1) line) _ role numbers.2 in
-    let node = bind_ok (known n (word words 2) line) _ role named.2 in
+    let node = bind_ok (voted version n (word words 2) line) _ role named.2 in
     let order = hold_ok (named.0 == g) (Order line) _ role node.2 in
     let range = hold_ok (nat_lt numbers.0.0 parts) (Range line) _ role order.1 in
     let made : Role = Voter (record { 0 = node.0 }) (record { 0 = numbers.0.0 }) numbers.0.1 in
     let r = voter_numbers_read words line numbers.0 numbers.1 in
     let k = known_is h (word words 1) line named.0 named.1 in
-    let t = known_is n (word words 2) line node.0 node.1 in
+    let t = voted_is version n (word words 2) line node.0 node.1 in
     let name : word words 1 ≡ name_of h g = k.0 ∙ ap (name_of h) (eqb-true _ _ order.0) in
     let all : words_of text ≡ codes "voter" ∷ name_of h g ∷ name_of n node.0 ∷ decimal numbers.0.0 ∷ decimal (copy_number numbers.0.1) ∷ [] =
     f.all ∙ (five_words words f.long ∙ same_five _ _ _ _ _ (codes "voter") (name_of h g) (name_of n node.0) (decimal numbers.0.0) (decimal (copy_number numbers.0.1)) f.first name t.0 r.part r.copy) in
-    subst (VoterRead n h g parts text) (ok_is made role range.1) (record { x = node.0; p = numbers.0.0; c = numbers.0.1; is = refl; node = t.1; part = ltb-true _ _ range.0; words = ap (λ (w : List (List ℕ)). w ∷ []) (sym all) })
+    subst (VoterRead version n h g parts text) (ok_is made role range.1) (record { x = node.0; p = numbers.0.0; c = numbers.0.1; is = refl; voted = t.1; part = ltb-true _ _ range.0; words = ap (λ (w : List (List ℕ)). w ∷ []) (sym all) })
 
 pub record PartRead (p : ℕ) (text : List ℕ) (depth : ℕ) : Type 0 where
   pub words : words_of text ≡ part_line p depth

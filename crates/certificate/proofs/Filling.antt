@@ -11,7 +11,7 @@ use Rattle.tmr_base.specs.Copies.{Three, of_copy}
 use Rattle.certificate.specs.declared.role.Role.{Role}
 use Rattle.certificate.specs.declared.role.Role.TheVariants.{Copy}
 use Rattle.certificate.specs.declared.fault.CertFault.TheVariants.{Doubled}
-use Rattle.certificate.specs.Reading.{give, give_copies}
+use Rattle.certificate.specs.Folding.{give, give_copies}
 use Rattle.certificate.proofs.Cases.{bind_ok, hold_ok, ok_is}
 
 -- the roles are those of which P says so, each at its place

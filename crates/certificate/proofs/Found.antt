@@ -1,6 +1,7 @@
 -- What is read is the text that the certificate is written with.
 use Rattle.std.proofs.Common.{◌≡◌, ℕ, suc, ◌+◌, Bool, true, false, cond, nat_lt, List, [], ◌∷◌, ◌++◌, length, get_or, Option, Some, None, Ok, Err, refl, sym, ap, subst, ◌∙◌, arith}
-use Rattle.std.proofs.Common.{append_assoc}
+use Rattle.std.proofs.Common.{append_assoc, ◌⊎◌, inl, inr}
+use Rattle.std.proofs.lemmas.Fmt.{decimal_digit}
 use Rattle.std.specs.Prelude.{◌==◌, codes}
 use Rattle.std.specs.Str.{bytes_eq}
 use Rattle.std.specs.List.{flat_map, join_with_byte, position_or_len, before_first, after_first}
@@ -17,11 +18,11 @@ use Rattle.flat_net.specs.Net.{Net}
 use Rattle.certificate.specs.declared.role.Role.{Role}
 use Rattle.certificate.specs.declared.fault.CertFault.{CertFault}
 use Rattle.certificate.specs.declared.fault.CertFault.TheVariants.{Line}
-use Rattle.certificate.specs.Lines.{Rest, next_line, words_of, is_line_feed}
+use Rattle.certificate.specs.Lines.{Rest, next_line, words_of, is_line_feed, want}
 use Rattle.certificate.specs.Cert.{PlainCert}
 use Rattle.certificate.specs.Text.{line_text, part_line, part_lines, node_line, node_lines, voter_line, voter_lines, cert_lines, cert_text}
-use Rattle.certificate.specs.Reading.{Depths, Nodes, Roles, give_copies, read_node, read_voter, read_part, read_parts, parts_line, first_line, last_line, part_step, node_step, role_step, voter_step, repeat, cert_of_text}
-use Rattle.certificate.proofs.Cases.{bind_ok, hold_ok, ok_is, repeat_all, read_node_read, read_voter_read, read_part_read, read_parts_read}
+use Rattle.certificate.specs.Folding.{version_named, Depths, Nodes, Roles, give_copies, read_node, read_voter, read_part, read_parts, parts_line, first_line, last_line, part_step, node_step, role_step, voter_step, repeat, fold_of_text}
+use Rattle.certificate.proofs.Cases.{bind_ok, hold_ok, want_ok, ok_is, version_is, repeat_all, read_node_read, read_voter_read, read_part_read, read_parts_read}
 use Rattle.certificate.proofs.Filling.{copy_role}
 use Rattle.certificate.proofs.Validity.{NodesOk, nodes_ok, no_nodes, cert_made, depths_ok}
 
@@ -128,41 +129,49 @@ voter_lines_push n h g (q ∷ rs) r =
 abbrev pub AreCopies : List (Option Role) → Type 0
 AreCopies given = (j : ℕ) (r : Role) → get_or given j None ≡ Some r → (x : ℕ) × (c : CopyNo) × (r ≡ copy_role x c)
 
-role_text : (n h : Net) (parts : ℕ) (given : List (Option Role)) (bytes : List ℕ) (s t : Roles) (o : Option Role) → AreCopies given → get_or given (length s.roles) None ≡ o → Spells bytes (voter_lines n h (length h.inputs) s.roles) s.rest → role_step n h parts o s ≡ Ok t → Spells bytes (voter_lines n h (length h.inputs) t.roles) t.rest
-role_text n h parts given bytes s t (Some r) copies is so_far e =
+role_text : (version : ℕ) (n h : Net) (parts : ℕ) (given : List (Option Role)) (bytes : List ℕ) (s t : Roles) (o : Option Role) → AreCopies given → get_or given (length s.roles) None ≡ o → Spells bytes (voter_lines n h (length h.inputs) s.roles) s.rest → role_step version n h parts o s ≡ Ok t → Spells bytes (voter_lines n h (length h.inputs) t.roles) t.rest
+role_text version n h parts given bytes s t (Some r) copies is so_far e =
     let made : Roles = record { roles = s.roles ++ r ∷ []; rest = s.rest } in
     let c = copies (length s.roles) r is in
     let none : voter_line n h (length h.inputs + length s.roles) r ≡ [] = ap (voter_line n h (length h.inputs + length s.roles)) c.2 in
     let lines : voter_lines n h (length h.inputs) s.roles ≡ voter_lines n h (length h.inputs) made.roles = sym (append-nil _) ∙ (ap (λ (v : List (List (List ℕ))). voter_lines n h (length h.inputs) s.roles ++ v) (sym none) ∙ sym (voter_lines_push n h (length h.inputs) s.roles r)) in
     subst (λ (d : Roles). Spells bytes (voter_lines n h (length h.inputs) d.roles) d.rest) (ok_is made t e) (subst (λ (v : List (List (List ℕ))). Spells bytes v s.rest) lines so_far)
-role_text n h parts given bytes s t None copies is so_far e =
+role_text version n h parts given bytes s t None copies is so_far e =
     let g = length h.inputs + length s.roles in
     let line = bind_ok (next_line s.rest) _ t e in
-    let role = bind_ok (read_voter n h g parts line.0.0 s.rest.line) _ t line.2 in
-    let v = read_voter_read n h g parts line.0.0 s.rest.line role.0 role.1 in
+    let role = bind_ok (read_voter version n h g parts line.0.0 s.rest.line) _ t line.2 in
+    let v = read_voter_read version n h g parts line.0.0 s.rest.line role.0 role.1 in
     let made : Roles = record { roles = s.roles ++ role.0 ∷ []; rest = line.0.1 } in
     let one = single s.rest line.0 (words_of line.0.0) line.1 refl in
     let all = one_more bytes (voter_lines n h (length h.inputs) s.roles) (words_of line.0.0 ∷ []) s.rest line.0.1 so_far one in
     let lines : voter_lines n h (length h.inputs) s.roles ++ words_of line.0.0 ∷ [] ≡ voter_lines n h (length h.inputs) made.roles = ap (λ (w : List (List (List ℕ))). voter_lines n h (length h.inputs) s.roles ++ w) (sym v.words) ∙ sym (voter_lines_push n h (length h.inputs) s.roles role.0) in
     subst (λ (d : Roles). Spells bytes (voter_lines n h (length h.inputs) d.roles) d.rest) (ok_is made t role.2) (subst (λ (w : List (List (List ℕ))). Spells bytes w line.0.1) lines all)
 
-role_text_keep : (n h : Net) (parts : ℕ) (given : List (Option Role)) (bytes : List ℕ) → AreCopies given → (i : ℕ) (s t : Roles) → Spells bytes (voter_lines n h (length h.inputs) s.roles) s.rest → voter_step n h parts given s ≡ Ok t → Spells bytes (voter_lines n h (length h.inputs) t.roles) t.rest
+role_text_keep : (version : ℕ) (n h : Net) (parts : ℕ) (given : List (Option Role)) (bytes : List ℕ) → AreCopies given → (i : ℕ) (s t : Roles) → Spells bytes (voter_lines n h (length h.inputs) s.roles) s.rest → voter_step version n h parts given s ≡ Ok t → Spells bytes (voter_lines n h (length h.inputs) t.roles) t.rest
 unfolding voter_step
-role_text_keep n h parts given bytes copies i s t so_far e = role_text n h parts given bytes s t (get_or given (length s.roles) None) copies refl so_far e
+role_text_keep version n h parts given bytes copies i s t so_far e = role_text version n h parts given bytes s t (get_or given (length s.roles) None) copies refl so_far e
 
-roles_text : (n h : Net) (parts : ℕ) (given : List (Option Role)) (rest : Rest) (t : Roles) → AreCopies given → repeat (length h.nodes) (voter_step n h parts given) (record { roles = []; rest = rest }) ≡ Ok t → Spells rest.bytes (voter_lines n h (length h.inputs) t.roles) t.rest
-roles_text n h parts given rest t copies e = repeat_all (λ i s. Spells rest.bytes (voter_lines n h (length h.inputs) s.roles) s.rest) (voter_step n h parts given) (role_text_keep n h parts given rest.bytes copies) (length h.nodes) (record { roles = []; rest = rest }) t refl e
+roles_text : (version : ℕ) (n h : Net) (parts : ℕ) (given : List (Option Role)) (rest : Rest) (t : Roles) → AreCopies given → repeat (length h.nodes) (voter_step version n h parts given) (record { roles = []; rest = rest }) ≡ Ok t → Spells rest.bytes (voter_lines n h (length h.inputs) t.roles) t.rest
+roles_text version n h parts given rest t copies e = repeat_all (λ i s. Spells rest.bytes (voter_lines n h (length h.inputs) s.roles) s.rest) (voter_step version n h parts given) (role_text_keep version n h parts given rest.bytes copies) (length h.nodes) (record { roles = []; rest = rest }) t refl e
 
 -- ---- all of it
 
-first_text : (r s : Rest) → first_line r ≡ Ok s → Spells r.bytes ((codes "tmr-cert" ∷ codes "1" ∷ []) ∷ []) s
+first_words : (line : List ℕ) (version : ℕ) → ((version ≡ 1) × (line ≡ codes "tmr-cert 1")) ⊎ ((version ≡ 2) × (line ≡ codes "tmr-cert 2")) → words_of line ≡ codes "tmr-cert" ∷ decimal version ∷ []
+first_words line version (inl p) =
+    let digit : codes "1" ≡ decimal version = sym (decimal_digit 1 (omega arith)) ∙ ap decimal (sym p.0) in
+    ap words_of p.1 ∙ ap (λ (w : List ℕ). codes "tmr-cert" ∷ w ∷ []) digit
+first_words line version (inr p) =
+    let digit : codes "2" ≡ decimal version = sym (decimal_digit 2 (omega arith)) ∙ ap decimal (sym p.0) in
+    ap words_of p.1 ∙ ap (λ (w : List ℕ). codes "tmr-cert" ∷ w ∷ []) digit
+
+first_text : (r : Rest) (s : ℕ × Rest) → first_line r ≡ Ok s → Spells r.bytes ((codes "tmr-cert" ∷ decimal s.0 ∷ []) ∷ []) s.1
 unfolding first_line
 first_text r s e =
     let line = bind_ok (next_line r) _ s e in
-    let is = hold_ok (bytes_eq line.0.0 (codes "tmr-cert 1")) (Line r.line) _ s line.2 in
-    let text : line.0.0 ≡ codes "tmr-cert 1" = (bytes_eq-Decides line.0.0 (codes "tmr-cert 1")).0 is.0 in
-    let words : words_of line.0.0 ≡ codes "tmr-cert" ∷ codes "1" ∷ [] = ap words_of text in
-    subst (λ (t : Rest). Spells r.bytes ((codes "tmr-cert" ∷ codes "1" ∷ []) ∷ []) t) (ok_is line.0.1 s is.1) (single r line.0 (codes "tmr-cert" ∷ codes "1" ∷ []) line.1 words)
+    let version = bind_ok (want (version_named line.0.0) (Line r.line)) _ s line.2 in
+    let made : ℕ × Rest = (version.0, line.0.1) in
+    let words = first_words line.0.0 version.0 (version_is line.0.0 version.0 (want_ok (version_named line.0.0) (Line r.line) version.0 version.1)) in
+    subst (λ (t : ℕ × Rest). Spells r.bytes ((codes "tmr-cert" ∷ decimal t.0 ∷ []) ∷ []) t.1) (ok_is made s version.2) (single r line.0 (codes "tmr-cert" ∷ decimal version.0 ∷ []) line.1 words)
 
 last_text : (r s : Rest) → last_line r ≡ Ok s → Spells r.bytes ((codes "end" ∷ []) ∷ []) s × (s.bytes ≡ [])
 unfolding last_line
@@ -187,36 +196,36 @@ copies_alone : (n h : Net) (parts i : ℕ) (s : Nodes) → NodesOk n h parts i s
 copies_alone n h parts i s ok j r e = let p = ok.filled.sound j r e in (length n.inputs + p.i, p.c, p.role)
 
 abbrev pub pieces : Net → Net → PlainCert → ℕ → List (List (List ℕ))
-pieces n h k parts = (codes "tmr-cert" ∷ codes "1" ∷ []) ∷ [] ++ ((codes "parts" ∷ decimal parts ∷ []) ∷ [] ++ (part_lines 0 k.depth ++ (node_lines n h k.original_inputs k.part k.copies k.labels ++ (voter_lines n h k.hardened_inputs k.roles ++ (codes "end" ∷ []) ∷ []))))
+pieces n h k parts = (codes "tmr-cert" ∷ decimal k.version ∷ []) ∷ [] ++ ((codes "parts" ∷ decimal parts ∷ []) ∷ [] ++ (part_lines 0 k.depth ++ (node_lines n h k.original_inputs k.part k.copies k.labels ++ (voter_lines n h k.hardened_inputs k.roles ++ (codes "end" ∷ []) ∷ []))))
 
 spelled : (n h : Net) (k : PlainCert) (parts : ℕ) → length k.depth ≡ parts → pieces n h k parts ≡ cert_lines n h k
 unfolding cert_lines
 spelled n h k parts e = ap (λ (m : ℕ). pieces n h k m) (sym e)
 
-pub cert_of_text_found : (n h : Net) (bytes : List ℕ) (k : PlainCert) → cert_of_text n h bytes ≡ Ok k → bytes ≡ cert_text n h k
-unfolding cert_of_text
-cert_of_text_found n h bytes k e =
+pub fold_of_text_found : (n h : Net) (bytes : List ℕ) (k : PlainCert) → fold_of_text n h bytes ≡ Ok k → bytes ≡ cert_text n h k
+unfolding fold_of_text
+fold_of_text_found n h bytes k e =
     let from : Rest = record { line = 1; bytes = bytes } in
     let start = bind_ok (first_line from) _ k e in
-    let parts = bind_ok (parts_line start.0) _ k start.2 in
+    let parts = bind_ok (parts_line start.0.1) _ k start.2 in
     let depths = bind_ok (repeat parts.0.0 part_step (record { depth = []; rest = parts.0.1 })) _ k parts.2 in
     let nodes = bind_ok (repeat (length n.nodes) (node_step n h parts.0.0) (no_nodes h depths.0.rest)) _ k depths.2 in
-    let roles = bind_ok (repeat (length h.nodes) (voter_step n h parts.0.0 nodes.0.roles) (record { roles = []; rest = nodes.0.rest })) _ k nodes.2 in
+    let roles = bind_ok (repeat (length h.nodes) (voter_step start.0.0 n h parts.0.0 nodes.0.roles) (record { roles = []; rest = nodes.0.rest })) _ k nodes.2 in
     let last = bind_ok (last_line roles.0.rest) _ k roles.2 in
-    subst (λ (c : PlainCert). bytes ≡ cert_text n h c) (ok_is (cert_made n h depths.0.depth nodes.0 roles.0) k last.2)
-    (whole n h bytes from start.0 parts.0 depths.0 nodes.0 roles.0 last.0 refl (first_text from start.0 start.1) (parts_text start.0 parts.0 parts.1) (depths_text parts.0.0 parts.0.1 depths.0 depths.1) (depths_ok parts.0.0 parts.0.1 depths.0 depths.1).long
-    (nodes_text n h parts.0.0 depths.0.rest nodes.0 nodes.1) (roles_text n h parts.0.0 nodes.0.roles nodes.0.rest roles.0 (copies_alone n h parts.0.0 (length n.nodes) nodes.0 (nodes_ok n h parts.0.0 depths.0.rest nodes.0 nodes.1)) roles.1) (last_text roles.0.rest last.0 last.1))
+    subst (λ (c : PlainCert). bytes ≡ cert_text n h c) (ok_is (cert_made start.0.0 n h depths.0.depth nodes.0 roles.0) k last.2)
+    (whole n h bytes from start.0 parts.0 depths.0 nodes.0 roles.0 last.0 refl (first_text from start.0 start.1) (parts_text start.0.1 parts.0 parts.1) (depths_text parts.0.0 parts.0.1 depths.0 depths.1) (depths_ok parts.0.0 parts.0.1 depths.0 depths.1).long
+    (nodes_text n h parts.0.0 depths.0.rest nodes.0 nodes.1) (roles_text start.0.0 n h parts.0.0 nodes.0.roles nodes.0.rest roles.0 (copies_alone n h parts.0.0 (length n.nodes) nodes.0 (nodes_ok n h parts.0.0 depths.0.rest nodes.0 nodes.1)) roles.1) (last_text roles.0.rest last.0 last.1))
   where
-    whole : (n h : Net) (bytes : List ℕ) (from start : Rest) (parts : ℕ × Rest) (depths : Depths) (nodes : Nodes) (roles : Roles) (last : Rest) → from.bytes ≡ bytes
-        → Spells from.bytes ((codes "tmr-cert" ∷ codes "1" ∷ []) ∷ []) start → Spells start.bytes ((codes "parts" ∷ decimal parts.0 ∷ []) ∷ []) parts.1 → Spells parts.1.bytes (part_lines 0 depths.depth) depths.rest → length depths.depth ≡ parts.0
+    whole : (n h : Net) (bytes : List ℕ) (from : Rest) (start parts : ℕ × Rest) (depths : Depths) (nodes : Nodes) (roles : Roles) (last : Rest) → from.bytes ≡ bytes
+        → Spells from.bytes ((codes "tmr-cert" ∷ decimal start.0 ∷ []) ∷ []) start.1 → Spells start.1.bytes ((codes "parts" ∷ decimal parts.0 ∷ []) ∷ []) parts.1 → Spells parts.1.bytes (part_lines 0 depths.depth) depths.rest → length depths.depth ≡ parts.0
         → Spells depths.rest.bytes (node_lines n h (length n.inputs) nodes.part nodes.copies nodes.labels) nodes.rest → Spells nodes.rest.bytes (voter_lines n h (length h.inputs) roles.roles) roles.rest → Spells roles.rest.bytes ((codes "end" ∷ []) ∷ []) last × (last.bytes ≡ [])
-        → bytes ≡ cert_text n h (cert_made n h depths.depth nodes roles)
+        → bytes ≡ cert_text n h (cert_made start.0 n h depths.depth nodes roles)
     whole n h bytes from start parts depths nodes roles last is a b c long d e f =
         let six = one_more nodes.rest.bytes (voter_lines n h (length h.inputs) roles.roles) ((codes "end" ∷ []) ∷ []) roles.rest last e f.0 in
         let five = one_more depths.rest.bytes (node_lines n h (length n.inputs) nodes.part nodes.copies nodes.labels) (voter_lines n h (length h.inputs) roles.roles ++ (codes "end" ∷ []) ∷ []) nodes.rest last d six in
         let four = one_more parts.1.bytes (part_lines 0 depths.depth) (node_lines n h (length n.inputs) nodes.part nodes.copies nodes.labels ++ (voter_lines n h (length h.inputs) roles.roles ++ (codes "end" ∷ []) ∷ [])) depths.rest last c five in
-        let three = one_more start.bytes ((codes "parts" ∷ decimal parts.0 ∷ []) ∷ []) (part_lines 0 depths.depth ++ (node_lines n h (length n.inputs) nodes.part nodes.copies nodes.labels ++ (voter_lines n h (length h.inputs) roles.roles ++ (codes "end" ∷ []) ∷ []))) parts.1 last b four in
-        let two = one_more from.bytes ((codes "tmr-cert" ∷ codes "1" ∷ []) ∷ []) ((codes "parts" ∷ decimal parts.0 ∷ []) ∷ [] ++ (part_lines 0 depths.depth ++ (node_lines n h (length n.inputs) nodes.part nodes.copies nodes.labels ++ (voter_lines n h (length h.inputs) roles.roles ++ (codes "end" ∷ []) ∷ [])))) start last a three in
-        let lines = spelled n h (cert_made n h depths.depth nodes roles) parts.0 long in
-        let all : List (List (List ℕ)) = pieces n h (cert_made n h depths.depth nodes roles) parts.0 in
+        let three = one_more start.1.bytes ((codes "parts" ∷ decimal parts.0 ∷ []) ∷ []) (part_lines 0 depths.depth ++ (node_lines n h (length n.inputs) nodes.part nodes.copies nodes.labels ++ (voter_lines n h (length h.inputs) roles.roles ++ (codes "end" ∷ []) ∷ []))) parts.1 last b four in
+        let two = one_more from.bytes ((codes "tmr-cert" ∷ decimal start.0 ∷ []) ∷ []) ((codes "parts" ∷ decimal parts.0 ∷ []) ∷ [] ++ (part_lines 0 depths.depth ++ (node_lines n h (length n.inputs) nodes.part nodes.copies nodes.labels ++ (voter_lines n h (length h.inputs) roles.roles ++ (codes "end" ∷ []) ∷ [])))) start.1 last a three in
+        let lines = spelled n h (cert_made start.0 n h depths.depth nodes roles) parts.0 long in
+        let all : List (List (List ℕ)) = pieces n h (cert_made start.0 n h depths.depth nodes roles) parts.0 in
         sym is ∙ (two ∙ (ap (λ (r : List ℕ). flat_map line_text all ++ r) f.1 ∙ (append-nil (flat_map line_text all) ∙ ap (flat_map line_text) lines)))

@@ -91,10 +91,10 @@ in_a_row a b p m v e o0 o1 o2 o3 o4 o5 e0 e1 e2 e3 e4 e5 =
     e5 ∙ (ap (λ (o : List ℕ). o ++ e) four ∙ (append_assoc a (b ++ (p ++ (m ++ v))) e ∙ ap (λ (o : List ℕ). a ++ o) (append_assoc b (p ++ (m ++ v)) e ∙ ap (λ (o : List ℕ). b ++ o) (append_assoc p (m ++ v) e ∙ ap (λ (o : List ℕ). p ++ o) (append_assoc m v e)))))
 
 -- all lines are put
-pub all_lines_put : (n h : Net) (k : PlainCert) (o0 o1 o2 o3 o4 o5 : List ℕ) → o0 ≡ [] → o1 ≡ (o0 ++ line_text (codes "tmr-cert" ∷ codes "1" ∷ [])) ++ line_text (codes "parts" ∷ decimal (length k.depth) ∷ [])
+pub all_lines_put : (n h : Net) (k : PlainCert) (o0 o1 o2 o3 o4 o5 : List ℕ) → o0 ≡ [] → o1 ≡ (o0 ++ line_text (codes "tmr-cert" ∷ decimal k.version ∷ [])) ++ line_text (codes "parts" ∷ decimal (length k.depth) ∷ [])
     → o2 ≡ o1 ++ parts_left k 0 → o3 ≡ o2 ++ nodes_left n h k 0 → o4 ≡ o3 ++ voters_left n h k 0 → o5 ≡ o4 ++ line_text (codes "end" ∷ []) → o5 ≡ cert_text n h k
 all_lines_put n h k o0 o1 o2 o3 o4 o5 e0 e1 e2 e3 e4 e5 =
-    let head : List ℕ = line_text (codes "tmr-cert" ∷ codes "1" ∷ []) in
+    let head : List ℕ = line_text (codes "tmr-cert" ∷ decimal k.version ∷ []) in
     let count : List ℕ = line_text (codes "parts" ∷ decimal (length k.depth) ∷ []) in
     let end : List ℕ = line_text (codes "end" ∷ []) in
     let first : k.original_inputs + 0 ≡ k.original_inputs = omega arith in

@@ -121,7 +121,7 @@ in_a_row_long a b p m v e = simp (length-append)
 -- the length of a certificate's text, line by line
 pub text_length : (n h : Net) (k : PlainCert) → IsCert k → length (cert_text n h k) ≡ cert_length n h k
 text_length n h k cert =
-    let head : List ℕ = line_text (codes "tmr-cert" ∷ codes "1" ∷ []) in
+    let head : List ℕ = line_text (codes "tmr-cert" ∷ decimal k.version ∷ []) in
     let count : List ℕ = line_text (codes "parts" ∷ decimal (length k.depth) ∷ []) in
     let parts : List ℕ = flat_map line_text (part_lines 0 k.depth) in
     let nodes : List ℕ = flat_map line_text (node_lines n h k.original_inputs k.part k.copies k.labels) in
@@ -129,11 +129,12 @@ text_length n h k cert =
     let end : List ℕ = flat_map line_text ((codes "end" ∷ []) ∷ []) in
     let whole : length (cert_text n h k) ≡ length head + (length count + (length parts + (length nodes + (length voters + length end)))) =
     ap length (text_is n h k) ∙ in_a_row_long head count parts nodes voters end in
+    let head_long : length head ≡ 10 + digits k.version = line_length (codes "tmr-cert") (decimal k.version ∷ []) ∙ omega arith in
     let count_long : length count ≡ 7 + digits (length k.depth) = line_length (codes "parts") (decimal (length k.depth) ∷ []) ∙ omega arith in
     let parts_long : length parts ≡ sum_by (part_length k) (range_with_len 0 (length k.depth)) = parts_length (part_length k) 0 k.depth (λ i lt. part_at k i) in
     let nodes_long : length nodes ≡ sum_by (node_length n h k) (range_with_len 0 (length k.part)) = nodes_from_first n h k cert in
     let voters_long : length voters ≡ sum_by (λ j. role_length n h (k.hardened_inputs + j) (role_of k (k.hardened_inputs + j))) (range_with_len 0 (length k.roles)) = voters_from_first n h k in
-    whole ∙ omega (arith, count_long, parts_long, nodes_long, voters_long)
+    whole ∙ omega (arith, head_long, count_long, parts_long, nodes_long, voters_long)
   where
     nodes_from_first : (n h : Net) (k : PlainCert) → IsCert k → length (flat_map line_text (node_lines n h k.original_inputs k.part k.copies k.labels)) ≡ sum_by (node_length n h k) (range_with_len 0 (length k.part))
     nodes_from_first n h k cert =

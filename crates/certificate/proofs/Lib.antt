@@ -12,3 +12,13 @@ pub mod RoundTrip
 pub mod Puts
 pub mod Lefts
 pub mod Lengths
+pub mod LineTests
+pub mod GivenRoles
+pub mod Told
+pub mod Stages
+pub mod NodeStage
+pub mod VoterStage
+pub mod EndStage
+pub mod Same
+pub mod Growth
+pub mod Unmarked

@@ -1,8 +1,9 @@
 -- What is written is read again: all lines, one after the other.
 use Rattle.std.proofs.Common.{◌≡◌, ℕ, suc, ◌+◌, ◌-◌, ◌^◌, ◌<◌, ◌≤◌, true, List, [], ◌∷◌, ◌++◌, length, get_or, Option, Some, None, Result, Ok, refl, sym, ap, subst, ◌∙◌, arith}
-use Rattle.std.proofs.Common.{inl, inr, append_assoc, set, slice_get}
+use Rattle.std.proofs.Common.{◌⊎◌, inl, inr, append_assoc, nat_lt, set, slice_get}
+use Rattle.std.proofs.lemmas.Fmt.{decimal_digit}
 use Rattle.std.specs.Prelude.{codes, is_none}
-use Rattle.std.specs.List.{flat_map, join_with_byte, AllByRecursion}
+use Rattle.std.specs.List.{flat_map, join_with_byte, list_all, AllByRecursion}
 use Rattle.std.specs.Fmt.{decimal}
 use Rattle.std.proofs.lemmas.List.{length-append, append-nil}
 use Rattle.std.proofs.Math.ListN.{get_or-append}
@@ -17,12 +18,12 @@ use Rattle.certificate.specs.declared.role.Role.{Role}
 use Rattle.certificate.specs.declared.role.Role.TheVariants.{Copy, Voter}
 use Rattle.certificate.specs.declared.fault.CertFault.{CertFault}
 use Rattle.certificate.specs.Lines.{◌>>=◌, Rest}
-use Rattle.certificate.specs.Plain.{IsNode, AreNodes}
+use Rattle.certificate.specs.Plain.{IsNode, IsVoted, AreNodes}
 use Rattle.certificate.specs.Text.{line_text, three_words, part_line, part_lines, node_line, node_lines, voter_lines}
 use Rattle.std.proofs.lemmas.List.Concat.{flat_map-cons}
 use Rattle.certificate.specs.Cert.{PlainCert, IsCert, Fits, role_of, copy_of, three_or_input}
 use Rattle.certificate.specs.Text.{cert_lines, cert_text}
-use Rattle.certificate.specs.Reading.{Depths, Nodes, Roles, give, give_copies, parts_line, first_line, last_line, part_step, node_step, role_step, voter_step, repeat, cert_of_text}
+use Rattle.certificate.specs.Folding.{version_named, Depths, Nodes, Roles, give, give_copies, parts_line, first_line, last_line, part_step, node_step, role_step, voter_step, repeat, fold_of_text}
 use Rattle.certificate.proofs.Filling.{Filled, Also, IsCopyOf, give_fills, copies_fill, nothing_filled, no_three, copy_role}
 use Rattle.certificate.proofs.Validity.{no_nodes, cert_made, same_copy}
 use Rattle.flat_net.specs.Net.{slot}
@@ -237,45 +238,45 @@ pub record RolesLeft (n h : Net) (k : PlainCert) (tail : List ℕ) (s : Roles) (
   pub roles : s.roles ++ rs ≡ k.roles
   pub text : s.rest.bytes ≡ flat_map line_text (voter_lines n h (length h.inputs + length s.roles) rs) ++ tail
 
-pub record RolesCan (n h : Net) (k : PlainCert) (parts : ℕ) (given : List (Option Role)) : Type 0 where
+pub record RolesCan (version : ℕ) (n h : Net) (k : PlainCert) (parts : ℕ) (given : List (Option Role)) : Type 0 where
   pub role_given : (j : ℕ) (r : Role) → slice_get k.roles j ≡ Some r → get_or given j None ≡ as_given r
-  pub voters : (j : ℕ) (x p : ℕ) (c : CopyNo) → slice_get k.roles j ≡ Some (Voter (record { 0 = x }) (record { 0 = p }) c) → IsNode n x × (p < parts)
+  pub voters : (j : ℕ) (x p : ℕ) (c : CopyNo) → slice_get k.roles j ≡ Some (Voter (record { 0 = x }) (record { 0 = p }) c) → IsVoted version n x × (p < parts)
   pub count : length k.roles ≡ length h.nodes
 
 seam : {A : Type 0} (xs : List A) (y : A) (ys : List A) → slice_get (xs ++ y ∷ ys) (length xs) ≡ Some y
 seam [] y ys = refl
 seam (x ∷ xs) y ys = seam xs y ys
 
-step_at : (n h : Net) (parts : ℕ) (given : List (Option Role)) (s : Roles) (o : Option Role) → get_or given (length s.roles) None ≡ o → voter_step n h parts given s ≡ role_step n h parts o s
+step_at : (version : ℕ) (n h : Net) (parts : ℕ) (given : List (Option Role)) (s : Roles) (o : Option Role) → get_or given (length s.roles) None ≡ o → voter_step version n h parts given s ≡ role_step version n h parts o s
 unfolding voter_step
-step_at n h parts given s o e = ap (λ (q : Option Role). role_step n h parts q s) e
+step_at version n h parts given s o e = ap (λ (q : Option Role). role_step version n h parts q s) e
 
-voter_step_again : (n h : Net) (parts x p : ℕ) (c : CopyNo) (s : Roles) (tail : List ℕ) → IsValid n → IsValid h → parts ≤ 2 ^ 32 → IsNode h (length h.inputs + length s.roles) → IsNode n x → p < parts → s.rest.bytes ≡ line_text (voter_text n h (length h.inputs + length s.roles) x p c) ++ tail
-    → role_step n h parts None s ≡ Ok (record { roles = s.roles ++ Voter (record { 0 = x }) (record { 0 = p }) c ∷ []; rest = record { line = s.rest.line + 1; bytes = tail } })
-voter_step_again n h parts x p c s tail valid valid_h small node_h node low e =
+voter_step_again : (version : ℕ) (n h : Net) (parts x p : ℕ) (c : CopyNo) (s : Roles) (tail : List ℕ) → IsValid n → IsValid h → parts ≤ 2 ^ 32 → IsNode h (length h.inputs + length s.roles) → IsVoted version n x → p < parts → s.rest.bytes ≡ line_text (voter_text n h (length h.inputs + length s.roles) x p c) ++ tail
+    → role_step version n h parts None s ≡ Ok (record { roles = s.roles ++ Voter (record { 0 = x }) (record { 0 = p }) c ∷ []; rest = record { line = s.rest.line + 1; bytes = tail } })
+voter_step_again version n h parts x p c s tail valid valid_h small node_h voted low e =
     let g = length h.inputs + length s.roles in
-    let ok = voter_text_ok n h g x p c valid valid_h node_h node (omega arith) in
+    let ok = voter_text_ok n h g x p c valid valid_h node_h voted.1 (omega arith) in
     let more : List (List ℕ) = name_of h g ∷ name_of n x ∷ decimal p ∷ decimal (copy_number c) ∷ [] in
     let next = next_of s.rest (codes "voter") more tail ok.words e in
     let w = words_again (codes "voter") more ok.words in
-    rw next (rw (read_voter_again n h (join_with_byte 32 (codes "voter" ∷ more)) g x p parts c s.rest.line w valid valid_h node_h node low small ok.full) refl)
+    rw next (rw (read_voter_again version n h (join_with_byte 32 (codes "voter" ∷ more)) g x p parts c s.rest.line w valid valid_h node_h voted low small ok.full) refl)
 
 abbrev RolesDone : PlainCert → List ℕ → Roles → Type 0
 RolesDone k tail s = (s.roles ≡ k.roles) × (s.rest.bytes ≡ tail)
 
-roles_again : (n h : Net) (k : PlainCert) (parts : ℕ) (given : List (Option Role)) (tail : List ℕ) (rs : List Role) (s : Roles) → IsValid n → IsValid h → parts ≤ 2 ^ 32 → RolesCan n h k parts given → RolesLeft n h k tail s rs → Leads (voter_step n h parts given) (length rs) s (RolesDone k tail)
-roles_again n h k parts given tail [] s valid valid_h small can left = no_step (voter_step n h parts given) s (RolesDone k tail) (sym (append-nil s.roles) ∙ left.roles, left.text)
-roles_again n h k parts given tail (Copy x c ∷ rs) s valid valid_h small can left =
+roles_again : (version : ℕ) (n h : Net) (k : PlainCert) (parts : ℕ) (given : List (Option Role)) (tail : List ℕ) (rs : List Role) (s : Roles) → IsValid n → IsValid h → parts ≤ 2 ^ 32 → RolesCan version n h k parts given → RolesLeft n h k tail s rs → Leads (voter_step version n h parts given) (length rs) s (RolesDone k tail)
+roles_again version n h k parts given tail [] s valid valid_h small can left = no_step (voter_step version n h parts given) s (RolesDone k tail) (sym (append-nil s.roles) ∙ left.roles, left.text)
+roles_again version n h k parts given tail (Copy x c ∷ rs) s valid valid_h small can left =
     let at : slice_get k.roles (length s.roles) ≡ Some (Copy x c) = ap (λ (v : List Role). slice_get v (length s.roles)) (sym left.roles) ∙ seam s.roles (Copy x c) rs in
     let next : Roles = record { roles = s.roles ++ Copy x c ∷ []; rest = s.rest } in
-    let one : voter_step n h parts given s ≡ Ok next = step_at n h parts given s (Some (Copy x c)) (can.role_given (length s.roles) (Copy x c) at) in
+    let one : voter_step version n h parts given s ≡ Ok next = step_at version n h parts given s (Some (Copy x c)) (can.role_given (length s.roles) (Copy x c) at) in
     let longer : length (s.roles ++ Copy x c ∷ []) ≡ length s.roles + 1 = length-append s.roles (Copy x c ∷ []) in
     let place : length h.inputs + length s.roles + 1 ≡ length h.inputs + length (s.roles ++ Copy x c ∷ []) = omega (arith, longer) in
-    step_more (voter_step n h parts given) (length rs) s next (RolesDone k tail) one (roles_again n h k parts given tail rs next valid valid_h small can (record {
+    step_more (voter_step version n h parts given) (length rs) s next (RolesDone k tail) one (roles_again version n h k parts given tail rs next valid valid_h small can (record {
       roles = append_assoc s.roles (Copy x c ∷ []) rs ∙ left.roles;
       text = left.text ∙ ap (λ (y : ℕ). flat_map line_text (voter_lines n h y rs) ++ tail) place;
     }))
-roles_again n h k parts given tail (Voter x p c ∷ rs) s valid valid_h small can left =
+roles_again version n h k parts given tail (Voter x p c ∷ rs) s valid valid_h small can left =
     let r : Role = Voter x p c in
     let g = length h.inputs + length s.roles in
     let at : slice_get k.roles (length s.roles) ≡ Some r = ap (λ (v : List Role). slice_get v (length s.roles)) (sym left.roles) ∙ seam s.roles r rs in
@@ -285,10 +286,10 @@ roles_again n h k parts given tail (Voter x p c ∷ rs) s valid valid_h small ca
     let rest : List ℕ = flat_map line_text (voter_lines n h (g + 1) rs) ++ tail in
     let next : Roles = record { roles = s.roles ++ r ∷ []; rest = record { line = s.rest.line + 1; bytes = rest } } in
     let text = left.text ∙ first_line_of (voter_text n h g x.0 p.0 c) (voter_lines n h (g + 1) rs) tail in
-    let one : voter_step n h parts given s ≡ Ok next = step_at n h parts given s None (can.role_given (length s.roles) r at) ∙ voter_step_again n h parts x.0 p.0 c s rest valid valid_h small node_h v.0 v.1 text in
+    let one : voter_step version n h parts given s ≡ Ok next = step_at version n h parts given s None (can.role_given (length s.roles) r at) ∙ voter_step_again version n h parts x.0 p.0 c s rest valid valid_h small node_h v.0 v.1 text in
     let longer : length (s.roles ++ r ∷ []) ≡ length s.roles + 1 = length-append s.roles (r ∷ []) in
     let place : g + 1 ≡ length h.inputs + length (s.roles ++ r ∷ []) = omega (arith, longer) in
-    step_more (voter_step n h parts given) (length rs) s next (RolesDone k tail) one (roles_again n h k parts given tail rs next valid valid_h small can (record {
+    step_more (voter_step version n h parts given) (length rs) s next (RolesDone k tail) one (roles_again version n h k parts given tail rs next valid valid_h small can (record {
       roles = append_assoc s.roles (r ∷ []) rs ∙ left.roles;
       text = ap (λ (y : ℕ). flat_map line_text (voter_lines n h y rs) ++ tail) place;
     }))
@@ -335,7 +336,7 @@ can_read n h k cert fits = record { nodes = nodes; once = once; count = fits.ori
           distinct = λ c d e. (same_copy (k.original_inputs + i) (k.original_inputs + i) c d (some_same _ _ _ (role i c l) (ap (role_of k) e ∙ role i d l))).1;
         }
 
-roles_can : (n h : Net) (k : PlainCert) (given : List (Option Role)) → IsCert k → Fits n h k → Filled (IsCopyOf (length n.inputs) k.copies) (length h.inputs) given → RolesCan n h k (length k.depth) given
+roles_can : (n h : Net) (k : PlainCert) (given : List (Option Role)) → IsCert k → Fits n h k → Filled (IsCopyOf (length n.inputs) k.copies) (length h.inputs) given → RolesCan k.version n h k (length k.depth) given
 roles_can n h k given cert fits filled = record { role_given = role_given; voters = voters; count = fits.hardened_nodes }
   where
     role_here : (j : ℕ) (r : Role) → slice_get k.roles j ≡ Some r → role_of k (length h.inputs + j) ≡ Some r
@@ -343,10 +344,10 @@ roles_can n h k given cert fits filled = record { role_given = role_given; voter
         let less : length h.inputs + j - k.hardened_inputs ≡ j = omega (arith, fits.hardened_inputs) in
         slot_at k.hardened_inputs k.roles (length h.inputs + j) (omega (arith, fits.hardened_inputs)) ∙ (ap (slice_get k.roles) less ∙ e)
 
-    voters : (j : ℕ) (x p : ℕ) (c : CopyNo) → slice_get k.roles j ≡ Some (Voter (record { 0 = x }) (record { 0 = p }) c) → IsNode n x × (p < length k.depth)
+    voters : (j : ℕ) (x p : ℕ) (c : CopyNo) → slice_get k.roles j ≡ Some (Voter (record { 0 = x }) (record { 0 = p }) c) → IsVoted k.version n x × (p < length k.depth)
     voters j x p c e =
         let r = cert.roles_in_range (length h.inputs + j) (Voter (record { 0 = x }) (record { 0 = p }) c) (role_here j _ e) in
-        ((omega (arith, r.0, fits.original_inputs), omega (arith, r.1, fits.original_inputs, fits.original_nodes)), r.2)
+        ((λ one. let low : k.original_inputs ≤ x = r.0 one in omega (arith, fits.original_inputs), omega (arith, r.1, fits.original_inputs, fits.original_nodes)), r.2)
 
     no_copy : (j : ℕ) (x p : ℕ) (c : CopyNo) (o : Option Role) → slice_get k.roles j ≡ Some (Voter (record { 0 = x }) (record { 0 = p }) c) → get_or given j None ≡ o → o ≡ None
     no_copy j x p c None e f = refl
@@ -373,9 +374,18 @@ roles_can n h k given cert fits filled = record { role_given = role_given; voter
 
 -- ---- all of it
 
-first_line_again : (n : ℕ) (tail : List ℕ) → first_line (record { line = n; bytes = line_text (codes "tmr-cert" ∷ codes "1" ∷ []) ++ tail }) ≡ Ok (record { line = n + 1; bytes = tail })
+first_line_of_digit : (n version : ℕ) (digit tail : List ℕ) → list_all (nat_lt 32) digit ≡ true → version_named (join_with_byte 32 (codes "tmr-cert" ∷ digit ∷ [])) ≡ Some version → first_line (record { line = n; bytes = line_text (codes "tmr-cert" ∷ digit ∷ []) ++ tail }) ≡ Ok (version, record { line = n + 1; bytes = tail })
 unfolding first_line
-first_line_again n tail = rw (next_of (record { line = n; bytes = line_text (codes "tmr-cert" ∷ codes "1" ∷ []) ++ tail }) (codes "tmr-cert") (codes "1" ∷ []) tail (coded (codes "tmr-cert") refl, (coded (codes "1") refl, tt)) refl) refl
+first_line_of_digit n version digit tail word named =
+    rw (next_of (record { line = n; bytes = line_text (codes "tmr-cert" ∷ digit ∷ []) ++ tail }) (codes "tmr-cert") (digit ∷ []) tail (coded (codes "tmr-cert") refl, (coded digit word, tt)) refl) (rw named refl)
+
+first_line_again : (n version : ℕ) (tail : List ℕ) → (version ≡ 1) ⊎ (version ≡ 2) → first_line (record { line = n; bytes = line_text (codes "tmr-cert" ∷ decimal version ∷ []) ++ tail }) ≡ Ok (version, record { line = n + 1; bytes = tail })
+first_line_again n version tail (inl e) =
+    let digit : codes "1" ≡ decimal version = sym (decimal_digit 1 (omega arith)) ∙ ap decimal (sym e) in
+    subst (λ (w : List ℕ). first_line (record { line = n; bytes = line_text (codes "tmr-cert" ∷ w ∷ []) ++ tail }) ≡ Ok (version, record { line = n + 1; bytes = tail })) digit (first_line_of_digit n version (codes "1") tail refl (ap Some (sym e)))
+first_line_again n version tail (inr e) =
+    let digit : codes "2" ≡ decimal version = sym (decimal_digit 2 (omega arith)) ∙ ap decimal (sym e) in
+    subst (λ (w : List ℕ). first_line (record { line = n; bytes = line_text (codes "tmr-cert" ∷ w ∷ []) ++ tail }) ≡ Ok (version, record { line = n + 1; bytes = tail })) digit (first_line_of_digit n version (codes "2") tail refl (ap Some (sym e)))
 
 parts_line_again : (n count : ℕ) (tail : List ℕ) → count < 2 ^ 32 → parts_line (record { line = n; bytes = line_text (codes "parts" ∷ decimal count ∷ []) ++ tail }) ≡ Ok (count, record { line = n + 1; bytes = tail })
 unfolding parts_line
@@ -391,29 +401,29 @@ unfolding last_line
 last_line_again r e = rw (next_of r (codes "end") [] [] (coded (codes "end") refl, tt) e) refl
 
 -- the text, line by line
-pub text_is : (n h : Net) (k : PlainCert) → cert_text n h k ≡ line_text (codes "tmr-cert" ∷ codes "1" ∷ []) ++ (line_text (codes "parts" ∷ decimal (length k.depth) ∷ []) ++ (flat_map line_text (part_lines 0 k.depth) ++ (flat_map line_text (node_lines n h k.original_inputs k.part k.copies k.labels) ++ (flat_map line_text (voter_lines n h k.hardened_inputs k.roles) ++ flat_map line_text ((codes "end" ∷ []) ∷ [])))))
+pub text_is : (n h : Net) (k : PlainCert) → cert_text n h k ≡ line_text (codes "tmr-cert" ∷ decimal k.version ∷ []) ++ (line_text (codes "parts" ∷ decimal (length k.depth) ∷ []) ++ (flat_map line_text (part_lines 0 k.depth) ++ (flat_map line_text (node_lines n h k.original_inputs k.part k.copies k.labels) ++ (flat_map line_text (voter_lines n h k.hardened_inputs k.roles) ++ flat_map line_text ((codes "end" ∷ []) ∷ [])))))
 unfolding cert_lines
-text_is n h k = ap (λ (b : List ℕ). line_text (codes "tmr-cert" ∷ codes "1" ∷ []) ++ (line_text (codes "parts" ∷ decimal (length k.depth) ∷ []) ++ b))
+text_is n h k = ap (λ (b : List ℕ). line_text (codes "tmr-cert" ∷ decimal k.version ∷ []) ++ (line_text (codes "parts" ∷ decimal (length k.depth) ∷ []) ++ b))
     (flat_map-append line_text (part_lines 0 k.depth) _ ∙ ap (λ (b : List ℕ). flat_map line_text (part_lines 0 k.depth) ++ b)
     (flat_map-append line_text (node_lines n h k.original_inputs k.part k.copies k.labels) _ ∙ ap (λ (b : List ℕ). flat_map line_text (node_lines n h k.original_inputs k.part k.copies k.labels) ++ b)
     (flat_map-append line_text (voter_lines n h k.hardened_inputs k.roles) ((codes "end" ∷ []) ∷ []))))
 
-abbrev plain : ℕ → ℕ → List ℕ → List ℕ → List Three → List Three → List Role → PlainCert
-plain a b d p t l r = record { original_inputs = a; hardened_inputs = b; depth = d; part = p; copies = t; labels = l; roles = r }
+abbrev plain : ℕ → ℕ → ℕ → List ℕ → List ℕ → List Three → List Three → List Role → PlainCert
+plain v a b d p t l r = record { version = v; original_inputs = a; hardened_inputs = b; depth = d; part = p; copies = t; labels = l; roles = r }
 
-same_cert : (a b a' b' : ℕ) (d d' p p' : List ℕ) (t t' l l' : List Three) (r r' : List Role) → a ≡ a' → b ≡ b' → d ≡ d' → p ≡ p' → t ≡ t' → l ≡ l' → r ≡ r' → plain a b d p t l r ≡ plain a' b' d' p' t' l' r'
-same_cert a b a' b' d d' p p' t t' l l' r r' e1 e2 e3 e4 e5 e6 e7 = rw (e1, e2, e3, e4, e5, e6, e7) refl
+same_cert : (v a b a' b' : ℕ) (d d' p p' : List ℕ) (t t' l l' : List Three) (r r' : List Role) → a ≡ a' → b ≡ b' → d ≡ d' → p ≡ p' → t ≡ t' → l ≡ l' → r ≡ r' → plain v a b d p t l r ≡ plain v a' b' d' p' t' l' r'
+same_cert v a b a' b' d d' p p' t t' l l' r r' e1 e2 e3 e4 e5 e6 e7 = rw (e1, e2, e3, e4, e5, e6, e7) refl
 
 -- the steps of reading, each with what it leads to
-reads : (n h : Net) (bytes : List ℕ) (start : Rest) (parts : ℕ × Rest) (depths : Depths) (nodes : Nodes) (roles : Roles) (last : Rest)
-    → first_line (record { line = 1; bytes = bytes }) ≡ Ok start → parts_line start ≡ Ok parts → repeat parts.0 part_step (record { depth = []; rest = parts.1 }) ≡ Ok depths
-    → repeat (length n.nodes) (node_step n h parts.0) (no_nodes h depths.rest) ≡ Ok nodes → repeat (length h.nodes) (voter_step n h parts.0 nodes.roles) (record { roles = []; rest = nodes.rest }) ≡ Ok roles → last_line roles.rest ≡ Ok last
-    → cert_of_text n h bytes ≡ Ok (cert_made n h depths.depth nodes roles)
-unfolding cert_of_text
+reads : (n h : Net) (bytes : List ℕ) (start parts : ℕ × Rest) (depths : Depths) (nodes : Nodes) (roles : Roles) (last : Rest)
+    → first_line (record { line = 1; bytes = bytes }) ≡ Ok start → parts_line start.1 ≡ Ok parts → repeat parts.0 part_step (record { depth = []; rest = parts.1 }) ≡ Ok depths
+    → repeat (length n.nodes) (node_step n h parts.0) (no_nodes h depths.rest) ≡ Ok nodes → repeat (length h.nodes) (voter_step start.0 n h parts.0 nodes.roles) (record { roles = []; rest = nodes.rest }) ≡ Ok roles → last_line roles.rest ≡ Ok last
+    → fold_of_text n h bytes ≡ Ok (cert_made start.0 n h depths.depth nodes roles)
+unfolding fold_of_text
 reads n h bytes start parts depths nodes roles last a b c d e f = rw a (rw b (rw c (rw d (rw e (rw f refl)))))
 
-pub cert_of_text_again : (n h : Net) (k : PlainCert) → IsValid n → IsValid h → IsCert k → Fits n h k → cert_of_text n h (cert_text n h k) ≡ Ok k
-cert_of_text_again n h k valid valid_h cert fits =
+pub fold_of_text_again : (n h : Net) (k : PlainCert) → IsValid n → IsValid h → IsCert k → Fits n h k → fold_of_text n h (cert_text n h k) ≡ Ok k
+fold_of_text_again n h k valid valid_h cert fits =
     let count = length k.depth in
     let few : count < 2 ^ 32 = omega (arith, cert.few_parts) in
     let few' : count ≤ 2 ^ 32 = omega arith in
@@ -424,8 +434,8 @@ cert_of_text_again n h k valid valid_h cert fits =
     let t2 : List ℕ = flat_map line_text (part_lines 0 k.depth) ++ t3 in
     let t1 : List ℕ = line_text (codes "parts" ∷ decimal count ∷ []) ++ t2 in
     let start : Rest = record { line = 2; bytes = t1 } in
-    let from : List ℕ = line_text (codes "tmr-cert" ∷ codes "1" ∷ []) ++ t1 in
-    let first : first_line (record { line = 1; bytes = from }) ≡ Ok start = first_line_again 1 t1 in
+    let from : List ℕ = line_text (codes "tmr-cert" ∷ decimal k.version ∷ []) ++ t1 in
+    let first : first_line (record { line = 1; bytes = from }) ≡ Ok (k.version, start) = first_line_again 1 k.version t1 cert.known_version in
     let parts : parts_line start ≡ Ok (count, record { line = 3; bytes = t2 }) = parts_line_again 2 count t2 few in
     let s0 : Depths = record { depth = []; rest = record { line = 3; bytes = t2 } } in
     let d = depths_again k.depth s0 t3 (recursion_from_All (λ (v : ℕ). v < 2 ^ 32) k.depth cert.small_depths) few0 refl in
@@ -449,9 +459,9 @@ cert_of_text_again n h k valid valid_h cert fits =
     let r0 : Roles = record { roles = []; rest = ns.last.rest } in
     let place_h : length h.inputs + 0 ≡ k.hardened_inputs = omega (arith, fits.hardened_inputs) in
     let role_text : ns.last.rest.bytes ≡ flat_map line_text (voter_lines n h (length h.inputs + 0) k.roles) ++ t5 = ns.is.text ∙ ap (λ (x : ℕ). flat_map line_text (voter_lines n h x k.roles) ++ t5) (sym place_h) in
-    let rs = roles_again n h k count ns.last.roles t5 k.roles r0 valid valid_h few' (roles_can n h k ns.last.roles cert fits filled) (record { roles = refl; text = role_text }) in
-    let roles_steps : repeat (length h.nodes) (voter_step n h count ns.last.roles) r0 ≡ Ok rs.last = subst (λ (m : ℕ). repeat m (voter_step n h count ns.last.roles) r0 ≡ Ok rs.last) fits.hardened_nodes rs.steps in
+    let rs = roles_again k.version n h k count ns.last.roles t5 k.roles r0 valid valid_h few' (roles_can n h k ns.last.roles cert fits filled) (record { roles = refl; text = role_text }) in
+    let roles_steps : repeat (length h.nodes) (voter_step k.version n h count ns.last.roles) r0 ≡ Ok rs.last = subst (λ (m : ℕ). repeat m (voter_step k.version n h count ns.last.roles) r0 ≡ Ok rs.last) fits.hardened_nodes rs.steps in
     let last = last_line_again rs.last.rest rs.is.1 in
-    let all = reads n h from start (count, record { line = 3; bytes = t2 }) d.last ns.last rs.last (record { line = rs.last.rest.line + 1; bytes = [] }) first parts d.steps nodes_steps roles_steps last in
-    let same : cert_made n h d.last.depth ns.last rs.last ≡ k = same_cert (length n.inputs) (length h.inputs) k.original_inputs k.hardened_inputs d.last.depth k.depth ns.last.part k.part ns.last.copies k.copies ns.last.labels k.labels rs.last.roles k.roles (sym fits.original_inputs) (sym fits.hardened_inputs) d.is.0 ns.is.part ns.is.copies ns.is.labels rs.is.0 in
-    ap (cert_of_text n h) (text_is n h k) ∙ (all ∙ ap Ok same)
+    let all = reads n h from (k.version, start) (count, record { line = 3; bytes = t2 }) d.last ns.last rs.last (record { line = rs.last.rest.line + 1; bytes = [] }) first parts d.steps nodes_steps roles_steps last in
+    let same : cert_made k.version n h d.last.depth ns.last rs.last ≡ k = same_cert k.version (length n.inputs) (length h.inputs) k.original_inputs k.hardened_inputs d.last.depth k.depth ns.last.part k.part ns.last.copies k.copies ns.last.labels k.labels rs.last.roles k.roles (sym fits.original_inputs) (sym fits.hardened_inputs) d.is.0 ns.is.part ns.is.copies ns.is.labels rs.is.0 in
+    ap (fold_of_text n h) (text_is n h k) ∙ (all ∙ ap Ok same)

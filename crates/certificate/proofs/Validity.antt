@@ -11,11 +11,12 @@ use Rattle.flat_net.specs.Net.{Net, IsValid, slot}
 use Rattle.flat_net.proofs.Slots.{slot_at, slot_within}
 use Rattle.certificate.specs.declared.role.Role.{Role}
 use Rattle.certificate.specs.declared.role.Role.TheVariants.{Copy, Voter}
-use Rattle.certificate.specs.Lines.{Rest, next_line}
-use Rattle.certificate.specs.Plain.{IsNode, AreNodes}
+use Rattle.certificate.specs.declared.fault.CertFault.TheVariants.{Line}
+use Rattle.certificate.specs.Lines.{Rest, next_line, want}
+use Rattle.certificate.specs.Plain.{IsVoted, AreNodes}
 use Rattle.certificate.specs.Cert.{PlainCert, IsCert, Fits, RoleIsInRange, role_of, copy_of, three_or_input}
-use Rattle.certificate.specs.Reading.{Depths, Nodes, Roles, give_copies, read_node, read_voter, read_part, read_parts, parts_line, first_line, last_line, part_step, node_step, role_step, voter_step, repeat, cert_of_text}
-use Rattle.certificate.proofs.Cases.{AreSmall, bind_ok, ok_is, repeat_all, read_node_read, read_voter_read, read_part_read, read_parts_read}
+use Rattle.certificate.specs.Folding.{version_named, Depths, Nodes, Roles, give_copies, read_node, read_voter, read_part, read_parts, parts_line, first_line, last_line, part_step, node_step, role_step, voter_step, repeat, fold_of_text}
+use Rattle.certificate.proofs.Cases.{AreSmall, bind_ok, want_ok, ok_is, repeat_all, version_is, read_node_read, read_voter_read, read_part_read, read_parts_read}
 use Rattle.certificate.proofs.Filling.{Filled, IsCopyOf, copies_fill, nothing_filled, no_three, copy_role}
 
 -- ---- one element more
@@ -107,21 +108,21 @@ nodes_ok n h parts rest t e = repeat_all (NodesOk n h parts) (node_step n h part
 
 -- ---- roles
 
-pub record IsVoterOf (n : Net) (parts : ℕ) (r : Role) : Type 0 where
+pub record IsVoterOf (version : ℕ) (n : Net) (parts : ℕ) (r : Role) : Type 0 where
   pub x : ℕ
   pub p : ℕ
   pub c : CopyNo
   pub is : r ≡ Voter (record { 0 = x }) (record { 0 = p }) c
-  pub node : IsNode n x
+  pub voted : IsVoted version n x
   pub part : p < parts
 
-pub record RolesOk (n : Net) (parts : ℕ) (given : List (Option Role)) (i : ℕ) (s : Roles) : Type 0 where
+pub record RolesOk (version : ℕ) (n : Net) (parts : ℕ) (given : List (Option Role)) (i : ℕ) (s : Roles) : Type 0 where
   pub long : length s.roles ≡ i
   pub copies : (j : ℕ) (r : Role) → j < i → get_or given j None ≡ Some r → slice_get s.roles j ≡ Some r
-  pub others : (j : ℕ) (r : Role) → slice_get s.roles j ≡ Some r → (get_or given j None ≡ Some r) ⊎ IsVoterOf n parts r
+  pub others : (j : ℕ) (r : Role) → slice_get s.roles j ≡ Some r → (get_or given j None ≡ Some r) ⊎ IsVoterOf version n parts r
 
-role_added : (n : Net) (parts : ℕ) (given : List (Option Role)) (i : ℕ) (s : Roles) (r : Role) (rest : Rest) → RolesOk n parts given i s → ((q : Role) → get_or given (length s.roles) None ≡ Some q → q ≡ r) → (get_or given (length s.roles) None ≡ Some r) ⊎ IsVoterOf n parts r → RolesOk n parts given (i + 1) (record { roles = s.roles ++ r ∷ []; rest = rest })
-role_added n parts given i s r rest ok same what = record { long = length-append s.roles (r ∷ []) ∙ omega (arith, ok.long); copies = copies; others = others }
+role_added : (version : ℕ) (n : Net) (parts : ℕ) (given : List (Option Role)) (i : ℕ) (s : Roles) (r : Role) (rest : Rest) → RolesOk version n parts given i s → ((q : Role) → get_or given (length s.roles) None ≡ Some q → q ≡ r) → (get_or given (length s.roles) None ≡ Some r) ⊎ IsVoterOf version n parts r → RolesOk version n parts given (i + 1) (record { roles = s.roles ++ r ∷ []; rest = rest })
+role_added version n parts given i s r rest ok same what = record { long = length-append s.roles (r ∷ []) ∙ omega (arith, ok.long); copies = copies; others = others }
   where
     before_or_last : (j k : ℕ) → j < k + 1 → (j < k) ⊎ (j ≡ k)
     before_or_last j k h = grind arith
@@ -136,36 +137,37 @@ role_added n parts given i s r rest ok same what = record { long = length-append
             let q-is : q ≡ r = same q (subst (λ (k : ℕ). get_or given k None ≡ Some q) here e) in
             ap (slice_get (s.roles ++ r ∷ [])) here ∙ (push_last s.roles r ∙ ap Some (sym q-is))
 
-    others : (j : ℕ) (q : Role) → slice_get (s.roles ++ r ∷ []) j ≡ Some q → (get_or given j None ≡ Some q) ⊎ IsVoterOf n parts q
+    others : (j : ℕ) (q : Role) → slice_get (s.roles ++ r ∷ []) j ≡ Some q → (get_or given j None ≡ Some q) ⊎ IsVoterOf version n parts q
     others j q e = go (push_read s.roles r q j e)
       where
-        go : (slice_get s.roles j ≡ Some q) ⊎ ((j ≡ length s.roles) × (r ≡ q)) → (get_or given j None ≡ Some q) ⊎ IsVoterOf n parts q
+        go : (slice_get s.roles j ≡ Some q) ⊎ ((j ≡ length s.roles) × (r ≡ q)) → (get_or given j None ≡ Some q) ⊎ IsVoterOf version n parts q
         go (inl f) = ok.others j q f
-        go (inr f) = subst (λ (k : ℕ). (get_or given k None ≡ Some q) ⊎ IsVoterOf n parts q) (sym f.0) (subst (λ (u : Role). (get_or given (length s.roles) None ≡ Some u) ⊎ IsVoterOf n parts u) f.1 what)
+        go (inr f) = subst (λ (k : ℕ). (get_or given k None ≡ Some q) ⊎ IsVoterOf version n parts q) (sym f.0) (subst (λ (u : Role). (get_or given (length s.roles) None ≡ Some u) ⊎ IsVoterOf version n parts u) f.1 what)
 
-role_keeps : (n h : Net) (parts : ℕ) (given : List (Option Role)) (i : ℕ) (s t : Roles) (o : Option Role) → RolesOk n parts given i s → get_or given (length s.roles) None ≡ o → role_step n h parts o s ≡ Ok t → RolesOk n parts given (i + 1) t
-role_keeps n h parts given i s t (Some r) ok is e =
+role_keeps : (version : ℕ) (n h : Net) (parts : ℕ) (given : List (Option Role)) (i : ℕ) (s t : Roles) (o : Option Role) → RolesOk version n parts given i s → get_or given (length s.roles) None ≡ o → role_step version n h parts o s ≡ Ok t → RolesOk version n parts given (i + 1) t
+role_keeps version n h parts given i s t (Some r) ok is e =
     let made : Roles = record { roles = s.roles ++ r ∷ []; rest = s.rest } in
-    subst (RolesOk n parts given (i + 1)) (ok_is made t e) (role_added n parts given i s r s.rest ok (λ q f. cc) (inl is))
-role_keeps n h parts given i s t None ok is e =
+    subst (RolesOk version n parts given (i + 1)) (ok_is made t e) (role_added version n parts given i s r s.rest ok (λ q f. cc) (inl is))
+role_keeps version n h parts given i s t None ok is e =
     let line = bind_ok (next_line s.rest) _ t e in
-    let role = bind_ok (read_voter n h (length h.inputs + length s.roles) parts line.0.0 s.rest.line) _ t line.2 in
-    let v = read_voter_read n h (length h.inputs + length s.roles) parts line.0.0 s.rest.line role.0 role.1 in
+    let role = bind_ok (read_voter version n h (length h.inputs + length s.roles) parts line.0.0 s.rest.line) _ t line.2 in
+    let v = read_voter_read version n h (length h.inputs + length s.roles) parts line.0.0 s.rest.line role.0 role.1 in
     let made : Roles = record { roles = s.roles ++ role.0 ∷ []; rest = line.0.1 } in
-    subst (RolesOk n parts given (i + 1)) (ok_is made t role.2) (role_added n parts given i s role.0 line.0.1 ok (λ q f. absurd cc) (inr (record { x = v.x; p = v.p; c = v.c; is = v.is; node = v.node; part = v.part })))
+    subst (RolesOk version n parts given (i + 1)) (ok_is made t role.2) (role_added version n parts given i s role.0 line.0.1 ok (λ q f. absurd cc) (inr (record { x = v.x; p = v.p; c = v.c; is = v.is; voted = v.voted; part = v.part })))
 
-roles_keep : (n h : Net) (parts : ℕ) (given : List (Option Role)) (i : ℕ) (s t : Roles) → RolesOk n parts given i s → voter_step n h parts given s ≡ Ok t → RolesOk n parts given (i + 1) t
+roles_keep : (version : ℕ) (n h : Net) (parts : ℕ) (given : List (Option Role)) (i : ℕ) (s t : Roles) → RolesOk version n parts given i s → voter_step version n h parts given s ≡ Ok t → RolesOk version n parts given (i + 1) t
 unfolding voter_step
-roles_keep n h parts given i s t ok e = role_keeps n h parts given i s t (get_or given (length s.roles) None) ok refl e
+roles_keep version n h parts given i s t ok e = role_keeps version n h parts given i s t (get_or given (length s.roles) None) ok refl e
 
-pub roles_ok : (n h : Net) (parts : ℕ) (given : List (Option Role)) (rest : Rest) (t : Roles) → repeat (length h.nodes) (voter_step n h parts given) (record { roles = []; rest = rest }) ≡ Ok t → RolesOk n parts given (length h.nodes) t
-roles_ok n h parts given rest t e = repeat_all (RolesOk n parts given) (voter_step n h parts given) (roles_keep n h parts given) (length h.nodes) (record { roles = []; rest = rest }) t
+pub roles_ok : (version : ℕ) (n h : Net) (parts : ℕ) (given : List (Option Role)) (rest : Rest) (t : Roles) → repeat (length h.nodes) (voter_step version n h parts given) (record { roles = []; rest = rest }) ≡ Ok t → RolesOk version n parts given (length h.nodes) t
+roles_ok version n h parts given rest t e = repeat_all (RolesOk version n parts given) (voter_step version n h parts given) (roles_keep version n h parts given) (length h.nodes) (record { roles = []; rest = rest }) t
     (record { long = refl; copies = λ j r lt f. absurd (omega arith); others = λ j r f. absurd cc }) e
 
 -- ---- all of it
 
-abbrev pub cert_made : Net → Net → List ℕ → Nodes → Roles → PlainCert
-cert_made n h depth nodes roles = record {
+abbrev pub cert_made : ℕ → Net → Net → List ℕ → Nodes → Roles → PlainCert
+cert_made version n h depth nodes roles = record {
+  version = version;
   original_inputs = length n.inputs;
   hardened_inputs = length h.inputs;
   depth = depth;
@@ -180,8 +182,8 @@ read_within [] j r e = absurd cc
 read_within (x ∷ xs) zero r e = omega arith
 read_within (x ∷ xs) (suc j) r e = let l = read_within xs j r e in omega arith
 
-copy_is : (n h : Net) (depth : List ℕ) (nodes : Nodes) (roles : Roles) (i : ℕ) (c : CopyNo) → i < length nodes.copies → copy_of (cert_made n h depth nodes roles) (length n.inputs + i) c ≡ of_copy (get_or nodes.copies i no_three) c
-copy_is n h depth nodes roles i c lt =
+copy_is : (version : ℕ) (n h : Net) (depth : List ℕ) (nodes : Nodes) (roles : Roles) (i : ℕ) (c : CopyNo) → i < length nodes.copies → copy_of (cert_made version n h depth nodes roles) (length n.inputs + i) c ≡ of_copy (get_or nodes.copies i no_three) c
+copy_is version n h depth nodes roles i c lt =
     let less : length n.inputs + i - length n.inputs ≡ i = omega arith in
     let s : slot (length n.inputs) nodes.copies (length n.inputs + i) ≡ Some (get_or nodes.copies i no_three) = slot_at (length n.inputs) nodes.copies (length n.inputs + i) (omega arith) ∙ (ap (slice_get nodes.copies) less ∙ slice_get-get_or nodes.copies i no_three lt) in
     ap (λ (o : Option Three). three_or_input o (length n.inputs + i) c) s
@@ -193,15 +195,16 @@ role_node (Voter x p c) = x.0
 pub same_copy : (x y : ℕ) (c d : CopyNo) → copy_role x c ≡ copy_role y d → (x ≡ y) × (c ≡ d)
 same_copy x y c d e = (ap role_node e, cc)
 
-copy_net : (n h : Net) (depth : List ℕ) (nodes : Nodes) (roles : Roles) (g x : ℕ) (c : CopyNo) → IsCopyOf (length n.inputs) nodes.copies g (copy_role x c) → copy_of (cert_made n h depth nodes roles) x c ≡ g
-copy_net n h depth nodes roles g x c p =
+copy_net : (version : ℕ) (n h : Net) (depth : List ℕ) (nodes : Nodes) (roles : Roles) (g x : ℕ) (c : CopyNo) → IsCopyOf (length n.inputs) nodes.copies g (copy_role x c) → copy_of (cert_made version n h depth nodes roles) x c ≡ g
+copy_net version n h depth nodes roles g x c p =
     let s = same_copy x (length n.inputs + p.i) c p.c p.role in
-    let there : copy_of (cert_made n h depth nodes roles) (length n.inputs + p.i) p.c ≡ g = copy_is n h depth nodes roles p.i p.c p.within ∙ p.net in
-    subst (λ (y : ℕ). copy_of (cert_made n h depth nodes roles) y c ≡ g) (sym s.0) (subst (λ (d : CopyNo). copy_of (cert_made n h depth nodes roles) (length n.inputs + p.i) d ≡ g) (sym s.1) there)
+    let there : copy_of (cert_made version n h depth nodes roles) (length n.inputs + p.i) p.c ≡ g = copy_is version n h depth nodes roles p.i p.c p.within ∙ p.net in
+    subst (λ (y : ℕ). copy_of (cert_made version n h depth nodes roles) y c ≡ g) (sym s.0) (subst (λ (d : CopyNo). copy_of (cert_made version n h depth nodes roles) (length n.inputs + p.i) d ≡ g) (sym s.1) there)
 
-pub is_cert : (n h : Net) (parts : ℕ) (depth : List ℕ) (nodes : Nodes) (roles : Roles) → IsValid n → IsValid h → length depth ≡ parts → All (λ d. d < 2 ^ 32) depth → parts < 2 ^ 32 → NodesOk n h parts (length n.nodes) nodes → RolesOk n parts nodes.roles (length h.nodes) roles → IsCert (cert_made n h depth nodes roles) × Fits n h (cert_made n h depth nodes roles)
-is_cert n h parts depth nodes roles valid valid_h long small_depths small ok done = (
+pub is_cert : (version : ℕ) (n h : Net) (parts : ℕ) (depth : List ℕ) (nodes : Nodes) (roles : Roles) → (version ≡ 1) ⊎ (version ≡ 2) → IsValid n → IsValid h → length depth ≡ parts → All (λ d. d < 2 ^ 32) depth → parts < 2 ^ 32 → NodesOk n h parts (length n.nodes) nodes → RolesOk version n parts nodes.roles (length h.nodes) roles → IsCert (cert_made version n h depth nodes roles) × Fits n h (cert_made version n h depth nodes roles)
+is_cert version n h parts depth nodes roles is_version valid valid_h long small_depths small ok done = (
   record {
+    known_version = is_version;
     few_parts = omega arith;
     few_original = omega (arith, valid.few, ok.part);
     few_hardened = omega (arith, valid_h.few, done.long);
@@ -218,7 +221,7 @@ is_cert n h parts depth nodes roles valid valid_h long small_depths small ok don
 )
   where
     k : PlainCert
-    k = cert_made n h depth nodes roles
+    k = cert_made version n h depth nodes roles
 
     in_hardened : (g : ℕ) (r : Role) → role_of k g ≡ Some r → (length h.inputs ≤ g) × (slice_get roles.roles (g - length h.inputs) ≡ Some r)
     in_hardened g r e =
@@ -233,9 +236,9 @@ is_cert n h parts depth nodes roles valid valid_h long small_depths small ok don
     in_range : (g : ℕ) (r : Role) → role_of k g ≡ Some r → RoleIsInRange k r
     in_range g r e = let i = in_hardened g r e in go i.0 (done.others (g - length h.inputs) r i.1)
       where
-        go : length h.inputs ≤ g → (get_or nodes.roles (g - length h.inputs) None ≡ Some r) ⊎ IsVoterOf n parts r → RoleIsInRange k r
+        go : length h.inputs ≤ g → (get_or nodes.roles (g - length h.inputs) None ≡ Some r) ⊎ IsVoterOf version n parts r → RoleIsInRange k r
         go low (inl f) = let c = is_copy g r low f in subst (RoleIsInRange k) (sym c.role) (omega arith, omega (arith, c.within, ok.copies, ok.part))
-        go low (inr v) = subst (RoleIsInRange k) (sym v.is) (v.node.0, omega (arith, v.node.1, ok.part), omega (arith, v.part))
+        go low (inr v) = subst (RoleIsInRange k) (sym v.is) (v.voted.0, omega (arith, v.voted.1, ok.part), omega (arith, v.part))
 
     have_roles : (x : ℕ) (c : CopyNo) → length n.inputs ≤ x → x < length n.inputs + length nodes.part → role_of k (copy_of k x c) ≡ Some (copy_role x c)
     have_roles x c low high =
@@ -243,7 +246,7 @@ is_cert n h parts depth nodes roles valid valid_h long small_depths small ok don
         let back : length n.inputs + i ≡ x = omega arith in
         let within : i < length nodes.copies = omega (arith, ok.copies, ok.part) in
         let g : ℕ = of_copy (get_or nodes.copies i no_three) c in
-        let is : copy_of k x c ≡ g = subst (λ (y : ℕ). copy_of k y c ≡ g) back (copy_is n h depth nodes roles i c within) in
+        let is : copy_of k x c ≡ g = subst (λ (y : ℕ). copy_of k y c ≡ g) back (copy_is version n h depth nodes roles i c within) in
         let f = ok.filled.complete g (copy_role (length n.inputs + i) c) (record { i = i; c = c; within = within; role = refl; net = refl }) in
         let short : g - length h.inputs < length h.nodes = omega (arith, read_within nodes.roles (g - length h.inputs) (copy_role (length n.inputs + i) c) f.1, ok.roles) in
         let r = done.copies (g - length h.inputs) (copy_role (length n.inputs + i) c) short f.1 in
@@ -252,24 +255,35 @@ is_cert n h parts depth nodes roles valid valid_h long small_depths small ok don
     are_copies : (g x : ℕ) (c : CopyNo) → role_of k g ≡ Some (copy_role x c) → copy_of k x c ≡ g
     are_copies g x c e = let i = in_hardened g (copy_role x c) e in go i.0 (done.others (g - length h.inputs) (copy_role x c) i.1)
       where
-        go : length h.inputs ≤ g → (get_or nodes.roles (g - length h.inputs) None ≡ Some (copy_role x c)) ⊎ IsVoterOf n parts (copy_role x c) → copy_of k x c ≡ g
-        go low (inl f) = copy_net n h depth nodes roles g x c (is_copy g (copy_role x c) low f)
+        go : length h.inputs ≤ g → (get_or nodes.roles (g - length h.inputs) None ≡ Some (copy_role x c)) ⊎ IsVoterOf version n parts (copy_role x c) → copy_of k x c ≡ g
+        go low (inl f) = copy_net version n h depth nodes roles g x c (is_copy g (copy_role x c) low f)
         go low (inr v) = let h = v.is in absurd cc
 
-pub cert_of_text_ok : (n h : Net) (bytes : List ℕ) (k : PlainCert) → IsValid n → IsValid h → cert_of_text n h bytes ≡ Ok k → IsCert k × Fits n h k
-unfolding cert_of_text parts_line
-cert_of_text_ok n h bytes k valid valid_h e =
+one_or_two : {A B P Q : Type 0} → (A × P) ⊎ (B × Q) → A ⊎ B
+one_or_two (inl p) = inl p.0
+one_or_two (inr p) = inr p.0
+
+pub fold_of_text_ok : (n h : Net) (bytes : List ℕ) (k : PlainCert) → IsValid n → IsValid h → fold_of_text n h bytes ≡ Ok k → IsCert k × Fits n h k
+unfolding fold_of_text first_line parts_line
+fold_of_text_ok n h bytes k valid valid_h e =
     let start = bind_ok (first_line (record { line = 1; bytes = bytes })) _ k e in
-    let parts = bind_ok (parts_line start.0) _ k start.2 in
+    let parts = bind_ok (parts_line start.0.1) _ k start.2 in
     let depths = bind_ok (repeat parts.0.0 part_step (record { depth = []; rest = parts.0.1 })) _ k parts.2 in
     let nodes = bind_ok (repeat (length n.nodes) (node_step n h parts.0.0) (no_nodes h depths.0.rest)) _ k depths.2 in
-    let roles = bind_ok (repeat (length h.nodes) (voter_step n h parts.0.0 nodes.0.roles) (record { roles = []; rest = nodes.0.rest })) _ k nodes.2 in
+    let roles = bind_ok (repeat (length h.nodes) (voter_step start.0.0 n h parts.0.0 nodes.0.roles) (record { roles = []; rest = nodes.0.rest })) _ k nodes.2 in
     let last = bind_ok (last_line roles.0.rest) _ k roles.2 in
-    let small : parts.0.0 < 2 ^ 32 = parts_small start.0 parts.0 parts.1 in
+    let small : parts.0.0 < 2 ^ 32 = parts_small start.0.1 parts.0 parts.1 in
     let read = depths_ok parts.0.0 parts.0.1 depths.0 depths.1 in
-    subst (λ (c : PlainCert). IsCert c × Fits n h c) (ok_is (cert_made n h depths.0.depth nodes.0 roles.0) k last.2)
-    (is_cert n h parts.0.0 depths.0.depth nodes.0 roles.0 valid valid_h read.long read.small small (nodes_ok n h parts.0.0 depths.0.rest nodes.0 nodes.1) (roles_ok n h parts.0.0 nodes.0.roles nodes.0.rest roles.0 roles.1))
+    subst (λ (c : PlainCert). IsCert c × Fits n h c) (ok_is (cert_made start.0.0 n h depths.0.depth nodes.0 roles.0) k last.2)
+    (is_cert start.0.0 n h parts.0.0 depths.0.depth nodes.0 roles.0 (version_known (record { line = 1; bytes = bytes }) start.0 start.1) valid valid_h read.long read.small small (nodes_ok n h parts.0.0 depths.0.rest nodes.0 nodes.1) (roles_ok start.0.0 n h parts.0.0 nodes.0.roles nodes.0.rest roles.0 roles.1))
   where
+    version_known : (r : Rest) (v : ℕ × Rest) → first_line r ≡ Ok v → (v.0 ≡ 1) ⊎ (v.0 ≡ 2)
+    version_known r v f =
+        let line = bind_ok (next_line r) _ v f in
+        let version = bind_ok (want (version_named line.0.0) (Line r.line)) _ v line.2 in
+        let made : ℕ × Rest = (version.0, line.0.1) in
+        subst (λ (q : ℕ × Rest). (q.0 ≡ 1) ⊎ (q.0 ≡ 2)) (ok_is made v version.2) (one_or_two (version_is line.0.0 version.0 (want_ok (version_named line.0.0) (Line r.line) version.0 version.1)))
+
     parts_small : (r : Rest) (p : ℕ × Rest) → parts_line r ≡ Ok p → p.0 < 2 ^ 32
     parts_small r p f =
         let line = bind_ok (next_line r) _ p f in

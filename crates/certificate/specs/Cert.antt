@@ -1,14 +1,15 @@
 -- A certificate: what each hardened node is for.
-use Rattle.std.specs.Prelude.{◌≡◌, ℕ, ◌+◌, ◌*◌, ◌<◌, ◌≤◌, ◌^◌, List, length, Option, Some, None, slice_index, All}
+use Rattle.std.specs.Prelude.{◌≡◌, ℕ, ◌+◌, ◌*◌, ◌<◌, ◌≤◌, ◌^◌, ◌⊎◌, List, length, Option, Some, None, slice_index, All}
 use Rattle.tmr_base.specs.declared.copies.CopyNo.{CopyNo}
 use Rattle.certificate.specs.declared.role.Role.{Role}
 use Rattle.certificate.specs.declared.role.Role.TheVariants.{Copy, Voter}
 use Rattle.tmr_base.specs.Copies.{Three, of_copy, copy_number}
 use Rattle.flat_net.specs.Net.{Net, slot}
 
--- input counts of both designs; the depth of each partition; for each original node its partition, its three copies and
--- their labels; for each hardened node its role
+-- the version, which is 1 or 2; input counts of both designs; the depth of each partition; for each original node its
+-- partition, its three copies and their labels; for each hardened node its role
 pub record PlainCert : Type 0 where
+  pub version : ℕ
   pub original_inputs : ℕ
   pub hardened_inputs : ℕ
   pub depth : List ℕ
@@ -21,12 +22,21 @@ pub record PlainCert : Type 0 where
 abbrev pub role_of : PlainCert → ℕ → Option Role
 role_of k h = slot k.hardened_inputs k.roles h
 
--- the partition of original net x; an input has none
+-- the partition of original net x; the inputs are one of their own, None
 abbrev pub part_of : PlainCert → ℕ → Option ℕ
 part_of k x = slot k.original_inputs k.part x
 
 abbrev pub depth_of : PlainCert → ℕ → ℕ
 depth_of k p = slice_index k.depth p
+
+-- the depth of a partition; that of the inputs has 0
+abbrev pub part_depth : PlainCert → Option ℕ → ℕ
+part_depth k None = 0
+part_depth k (Some p) = depth_of k p
+
+-- hardened net h is copy c of input i
+abbrev pub IsInputCopy : PlainCert → ℕ → ℕ → CopyNo → Type 0
+IsInputCopy k h i c = (i < k.original_inputs) × (h < k.hardened_inputs) × (h ≡ 3 * i + copy_number c)
 
 -- the net that a triple names, or the input's copy
 abbrev pub three_or_input : Option Three → ℕ → CopyNo → ℕ
@@ -54,13 +64,14 @@ role_count k (Some (Voter x p c)) = 0
 abbrev pub count_of : PlainCert → ℕ → ℕ
 count_of k h = role_count k (role_of k h)
 
--- what a role names is in range, and no voter is of an input
+-- what a role names is in range, and in version 1 no voter is of an input
 abbrev pub RoleIsInRange : PlainCert → Role → Type 0
 RoleIsInRange k (Copy x c) = (k.original_inputs ≤ x.0) × (x.0 < k.original_inputs + length k.part)
-RoleIsInRange k (Voter x p c) = (k.original_inputs ≤ x.0) × (x.0 < k.original_inputs + length k.part) × (p.0 < length k.depth)
+RoleIsInRange k (Voter x p c) = (k.version ≡ 1 → k.original_inputs ≤ x.0) × (x.0 < k.original_inputs + length k.part) × (p.0 < length k.depth)
 
 -- what each certificate keeps
 pub record IsCert (k : PlainCert) : Type 0 where
+  pub known_version : (k.version ≡ 1) ⊎ (k.version ≡ 2)
   pub few_parts : length k.depth ≤ 4294967295
   pub few_original : k.original_inputs + length k.part < 4294967295
   pub few_hardened : k.hardened_inputs + length k.roles < 4294967295

@@ -1,11 +1,12 @@
--- What a draft says.
-use Rattle.std.specs.Prelude.{map}
+-- What a draft says, for a certificate of this version.
+use Rattle.std.specs.Prelude.{ℕ, map}
 use Rattle.certificate.specs.Threes.{three_of, three_ids}
 use Rattle.certificate.specs.declared.draft.CertDraft.{CertDraft}
 use Rattle.certificate.specs.Cert.{PlainCert}
 
-abbrev pub cert_of_draft : CertDraft → PlainCert
-cert_of_draft k = record {
+abbrev pub cert_of_draft : ℕ → CertDraft → PlainCert
+cert_of_draft version k = record {
+  version = version;
   original_inputs = k.original_inputs;
   hardened_inputs = k.hardened_inputs;
   depth = k.depth.items;

@@ -33,7 +33,7 @@ role_length n h g (Some (Voter x p c)) = 11 + length (name_of h g) + length (nam
 -- the three lines that each text has, and those of all partitions, original nodes and hardened nodes
 abbrev pub cert_length : Net → Net → PlainCert → ℕ
 cert_length n h k =
-    22 + digits (length k.depth)
+    21 + digits k.version + digits (length k.depth)
     + sum_by (part_length k) (range_with_len 0 (length k.depth))
     + sum_by (node_length n h k) (range_with_len 0 (length k.part))
     + sum_by (λ j. role_length n h (k.hardened_inputs + j) (role_of k (k.hardened_inputs + j))) (range_with_len 0 (length k.roles))

@@ -1,5 +1,6 @@
 pub mod Cert
 pub mod Reads
+pub mod Starts
 pub mod Rules
 pub mod Schedules
 pub mod Threes
@@ -8,7 +9,9 @@ pub mod Draft
 pub mod Lines
 pub mod Gives
 pub mod Text
+pub mod Words
 pub mod Reading
+pub mod Folding
 pub mod Plain
 pub mod Tables
 pub mod Left

@@ -1,8 +1,8 @@
--- The lines of a text, and the words of a line.
-use Rattle.std.specs.Prelude.{ℕ, ◌+◌, ◌==◌, ◌&&◌, not, Bool, nat_lt, List, [], length, Option, Some, None, Result, Ok, Err, if◌then◌else◌, slice_index_or}
-use Rattle.std.specs.List.{list_all, position_or_len, before_first, after_first, slice_split}
-use Rattle.std.specs.Str.{bytes_eq}
+-- The code's own way to take a text line by line, up to the first fault: specs/Words says what lines and words are.
+use Rattle.std.specs.Prelude.{ℕ, ◌+◌, Bool, nat_lt, List, length, Option, Some, None, Result, Ok, Err, if◌then◌else◌}
+use Rattle.std.specs.List.{position_or_len, before_first, after_first}
 use Rattle.tmr_base.specs.Numbers.{number_of}
+pub use Rattle.certificate.specs.Words.{is_line_feed, is_blank, words_of, word, is_full, has_form}
 use Rattle.certificate.specs.declared.fault.CertFault.{CertFault}
 use Rattle.certificate.specs.declared.fault.CertFault.TheVariants.{Line}
 
@@ -26,32 +26,12 @@ pub record Rest : Type 0 where
   pub line : ℕ
   pub bytes : List ℕ
 
-abbrev pub is_line_feed : ℕ → Bool
-is_line_feed b = b == 10
-
-abbrev pub is_blank : ℕ → Bool
-is_blank b = b == 32
-
 -- the bytes before the next line feed, and what stands after it
 unfoldable pub next_line : Rest → Result (List ℕ × Rest) CertFault
 next_line r =
     if nat_lt (position_or_len is_line_feed r.bytes) (length r.bytes)
     then Ok (before_first is_line_feed r.bytes, record { line = r.line + 1; bytes = after_first is_line_feed r.bytes })
     else Err (Line r.line)
-
--- what stands between the blanks of a line
-abbrev pub words_of : List ℕ → List (List ℕ)
-words_of line = slice_split is_blank line
-
-abbrev pub word : List (List ℕ) → ℕ → List ℕ
-word words i = slice_index_or words i []
-
-abbrev pub is_full : List ℕ → Bool
-is_full w = not (length w == 0)
-
--- as many words, none of them empty, of which this is the first
-abbrev pub has_form : List (List ℕ) → ℕ → List ℕ → Bool
-has_form words count first = length words == count && (list_all is_full words && bytes_eq (word words 0) first)
 
 -- the words of a line of this form
 unfoldable pub form_words : List ℕ → ℕ → List ℕ → ℕ → Result (List (List ℕ)) CertFault

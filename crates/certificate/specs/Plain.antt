@@ -1,11 +1,11 @@
 -- What is read, without where it lies in memory.
-use Rattle.std.specs.Prelude.{ℕ, ◌<◌, ◌≤◌, List, map, length}
+use Rattle.std.specs.Prelude.{◌≡◌, ℕ, ◌<◌, ◌≤◌, List, map, length}
 use Rattle.tmr_base.specs.Copies.{Three}
 use Rattle.flat_net.specs.Net.{Net, net_count}
 use Rattle.std.specs.Borrow.{Bor}
 use Rattle.certificate.specs.declared.line_kinds.NodeLine as declared
 use Rattle.certificate.specs.Threes.{three_of, three_ids}
-use Rattle.certificate.specs.Reading.{NodeLine}
+use Rattle.certificate.specs.Folding.{NodeLine}
 
 -- the bytes of a word
 abbrev pub text : Bor (List ℕ) → List ℕ
@@ -22,6 +22,10 @@ plain_line l = record { part = l.part; copies = three_ids l.copies; labels = thr
 -- the number of a node, which no input has
 abbrev pub IsNode : Net → ℕ → Type 0
 IsNode n x = (length n.inputs ≤ x) × (x < net_count n)
+
+-- the number of a net of which there may be voters: in version 1 that of a node
+abbrev pub IsVoted : ℕ → Net → ℕ → Type 0
+IsVoted version n x = (version ≡ 1 → length n.inputs ≤ x) × (x < net_count n)
 
 -- three nodes of a design
 abbrev pub AreNodes : Net → Three → Type 0

@@ -1,210 +1,172 @@
--- Reading a certificate's text for two designs, line by line: what the lines say, or the first line that is not the
--- expected one, with its fault. Within a line a wrong form comes first, then an unknown net, then the order, then the
--- partition, then a doubled copy: the steps of each definition stand in this order.
-use Rattle.std.specs.Prelude.{ℕ, zero, suc, ◌+◌, ◌-◌, ◌==◌, nat_lt, List, [], ◌∷◌, ◌++◌, length, replicate, codes, Option, Some, None, is_none, Result, Ok, if◌then◌else◌, slice_index_or, set}
+-- What a certificate's text must be for an original design n and a hardened design h. The lines before a line say which one is
+-- due. A line's tests stand in the order of its faults; the text has the fault of the first test that fails, and where none fails
+-- its lines spell the certificate.
+use Rattle.std.specs.Prelude.{ℕ, zero, suc, ◌+◌, ◌==◌, ◌&&◌, not, Bool, true, nat_lt, List, [], ◌∷◌, ◌++◌, map, length, codes, Option, Some, None, is_some, is_none, Result, Ok, Err, if◌then◌else◌, slice_index_or}
+use Rattle.std.specs.List.{list_any, filter, filter_map, flat_map}
+use Rattle.std.specs.Option.{unwrap_or}
 use Rattle.std.specs.Str.{bytes_eq}
 use Rattle.tmr_base.specs.declared.copies.CopyNo.{CopyNo}
 use Rattle.tmr_base.specs.declared.copies.CopyNo.TheVariants.{First, Second, Third}
 use Rattle.tmr_base.specs.Copies.{Three}
-use Rattle.flat_net.specs.Net.{Net, net_named}
+use Rattle.flat_net.specs.Net.{Net}
 use Rattle.certificate.specs.declared.fault.CertFault.{CertFault}
 use Rattle.certificate.specs.declared.fault.CertFault.TheVariants.{Line, UnknownNet, Order, Range, Doubled}
 use Rattle.certificate.specs.declared.role.Role.{Role}
 use Rattle.certificate.specs.declared.role.Role.TheVariants.{Copy, Voter}
 use Rattle.certificate.specs.Cert.{PlainCert}
-use Rattle.certificate.specs.Lines.{◌>>=◌, want, hold, Rest, next_line, word, form_words, number_at}
+use Rattle.certificate.specs.Words.{lines_of, word_of, number_in, net_in, node_in, voted_in, version_named, copy_named, is_form, are_numbers, are_nodes, is, value}
 
--- as many steps, up to the first fault
-unfoldable pub repeat : {S : Type 0} → ℕ → (S → Result S CertFault) → S → Result S CertFault
-repeat zero step s = Ok s
-repeat (suc n) step s = step s >>= repeat n step
+-- ---- what lines say
 
--- `tmr-cert 1`
-unfoldable pub first_line : Rest → Result Rest CertFault
-first_line r = do
-  line ← next_line r
-  _ ← hold (bytes_eq line.0 (codes "tmr-cert 1")) (Line r.line)
-  Ok line.1
+-- those that begin with this word
+abbrev pub lines_with : List ℕ → List (List ℕ) → List (List ℕ)
+lines_with first lines = filter (λ line. bytes_eq (word_of line 0) first) lines
 
--- `end`, and nothing after it
-unfoldable pub last_line : Rest → Result Rest CertFault
-last_line r = do
-  line ← next_line r
-  _ ← hold (bytes_eq line.0 (codes "end")) (Line r.line)
-  _ ← hold (length line.1.bytes == 0) (Line line.1.line)
-  Ok line.1
+abbrev pub version_in : List (List ℕ) → ℕ
+version_in lines = value (version_named (slice_index_or lines 0 []))
 
--- `parts K`: how many partitions there are
-unfoldable pub read_parts : List ℕ → ℕ → Result ℕ CertFault
-read_parts text line = do
-  words ← form_words text 2 (codes "parts") line
-  number_at (word words 1) line
+-- how many partitions there are
+abbrev pub parts_in : List (List ℕ) → ℕ
+parts_in lines = value (number_in (slice_index_or lines 1 []) 1)
 
--- `part P depth D`: the depth of partition p
-unfoldable pub read_part : ℕ → List ℕ → ℕ → Result ℕ CertFault
-read_part p text line = do
-  words ← form_words text 4 (codes "part") line
-  _ ← hold (bytes_eq (word words 2) (codes "depth")) (Line line)
-  q ← number_at (word words 1) line
-  depth ← number_at (word words 3) line
-  _ ← hold (q == p) (Line line)
-  Ok depth
+-- `end` is among them
+abbrev pub ended : List (List ℕ) → Bool
+ended lines = list_any (λ line. bytes_eq line (codes "end")) lines
 
--- an input is no node
-abbrev pub node_or_none : ℕ → Option ℕ → Option ℕ
-node_or_none inputs None = None
-node_or_none inputs (Some x) = if nat_lt x inputs then None else Some x
+-- the hardened node that word i of a node's line names is copy c of the node of this line
+abbrev pub copy_given : Net → Net → List ℕ → ℕ → CopyNo → ℕ × Role
+copy_given n h line i c = (value (node_in h line i), Copy (record { 0 = value (node_in n line 1) }) c)
 
--- the number of the node with this name
-unfoldable pub known : Net → List ℕ → ℕ → Result ℕ CertFault
-known n name line = want (node_or_none (length n.inputs) (net_named n name)) (UnknownNet line)
+abbrev pub node_gives : Net → Net → List ℕ → List (ℕ × Role)
+node_gives n h line = copy_given n h line 3 First ∷ copy_given n h line 4 Second ∷ copy_given n h line 5 Third ∷ []
 
-unfoldable pub known_three : Net → List ℕ → List ℕ → List ℕ → ℕ → Result Three CertFault
-known_three h a b c line = do
-  first ← known h a line
-  second ← known h b line
-  third ← known h c line
-  Ok (record { first = first; second = second; third = third })
+abbrev pub voter_gives : Net → Net → List ℕ → List (ℕ × Role)
+voter_gives n h line = (value (node_in h line 1), Voter (record { 0 = value (net_in n line 2) }) (record { 0 = value (number_in line 3) }) (unwrap_or (copy_named (word_of line 4)) First)) ∷ []
 
-unfoldable pub three_numbers : List ℕ → List ℕ → List ℕ → ℕ → Result Three CertFault
-three_numbers a b c line = do
-  first ← number_at a line
-  second ← number_at b line
-  third ← number_at c line
-  Ok (record { first = first; second = second; third = third })
+-- the roles that a line gives to hardened nodes: a node's line to the three copies, a voter's line to the voter, any other none
+abbrev pub gives : Net → Net → List ℕ → List (ℕ × Role)
+gives n h line = if bytes_eq (word_of line 0) (codes "node") then node_gives n h line else if bytes_eq (word_of line 0) (codes "voter") then voter_gives n h line else []
 
--- the partition and the labels of a node's line
-unfoldable pub node_numbers : List (List ℕ) → ℕ → Result (ℕ × Three) CertFault
-node_numbers words line = do
-  p ← number_at (word words 2) line
-  labels ← three_numbers (word words 6) (word words 7) (word words 8) line
-  Ok (p, labels)
+-- the roles that lines give
+abbrev pub given : Net → Net → List (List ℕ) → List (ℕ × Role)
+given n h lines = flat_map (gives n h) lines
 
--- what a node's line says
-pub record NodeLine : Type 0 where
-  pub part : ℕ
-  pub copies : Three
-  pub labels : Three
+-- the first role that hardened node g is given
+abbrev pub role_in : List (ℕ × Role) → ℕ → Option Role
+role_in [] g = None
+role_in ((x, role) ∷ more) g = if x == g then Some role else role_in more g
 
--- `node X P H0 H1 H2 E0 E1 E2`, where original node x is due and there are so many partitions
-unfoldable pub read_node : Net → Net → ℕ → ℕ → List ℕ → ℕ → Result NodeLine CertFault
-read_node n h x parts text line = do
-  words ← form_words text 9 (codes "node") line
-  numbers ← node_numbers words line
-  named ← known n (word words 1) line
-  copies ← known_three h (word words 3) (word words 4) (word words 5) line
-  _ ← hold (named == x) (Order line)
-  _ ← hold (nat_lt numbers.0 parts) (Range line)
-  Ok (record { part = numbers.0; copies = copies; labels = numbers.1 })
+-- each of these is for a node without a role, both by those given before and by those that stand before it here
+abbrev pub all_new : List (ℕ × Role) → List (ℕ × Role) → Bool
+all_new before [] = true
+all_new before (one ∷ more) = is_none (role_in before one.0) && all_new (before ++ one ∷ []) more
 
--- hardened net g gets this role, if it has none yet
-unfoldable pub give : ℕ → ℕ → Role → ℕ → List (Option Role) → Result (List (Option Role)) CertFault
-give inputs g role line roles = do
-  _ ← hold (is_none (slice_index_or roles (g - inputs) None)) (Doubled line)
-  Ok (set roles (g - inputs) (Some role))
+-- so many numbers, from g on
+abbrev pub numbers : ℕ → ℕ → List ℕ
+numbers g zero = []
+numbers g (suc count) = g ∷ numbers (g + 1) count
 
--- the three copies of x get their roles
-unfoldable pub give_copies : ℕ → ℕ → Three → ℕ → List (Option Role) → Result (List (Option Role)) CertFault
-give_copies inputs x copies line roles = do
-  one ← give inputs copies.first (Copy (record { 0 = x }) First) line roles
-  two ← give inputs copies.second (Copy (record { 0 = x }) Second) line one
-  give inputs copies.third (Copy (record { 0 = x }) Third) line two
+abbrev pub hardened_nodes : Net → List ℕ
+hardened_nodes h = numbers (length h.inputs) (length h.nodes)
 
--- what was read of the parts' lines, and what is left
-pub record Depths : Type 0 where
-  pub depth : List ℕ
-  pub rest : Rest
+-- ---- which line is due
 
--- one partition's line more
-unfoldable pub part_step : Depths → Result Depths CertFault
-part_step s = do
-  line ← next_line s.rest
-  depth ← read_part (length s.depth) line.0 s.rest.line
-  Ok (record { depth = s.depth ++ depth ∷ []; rest = line.1 })
+pub data Due : Type 0 where
+  VersionDue : Due
+  PartsDue : Due
+  PartDue : (p : ℕ) → Due
+  NodeDue : (x : ℕ) → Due
+  VoterDue : (g : ℕ) → Due
+  EndDue : Due
 
--- what was read of the nodes' lines, the roles that they give, and what is left
-pub record Nodes : Type 0 where
-  pub part : List ℕ
-  pub copies : List Three
-  pub labels : List Three
-  pub roles : List (Option Role)
-  pub rest : Rest
+-- a voter's line for the first hardened node without a role, and `end` where there is none
+abbrev pub voter_or_end : List ℕ → Due
+voter_or_end [] = EndDue
+voter_or_end (g ∷ more) = VoterDue g
 
--- one original node's line more
-unfoldable pub node_step : Net → Net → ℕ → Nodes → Result Nodes CertFault
-node_step n h parts s = do
-  line ← next_line s.rest
-  node ← read_node n h (length n.inputs + length s.part) parts line.0 s.rest.line
-  roles ← give_copies (length h.inputs) (length n.inputs + length s.part) node.copies s.rest.line s.roles
-  Ok (record {
-    part = s.part ++ node.part ∷ [];
-    copies = s.copies ++ node.copies ∷ [];
-    labels = s.labels ++ node.labels ∷ [];
-    roles = roles;
-    rest = line.1;
-  })
+-- the line that is due after these
+unfoldable pub due : Net → Net → List (List ℕ) → Due
+due n h before =
+    let parts = length (lines_with (codes "part") before) in
+    let nodes = length (lines_with (codes "node") before) in
+    if length before == 0 then VersionDue
+    else if length before == 1 then PartsDue
+    else if nat_lt parts (parts_in before) then PartDue parts
+    else if nat_lt nodes (length n.nodes) then NodeDue (length n.inputs + nodes)
+    else voter_or_end (filter (λ g. is_none (role_in (given n h before) g)) (hardened_nodes h))
 
--- `0`, `1` or `2`
-abbrev pub copy_named : List ℕ → Option CopyNo
-copy_named w = if bytes_eq w (codes "0") then Some First else if bytes_eq w (codes "1") then Some Second else if bytes_eq w (codes "2") then Some Third else None
+-- ---- tests, each with the fault that there is where it fails
 
--- the partition and the copy of a voter's line
-unfoldable pub voter_numbers : List (List ℕ) → ℕ → Result (ℕ × CopyNo) CertFault
-voter_numbers words line = do
-  p ← number_at (word words 3) line
-  c ← want (copy_named (word words 4)) (Line line)
-  Ok (p, c)
+-- of line i, after the lines before it, where this one is due; words are counted from 0
+unfoldable pub tests_of : Net → Net → List (List ℕ) → List ℕ → ℕ → Due → List (Bool × CertFault)
+-- `tmr-cert 1` or `tmr-cert 2`
+tests_of n h before line i VersionDue = (is_some (version_named line), Line i) ∷ []
+-- `parts K`
+tests_of n h before line i PartsDue =
+    (is_form 2 (codes "parts") line, Line i) ∷
+    (are_numbers line (1 ∷ []), Line i) ∷ []
+-- `part P depth D`
+tests_of n h before line i (PartDue p) =
+    (is_form 4 (codes "part") line, Line i) ∷
+    (bytes_eq (word_of line 2) (codes "depth"), Line i) ∷
+    (are_numbers line (1 ∷ 3 ∷ []), Line i) ∷
+    (is p (number_in line 1), Line i) ∷ []
+-- `node X P H0 H1 H2 E0 E1 E2`
+tests_of n h before line i (NodeDue x) =
+    (is_form 9 (codes "node") line, Line i) ∷
+    (are_numbers line (2 ∷ 6 ∷ 7 ∷ 8 ∷ []), Line i) ∷
+    (are_nodes n line (1 ∷ []), UnknownNet i) ∷
+    (are_nodes h line (3 ∷ 4 ∷ 5 ∷ []), UnknownNet i) ∷
+    (is x (node_in n line 1), Order i) ∷
+    (nat_lt (value (number_in line 2)) (parts_in before), Range i) ∷
+    (all_new (given n h before) (node_gives n h line), Doubled i) ∷ []
+-- `voter H X P C`
+tests_of n h before line i (VoterDue g) =
+    (is_form 5 (codes "voter") line, Line i) ∷
+    (are_numbers line (3 ∷ []), Line i) ∷
+    (is_some (copy_named (word_of line 4)), Line i) ∷
+    (are_nodes h line (1 ∷ []), UnknownNet i) ∷
+    (is_some (voted_in (version_in before) n line 2), UnknownNet i) ∷
+    (is g (node_in h line 1), Order i) ∷
+    (nat_lt (value (number_in line 3)) (parts_in before), Range i) ∷ []
+-- `end`
+tests_of n h before line i EndDue = (bytes_eq line (codes "end"), Line i) ∷ []
 
--- `voter H X P C`, where hardened net g is due
-unfoldable pub read_voter : Net → Net → ℕ → ℕ → List ℕ → ℕ → Result Role CertFault
-read_voter n h g parts text line = do
-  words ← form_words text 5 (codes "voter") line
-  numbers ← voter_numbers words line
-  named ← known h (word words 1) line
-  x ← known n (word words 2) line
-  _ ← hold (named == g) (Order line)
-  _ ← hold (nat_lt numbers.0 parts) (Range line)
-  Ok (Voter (record { 0 = x }) (record { 0 = numbers.0 }) numbers.1)
+-- of the rest of a text, cut at its line feeds, after the lines before: no line stands after `end`, and what follows the last line
+-- feed stands after `end` and is empty
+abbrev pub all_tests : Net → Net → List (List ℕ) → List (List ℕ) → List (Bool × CertFault)
+all_tests n h before [] = []
+all_tests n h before (last ∷ []) = (ended before, Line (length before + 1)) ∷ (length last == 0, Line (length before + 1)) ∷ []
+all_tests n h before (line ∷ next ∷ more) =
+    (not (ended before), Line (length before + 1)) ∷
+    tests_of n h before line (length before + 1) (due n h before) ++ all_tests n h (before ++ line ∷ []) (next ∷ more)
 
--- the roles of the hardened nodes so far, and what is left
-pub record Roles : Type 0 where
-  pub roles : List Role
-  pub rest : Rest
+-- ---- the answer
 
--- a copy has its role from its node's line, and any other hardened node has a voter's line
-abbrev pub role_step : Net → Net → ℕ → Option Role → Roles → Result Roles CertFault
-role_step n h parts (Some role) s = Ok (record { roles = s.roles ++ role ∷ []; rest = s.rest })
-role_step n h parts None s = do
-  line ← next_line s.rest
-  role ← read_voter n h (length h.inputs + length s.roles) parts line.0 s.rest.line
-  Ok (record { roles = s.roles ++ role ∷ []; rest = line.1 })
+-- what three words say, from word i on
+abbrev pub three_in : (List ℕ → ℕ → Option ℕ) → List ℕ → ℕ → Three
+three_in f line i = record { first = value (f line i); second = value (f line (i + 1)); third = value (f line (i + 2)) }
 
--- one hardened node more
-unfoldable pub voter_step : Net → Net → ℕ → List (Option Role) → Roles → Result Roles CertFault
-voter_step n h parts given s = role_step n h parts (slice_index_or given (length s.roles) None) s
+-- the certificate that lines without a fault spell
+unfoldable pub spelled : Net → Net → List (List ℕ) → PlainCert
+spelled n h lines =
+    let nodes = lines_with (codes "node") lines in
+    record {
+      version = version_in lines;
+      original_inputs = length n.inputs;
+      hardened_inputs = length h.inputs;
+      depth = map (λ line. value (number_in line 3)) (lines_with (codes "part") lines);
+      part = map (λ line. value (number_in line 2)) nodes;
+      copies = map (λ line. three_in (node_in h) line 3) nodes;
+      labels = map (λ line. three_in number_in line 6) nodes;
+      roles = filter_map (role_in (given n h lines)) (hardened_nodes h);
+    }
 
--- the line that says how many partitions there are
-unfoldable pub parts_line : Rest → Result (ℕ × Rest) CertFault
-parts_line r = do
-  line ← next_line r
-  count ← read_parts line.0 r.line
-  Ok (count, line.1)
+-- k, or the fault of the first test that fails
+abbrev pub unless_failed : List (Bool × CertFault) → PlainCert → Result PlainCert CertFault
+unless_failed [] k = Ok k
+unless_failed ((holds, fault) ∷ more) k = if holds then unless_failed more k else Err fault
 
--- the certificate that the text gives for the designs n and h
+-- the certificate that the text gives for the designs n and h, or its first fault
 unfoldable pub cert_of_text : Net → Net → List ℕ → Result PlainCert CertFault
-cert_of_text n h bytes = do
-  start ← first_line (record { line = 1; bytes = bytes })
-  parts ← parts_line start
-  depths ← repeat parts.0 part_step (record { depth = []; rest = parts.1 })
-  nodes ← repeat (length n.nodes) (node_step n h parts.0) (record { part = []; copies = []; labels = []; roles = replicate (length h.nodes) None; rest = depths.rest })
-  voters ← repeat (length h.nodes) (voter_step n h parts.0 nodes.roles) (record { roles = []; rest = nodes.rest })
-  end ← last_line voters.rest
-  Ok (record {
-    original_inputs = length n.inputs;
-    hardened_inputs = length h.inputs;
-    depth = depths.depth;
-    part = nodes.part;
-    copies = nodes.copies;
-    labels = nodes.labels;
-    roles = voters.roles;
-  })
+cert_of_text n h bytes = unless_failed (all_tests n h [] (lines_of bytes)) (spelled n h (lines_of bytes))

@@ -4,7 +4,7 @@ use Rattle.certificate.specs.declared.role.Role.{Role}
 use Rattle.certificate.specs.declared.reading.NodeTable.{NodeTable}
 use Rattle.certificate.specs.Threes.{three_of, three_ids}
 use Rattle.certificate.specs.Lines.{Rest}
-use Rattle.certificate.specs.Reading.{Depths, Nodes, Roles}
+use Rattle.certificate.specs.Folding.{Depths, Nodes, Roles}
 
 -- the depths of the first partitions
 abbrev pub depths_read : List ℕ → Rest → Depths

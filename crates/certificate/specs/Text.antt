@@ -45,7 +45,7 @@ voter_lines n h g (role ∷ roles) = voter_line n h g role ++ voter_lines n h (g
 -- the lines of a certificate's text
 unfoldable pub cert_lines : Net → Net → PlainCert → List (List (List ℕ))
 cert_lines n h k =
-    (codes "tmr-cert" ∷ codes "1" ∷ []) ∷
+    (codes "tmr-cert" ∷ decimal k.version ∷ []) ∷
     (codes "parts" ∷ decimal (length k.depth) ∷ []) ∷
     (part_lines 0 k.depth ++
     (node_lines n h k.original_inputs k.part k.copies k.labels ++

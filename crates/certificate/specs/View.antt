@@ -6,6 +6,7 @@ use Rattle.certificate.specs.Cert.{PlainCert}
 
 abbrev pub cert_of : Inside → PlainCert
 cert_of k = record {
+  version = k.version;
   original_inputs = k.original_inputs;
   hardened_inputs = k.hardened_inputs;
   depth = k.depth.items;

@@ -13,6 +13,7 @@ use tmr_base::{CopyNo, NetId, PartId};
 /// What each hardened node is for, with the labels of copies and the depths of partitions.
 #[derive(Drop)]
 pub struct Certificate {
+    version: u8,
     original_inputs: u32,
     hardened_inputs: u32,
     depth: Vec<u32>,
@@ -35,12 +36,30 @@ impl Model for Certificate {
 }
 
 impl Certificate {
-    /// A certificate of these fields, which are consistent as `IsCert` says.
+    /// A certificate of version 1 of these fields, which are consistent as `IsCert` says.
     pub fn make(draft: CertDraft) -> Certificate
-        requires { IsCert (cert_of_draft draft) }
-        ensures { result ≡ cert_of_draft draft }
+        requires { IsCert (cert_of_draft 1 draft) }
+        ensures { result ≡ cert_of_draft 1 draft }
+    {
+        Certificate::of_version(1, draft)
+    }
+
+    /// A certificate of version 2 of these fields, which are consistent as `IsCert` says: a voter may be
+    /// of an input.
+    pub fn make2(draft: CertDraft) -> Certificate
+        requires { IsCert (cert_of_draft 2 draft) }
+        ensures { result ≡ cert_of_draft 2 draft }
+    {
+        Certificate::of_version(2, draft)
+    }
+
+    /// A certificate of this version.
+    pub(crate) fn of_version(version: u8, draft: CertDraft) -> Certificate
+        requires { IsCert (cert_of_draft version draft) }
+        ensures { result ≡ cert_of_draft version draft }
     {
         Certificate {
+            version,
             original_inputs: draft.original_inputs,
             hardened_inputs: draft.hardened_inputs,
             depth: draft.depth,
@@ -49,6 +68,13 @@ impl Certificate {
             labels: draft.labels,
             roles: draft.roles,
         }
+    }
+
+    /// The version, 1 or 2. In version 2 inputs may be upset, and registers may begin with a free value.
+    pub fn version(&self) -> u8
+        ensures { result ≡ self.now.version }
+    {
+        self.version
     }
 
     /// How many partitions there are. Each certificate is consistent.

@@ -5,7 +5,9 @@
 //! eight rules, and of allowed and quiet schedules stand here, in specs/.
 //!
 //! A certificate's text is read exactly (`read_cert`: the certificate, or the first line that is not the
-//! expected one, with its fault), and what is written (`write_cert`) is read again.
+//! expected one, with its fault), and what is written (`write_cert`) is read again. specs/Text says how a
+//! certificate is spelled, specs/Words and specs/Reading what each line of a text must be; specs/Lines and
+//! specs/Folding are the code's own, and no public clause cites them.
 #![tactic(auto)]
 
 mod certificate;

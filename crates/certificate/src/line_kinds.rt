@@ -3,9 +3,9 @@ ghost use Rattle.std.specs.Prelude.{◌≡◌, ◌+◌, ◌<◌, ◌≤◌, Some
 ghost use Rattle.flat_net.specs.Net.{net_count};
 ghost use Rattle.flat_net.specs.Nodes.{number_of};
 ghost use Rattle.certificate.specs.Gives.{Gives};
-ghost use Rattle.certificate.specs.Plain.{texts, plain_line, AreNodes};
+ghost use Rattle.certificate.specs.Plain.{texts, plain_line, AreNodes, IsVoted};
 ghost use Rattle.certificate.specs.Threes.{three_of, three_ids};
-ghost use Rattle.certificate.specs.Reading.{first_line, last_line, read_parts, read_part, known, known_three, three_numbers, node_numbers, read_node, copy_named, voter_numbers, read_voter, parts_line};
+ghost use Rattle.certificate.specs.Folding.{version_named, first_line, last_line, read_parts, read_part, known, voted, known_three, three_numbers, node_numbers, read_node, copy_named, voter_numbers, read_voter, parts_line};
 
 use crate::forms::form_words;
 use crate::lines::{Lines, number};
@@ -22,21 +22,34 @@ pub struct NodeLine {
     pub labels: [u32; 3],
 }
 
-/// The line with which each text begins.
-#[tactic(auto, unfolding(crate::specs::Reading::first_line))]
-pub fn first_line(lines: &mut Lines<'_>) -> Result<(), CertFault>
-    ensures { Gives (λ _. lines.new) result (first_line lines.old) }
+/// The version that a first line names.
+fn version_named(line: &[u8]) -> Option<u8>
+    ensures { result ≡ version_named line.now }
+{
+    if line == b"tmr-cert 1".as_slice() {
+        return Some(1);
+    }
+    if line == b"tmr-cert 2".as_slice() {
+        return Some(2);
+    }
+    None
+}
+
+/// The line with which each text begins: its version.
+#[tactic(auto, unfolding(crate::specs::Folding::first_line))]
+pub fn first_line(lines: &mut Lines<'_>) -> Result<u8, CertFault>
+    ensures { Gives (λ version. (version, lines.new)) result (first_line lines.old) }
 {
     let number = lines.number();
     let line = lines.next()?;
-    if line != b"tmr-cert 1".as_slice() {
-        return Err(CertFault::Line(number));
+    match version_named(line) {
+        Some(version) => Ok(version),
+        None => Err(CertFault::Line(number)),
     }
-    Ok(())
 }
 
 /// The line with which each text ends.
-#[tactic(auto, unfolding(crate::specs::Reading::last_line))]
+#[tactic(auto, unfolding(crate::specs::Folding::last_line))]
 pub fn last_line(lines: &mut Lines<'_>) -> Result<(), CertFault>
     ensures { Gives (λ _. lines.new) result (last_line lines.old) }
 {
@@ -51,7 +64,7 @@ pub fn last_line(lines: &mut Lines<'_>) -> Result<(), CertFault>
     Ok(())
 }
 
-#[tactic(auto, unfolding(crate::specs::Reading::read_parts))]
+#[tactic(auto, unfolding(crate::specs::Folding::read_parts))]
 fn read_parts(alloc: Global, text: &[u8], line: u32) -> Result<u32, CertFault>
     ensures { Gives (λ n. n) result (read_parts text.now line) }
 {
@@ -60,7 +73,7 @@ fn read_parts(alloc: Global, text: &[u8], line: u32) -> Result<u32, CertFault>
 }
 
 /// The depth of partition p.
-#[tactic(auto, unfolding(crate::specs::Reading::read_part))]
+#[tactic(auto, unfolding(crate::specs::Folding::read_part))]
 pub fn read_part(alloc: Global, p: u32, text: &[u8], line: u32) -> Result<u32, CertFault>
     ensures { Gives (λ n. n) result (read_part p text.now line) }
 {
@@ -77,7 +90,7 @@ pub fn read_part(alloc: Global, p: u32, text: &[u8], line: u32) -> Result<u32, C
 }
 
 /// The node with this name.
-#[tactic(auto, using(crate::proofs::Names::names), unfolding(crate::specs::Reading::known))]
+#[tactic(auto, using(crate::proofs::Names::names), unfolding(crate::specs::Folding::known))]
 fn known(alloc: Global, net: &FlatNet, name: &[u8], line: u32) -> Result<NetId, CertFault>
     ensures node { Gives number_of result (known net.now.net name.now line) }
     ensures range { IfOk result (λ x. (length net.now.net.inputs ≤ x.0) × (x.0 < net_count net.now.net)) }
@@ -98,7 +111,33 @@ fn known(alloc: Global, net: &FlatNet, name: &[u8], line: u32) -> Result<NetId, 
     }
 }
 
-#[tactic(auto, unfolding(crate::specs::Reading::known_three))]
+/// The net with this name, if there may be voters of it: in version 1 it is a node.
+#[tactic(auto, using(crate::proofs::Names::names), unfolding(crate::specs::Folding::voted))]
+fn voted(
+    alloc: Global,
+    version: u8,
+    net: &FlatNet,
+    name: &[u8],
+    line: u32,
+) -> Result<NetId, CertFault>
+    ensures net { Gives number_of result (voted version net.now.net name.now line) }
+    ensures range { IfOk result (λ x. IsVoted version net.now.net x.0) }
+{
+    if version == 1 {
+        return known(alloc, net, name, line);
+    }
+    net.input_count();
+    match Name::read(alloc, name) {
+        Ok(name) => match net.find(&name) {
+            Some(x) => Ok(x),
+            None => Err(CertFault::UnknownNet(line)),
+        },
+        Err(NameFault::Bad) => Err(CertFault::UnknownNet(line)),
+        Err(NameFault::Memory) => Err(CertFault::Memory),
+    }
+}
+
+#[tactic(auto, unfolding(crate::specs::Folding::known_three))]
 fn known_three(
     alloc: Global,
     net: &FlatNet,
@@ -116,7 +155,7 @@ fn known_three(
     Ok([first, second, third])
 }
 
-#[tactic(auto, unfolding(crate::specs::Reading::three_numbers))]
+#[tactic(auto, unfolding(crate::specs::Folding::three_numbers))]
 fn three_numbers(a: &[u8], b: &[u8], c: &[u8], line: u32) -> Result<[u32; 3], CertFault>
     ensures { Gives three_of result (three_numbers a.now b.now c.now line) }
 {
@@ -127,7 +166,7 @@ fn three_numbers(a: &[u8], b: &[u8], c: &[u8], line: u32) -> Result<[u32; 3], Ce
 }
 
 /// The partition and the labels of a node's line.
-#[tactic(auto, unfolding(crate::specs::Reading::node_numbers))]
+#[tactic(auto, unfolding(crate::specs::Folding::node_numbers))]
 fn node_numbers(words: &[&[u8]], line: u32) -> Result<(u32, [u32; 3]), CertFault>
     requires { length words.now ≡ 9 }
     ensures { Gives (λ x. (x.0, three_of x.1)) result (node_numbers (texts words.now) line) }
@@ -138,7 +177,7 @@ fn node_numbers(words: &[&[u8]], line: u32) -> Result<(u32, [u32; 3]), CertFault
 }
 
 /// How many partitions there are.
-#[tactic(auto, unfolding(crate::specs::Reading::parts_line))]
+#[tactic(auto, unfolding(crate::specs::Folding::parts_line))]
 pub fn parts_line(alloc: Global, lines: &mut Lines<'_>) -> Result<u32, CertFault>
     ensures { Gives (λ count. (count, lines.new)) result (parts_line lines.old) }
 {
@@ -148,7 +187,7 @@ pub fn parts_line(alloc: Global, lines: &mut Lines<'_>) -> Result<u32, CertFault
 }
 
 /// The line of original node x, where there are so many partitions.
-#[tactic(auto, unfolding(crate::specs::Reading::read_node))]
+#[tactic(auto, unfolding(crate::specs::Folding::read_node))]
 pub fn read_node(
     alloc: Global,
     n: &FlatNet,
@@ -195,7 +234,7 @@ fn copy_named(word: &[u8]) -> Option<CopyNo>
 }
 
 /// The partition and the copy of a voter's line.
-#[tactic(auto, unfolding(crate::specs::Reading::voter_numbers))]
+#[tactic(auto, unfolding(crate::specs::Folding::voter_numbers))]
 fn voter_numbers(words: &[&[u8]], line: u32) -> Result<(u32, CopyNo), CertFault>
     requires { length words.now ≡ 5 }
     ensures { Gives (λ x. x) result (voter_numbers (texts words.now) line) }
@@ -208,9 +247,10 @@ fn voter_numbers(words: &[&[u8]], line: u32) -> Result<(u32, CopyNo), CertFault>
 }
 
 /// The line of the voter at hardened node g.
-#[tactic(auto, unfolding(crate::specs::Reading::read_voter))]
+#[tactic(auto, unfolding(crate::specs::Folding::read_voter))]
 pub fn read_voter(
     alloc: Global,
+    version: u8,
     n: &FlatNet,
     h: &FlatNet,
     g: NetId,
@@ -218,12 +258,12 @@ pub fn read_voter(
     text: &[u8],
     line: u32,
 ) -> Result<Role, CertFault>
-    ensures { Gives (λ role. role) result (read_voter n.now.net h.now.net g.0 parts text.now line) }
+    ensures { Gives (λ role. role) result (read_voter version n.now.net h.now.net g.0 parts text.now line) }
 {
     let words = form_words(alloc, text, 5, b"voter", line)?;
     let (part, copy) = voter_numbers(&words, line)?;
     let named = known(alloc, h, words[1], line)?;
-    let node = known(alloc, n, words[2], line)?;
+    let node = voted(alloc, version, n, words[2], line)?;
     if named.0 != g.0 {
         return Err(CertFault::Order(line));
     }

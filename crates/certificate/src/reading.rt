@@ -6,7 +6,7 @@ ghost use Rattle.certificate.specs.Draft.{cert_of_draft};
 ghost use Rattle.certificate.specs.Plain.{IsNode, AreNodes};
 ghost use Rattle.certificate.specs.Threes.{three_of, three_ids};
 ghost use Rattle.certificate.specs.Tables.{depths_read, nodes_read, roles_read};
-ghost use Rattle.certificate.specs.Reading.{give, give_copies, part_step, node_step, voter_step, repeat, cert_of_text};
+ghost use Rattle.certificate.specs.Folding.{give, give_copies, part_step, node_step, voter_step, repeat, fold_of_text};
 ghost use Rattle.std.specs.Prelude.{◌^◌, IfErr};
 ghost use Rattle.certificate.specs.declared.fault.CertFault.TheVariants.{Memory};
 
@@ -27,7 +27,7 @@ pub struct NodeTable {
 }
 
 /// Gives a hardened node its role, if it has none yet.
-#[tactic(auto, unfolding(crate::specs::Reading::give))]
+#[tactic(auto, unfolding(crate::specs::Folding::give))]
 fn give(
     roles: &mut [Option<Role>],
     inputs: u32,
@@ -49,7 +49,7 @@ fn give(
 }
 
 /// Gives the three copies of node x their roles.
-#[tactic(auto, unfolding(crate::specs::Reading::give_copies))]
+#[tactic(auto, unfolding(crate::specs::Folding::give_copies))]
 fn give_copies(
     roles: &mut [Option<Role>],
     inputs: u32,
@@ -84,7 +84,7 @@ fn give_copies(
 }
 
 /// The depth of the next partition.
-#[tactic(auto, unfolding(crate::specs::Reading::part_step))]
+#[tactic(auto, unfolding(crate::specs::Folding::part_step))]
 fn part_step(alloc: Global, depths: &mut Vec<u32>, lines: &mut Lines<'_>) -> Result<(), CertFault>
     requires { length depths.now.items < 2 ^ 32 }
     ensures step { Gives (λ _. depths_read depths.new.items lines.new) result (part_step (depths_read depths.old.items lines.old)) }
@@ -98,7 +98,7 @@ fn part_step(alloc: Global, depths: &mut Vec<u32>, lines: &mut Lines<'_>) -> Res
 }
 
 /// The next node's line.
-#[tactic(auto, unfolding(crate::specs::Reading::node_step))]
+#[tactic(auto, unfolding(crate::specs::Folding::node_step))]
 fn node_step(
     alloc: Global,
     n: &FlatNet,
@@ -172,9 +172,10 @@ fn read_nodes(
 }
 
 /// The role of the next hardened node: the one that is given, or the next voter's line.
-#[tactic(auto, unfolding(crate::specs::Reading::voter_step))]
+#[tactic(auto, unfolding(crate::specs::Folding::voter_step))]
 fn voter_step(
     alloc: Global,
+    version: u8,
     n: &FlatNet,
     h: &FlatNet,
     parts: u32,
@@ -184,7 +185,7 @@ fn voter_step(
 ) -> Result<(), CertFault>
     requires given { length given.now ≡ length h.now.net.nodes }
     requires room { length roles.now.items < length given.now }
-    ensures step { Gives (λ _. roles_read roles.new.items lines.new) result (voter_step n.now.net h.now.net parts given.now (roles_read roles.old.items lines.old)) }
+    ensures step { Gives (λ _. roles_read roles.new.items lines.new) result (voter_step version n.now.net h.now.net parts given.now (roles_read roles.old.items lines.old)) }
     ensures length { OnOk result (length roles.new.items ≡ length roles.old.items + 1) }
 {
     let inputs = h.input_count();
@@ -194,7 +195,7 @@ fn voter_step(
             let line = lines.number();
             let text = lines.next()?;
             let g = NetId(inputs + roles.len() as u32);
-            let role = read_voter(alloc, n, h, g, parts, text, line)?;
+            let role = read_voter(alloc, version, n, h, g, parts, text, line)?;
             roles.push(role)?;
         }
     }
@@ -204,6 +205,7 @@ fn voter_step(
 /// The roles of all hardened nodes.
 fn read_roles(
     alloc: Global,
+    version: u8,
     n: &FlatNet,
     h: &FlatNet,
     parts: u32,
@@ -211,39 +213,39 @@ fn read_roles(
     lines: &mut Lines<'_>,
 ) -> Result<Vec<Role>, CertFault>
     requires { length given.now ≡ length h.now.net.nodes }
-    ensures { Gives (λ roles. roles_read roles.items lines.new) result (repeat (length h.now.net.nodes) (voter_step n.now.net h.now.net parts given.now) (roles_read [] lines.old)) }
+    ensures { Gives (λ roles. roles_read roles.items lines.new) result (repeat (length h.now.net.nodes) (voter_step version n.now.net h.now.net parts given.now) (roles_read [] lines.old)) }
 {
     let count = h.node_count();
     let mut roles = Vec::new(alloc);
     for _ in 0..count {
-        voter_step(alloc, n, h, parts, given, &mut roles, lines)?;
+        voter_step(alloc, version, n, h, parts, given, &mut roles, lines)?;
     }
     Ok(roles)
 }
 
-/// What the text says of the two designs.
-#[tactic(auto, unfolding(crate::specs::Reading::cert_of_text))]
+/// The version of the text, and what it says of the two designs.
+#[tactic(auto, unfolding(crate::specs::Folding::fold_of_text))]
 pub fn draft_of_text(
     alloc: Global,
     bytes: &[u8],
     n: &FlatNet,
     h: &FlatNet,
-) -> Result<CertDraft, CertFault>
+) -> Result<(u8, CertDraft), CertFault>
     requires { length bytes.now ≤ 1073741824 }
-    ensures draft { Gives cert_of_draft result (cert_of_text n.now.net h.now.net bytes.now) }
+    ensures draft { Gives (λ read. cert_of_draft read.0 read.1) result (fold_of_text n.now.net h.now.net bytes.now) }
     ensures original { IsDesign n.now }
     ensures hardened { IsDesign h.now }
 {
     let original_inputs = n.input_count();
     let hardened_inputs = h.input_count();
     let mut lines = Lines::new(bytes);
-    first_line(&mut lines)?;
+    let version = first_line(&mut lines)?;
     let parts = parts_line(alloc, &mut lines)?;
     let depth = read_depths(alloc, parts, &mut lines)?;
     let nodes = read_nodes(alloc, n, h, parts, &mut lines)?;
-    let roles = read_roles(alloc, n, h, parts, &nodes.roles, &mut lines)?;
+    let roles = read_roles(alloc, version, n, h, parts, &nodes.roles, &mut lines)?;
     last_line(&mut lines)?;
-    Ok(CertDraft {
+    let draft = CertDraft {
         original_inputs,
         hardened_inputs,
         depth,
@@ -251,5 +253,6 @@ pub fn draft_of_text(
         copies: nodes.copies,
         labels: nodes.labels,
         roles,
-    })
+    };
+    Ok((version, draft))
 }

@@ -2,8 +2,8 @@
 
 use tmr_base::{CopyNo, NetId, PartId};
 
-/// What a hardened node is for: it is copy `copy` of an original node, or the voter of an original node
-/// for a partition, which gives copy `copy`.
+/// What a hardened node is for: it is copy `copy` of an original node, or the voter of an original net
+/// for a partition, which gives copy `copy`. In version 1 the net is a node too.
 #[derive(Clone, Copy, Debug, PartialEq, Eq, Drop)]
 pub enum Role {
     Copy {

@@ -1,4 +1,4 @@
-//! A certificate's text: `cert_text` says how it is spelled, `cert_of_text` how it is read.
+//! A certificate's text: `cert_text` says how it is spelled, `cert_of_text` what a text must be, and its first fault.
 ghost use Rattle.std.specs.Prelude.{◌≡◌, ◌≤◌, length, IfOk, Ok};
 ghost use Rattle.certificate.specs.Cert.{PlainCert, IsCert, Fits};
 ghost use Rattle.certificate.specs.Gives.{Gives};
@@ -34,11 +34,11 @@ pub fn read_cert(
     ensures found { IfOk result (λ k. bytes.now ≡ cert_text n.now.net h.now.net k) }
     // What is spelled so is read, unless memory runs out.
     ensures only { (k : PlainCert) → IsCert k → Fits n.now.net h.now.net k → bytes.now ≡ cert_text n.now.net h.now.net k → Gives (λ k. k) result (Ok k) }
-    // The certificate, or the first fault.
+    // The certificate that the lines spell, or the fault of the first line that is not as it must be.
     ensures exact { Gives (λ k. k) result (cert_of_text n.now.net h.now.net bytes.now) }
 {
     match draft_of_text(alloc, bytes, n, h) {
-        Ok(draft) => Ok(Certificate::make(draft)),
+        Ok((version, draft)) => Ok(Certificate::of_version(version, draft)),
         Err(fault) => Err(fault),
     }
 }

@@ -206,11 +206,12 @@ fn put_voters(
 }
 
 /// Puts the first two lines.
-fn put_head(alloc: Global, out: &mut Vec<u8>, parts: u32) -> Result<(), AllocError>
-    ensures { OnOk result (out.new.items ≡ (out.old.items ++ line_text (codes "tmr-cert" ∷ codes "1" ∷ [])) ++ line_text (codes "parts" ∷ decimal parts ∷ [])) }
+fn put_head(alloc: Global, out: &mut Vec<u8>, version: u8, parts: u32) -> Result<(), AllocError>
+    ensures { OnOk result (out.new.items ≡ (out.old.items ++ line_text (codes "tmr-cert" ∷ decimal version ∷ [])) ++ line_text (codes "parts" ∷ decimal parts ∷ [])) }
 {
+    let version = version.to_string(alloc)?;
     let parts = parts.to_string(alloc)?;
-    put_line(out, b"tmr-cert", &[b"1".as_slice()])?;
+    put_line(out, b"tmr-cert", &[version.as_bytes()])?;
     put_line(out, b"parts", &[parts.as_bytes()])?;
     Ok(())
 }
@@ -228,7 +229,7 @@ pub fn lines_of(
 {
     let parts = k.parts();
     let mut out = Vec::new(alloc);
-    put_head(alloc, &mut out, parts)?;
+    put_head(alloc, &mut out, k.version(), parts)?;
     put_parts(alloc, &mut out, k)?;
     put_nodes(alloc, &mut out, n, h, k)?;
     put_voters(alloc, &mut out, n, h, k)?;

@@ -26,13 +26,13 @@ module _ (n : Net) (parts : PlainParts) (cut : List (List Bool)) (valid : IsVali
   uncut_of_kept x y k = record {
     pin = k.place;
     reads = subst (ReadsInside n parts y k.place) k.is (read_from n parts y k.place (omega (arith, reads y, k.within)) (subst (λ z. z < length (inner_rows n parts)) (sym k.is) k.vertex));
-    uncut = k.uncut;
+    unvoted = k.uncut;
   }
 
   pub kept_of_uncut : (x y : ℕ) → ReadsUncut n parts cut x y → Kept (inner_rows n parts) cut x y
   kept_of_uncut x y u =
       let r = read_to n parts valid y u.pin x u.reads in
-      record { place = u.pin; within = omega (arith, reads y, r.1); uncut = u.uncut; is = r.2; vertex = r.3 }
+      record { place = u.pin; within = omega (arith, reads y, r.1); uncut = u.unvoted; is = r.2; vertex = r.3 }
 
 -- the rows of the search are a cut
 pub cut_meets : (n : Net) (parts : PlainParts) (order : List ℕ) (cut : List (List Bool)) → IsValid n → IsSearched (inner_rows n parts) order cut → CutMeets n parts cut

@@ -10,11 +10,15 @@ use Rattle.feedback_cut.specs.Inner.{node_pins, ReadsInside}
 abbrev pub is_cut : List (List Bool) → ℕ → ℕ → Bool
 is_cut cut y j = slice_index_or (row cut y) j false
 
--- node y reads node x, of its own partition, through a pin that is not cut
-pub record ReadsUncut (n : Net) (parts : PlainParts) (cut : List (List Bool)) (x y : ℕ) : Type 0 where
+-- node y reads node x, of its own partition, through a pin that is not voted; `voted y j` says that pin j of node y is
+pub record ReadsUnvoted (n : Net) (parts : PlainParts) (voted : ℕ → ℕ → Bool) (x y : ℕ) : Type 0 where
   pub pin : ℕ
   pub reads : ReadsInside n parts y pin x
-  pub uncut : is_cut cut y pin ≡ false
+  pub unvoted : voted y pin ≡ false
+
+-- the same, where the pins that are voted are the cut ones
+abbrev pub ReadsUncut : Net → PlainParts → List (List Bool) → ℕ → ℕ → Type 0
+ReadsUncut n parts cut = ReadsUnvoted n parts (is_cut cut)
 
 -- a list of nodes leads from x to y, in which each next one reads the one before through an uncut pin inside one partition
 abbrev pub LeadsUncut : Net → PlainParts → List (List Bool) → ℕ → ℕ → Type 0

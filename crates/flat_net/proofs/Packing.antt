@@ -53,7 +53,7 @@ names_with_all d keys e k = rw e (k ∙ ap (λ (zs : List (List ℕ)). zs ++ map
 
 -- ---- the packed design
 
-same_net : (m m' : List ℕ) (i i' : List (List ℕ)) (n n' : List Node) (o o' : List ℕ) (c c' : Option (Edge × List ℕ)) → m ≡ m' → i ≡ i' → n ≡ n' → o ≡ o' → c ≡ c' → ◌≡◌ {A = Net} (record { model = m; inputs = i; nodes = n; outputs = o; clock = c }) (record { model = m'; inputs = i'; nodes = n'; outputs = o'; clock = c' })
+pub same_net : (m m' : List ℕ) (i i' : List (List ℕ)) (n n' : List Node) (o o' : List ℕ) (c c' : Option (Edge × List ℕ)) → m ≡ m' → i ≡ i' → n ≡ n' → o ≡ o' → c ≡ c' → ◌≡◌ {A = Net} (record { model = m; inputs = i; nodes = n; outputs = o; clock = c }) (record { model = m'; inputs = i'; nodes = n'; outputs = o'; clock = c' })
 same_net m m' i i' n n' o o' c c' em ei en eo ec = λ k. record { model = em k; inputs = ei k; nodes = en k; outputs = eo k; clock = ec k }
 
 -- what the fields of a packed design are made of

@@ -16,7 +16,7 @@ use Rattle.flat_net.specs.Wired.{AreWires}
 use Rattle.flat_net.proofs.Firsts.{none_nil, none_append, first_after, first_more}
 use Rattle.flat_net.proofs.PackedLaws.{from_le_count}
 
-AreEnds-push : (from : ℕ) (bodies : List Body) (body : Body) (ends : List ℕ) (n m : ℕ) → AreEnds from bodies ends n → HasPins body n (n + m) → AreEnds from (bodies ++ body ∷ []) (ends ++ (n + m) ∷ []) (n + m)
+pub AreEnds-push : (from : ℕ) (bodies : List Body) (body : Body) (ends : List ℕ) (n m : ℕ) → AreEnds from bodies ends n → HasPins body n (n + m) → AreEnds from (bodies ++ body ∷ []) (ends ++ (n + m) ∷ []) (n + m)
 AreEnds-push from [] body [] n m a has = (omega arith, subst (λ k. HasPins body k (n + m)) (sym a) has, refl)
 AreEnds-push from [] body (end ∷ ends) n m a has = absurd a
 AreEnds-push from (b ∷ bodies) body [] n m a has = absurd a
@@ -30,7 +30,7 @@ range-last : (items row : List ℕ) → slice_range (items ++ row) (length items
 range-last items row = rw (drop-append_seam items row) (rw (let e : (length items + length row) - length items ≡ length row = omega arith in e) (take-length row))
 
 -- one node more
-nodes_from-push : (from : ℕ) (names : List (List ℕ)) (name : List ℕ) (bodies : List Body) (body : Body) (ends pins row : List ℕ) → length names ≡ length bodies → AreEnds from bodies ends (length pins) → nodes_from from (names ++ name ∷ []) (bodies ++ body ∷ []) (ends ++ (length pins + length row) ∷ []) (pins ++ row) ≡ nodes_from from names bodies ends pins ++ node_from name body row ∷ []
+pub nodes_from-push : (from : ℕ) (names : List (List ℕ)) (name : List ℕ) (bodies : List Body) (body : Body) (ends pins row : List ℕ) → length names ≡ length bodies → AreEnds from bodies ends (length pins) → nodes_from from (names ++ name ∷ []) (bodies ++ body ∷ []) (ends ++ (length pins + length row) ∷ []) (pins ++ row) ≡ nodes_from from names bodies ends pins ++ node_from name body row ∷ []
 nodes_from-push from [] name [] body [] pins row n a = rw (a, range-last pins row) refl
 nodes_from-push from (x ∷ names) name [] body ends pins row n a = absurd (omega arith)
 nodes_from-push from [] name [] body (end ∷ ends) pins row n a = absurd a
@@ -51,7 +51,7 @@ register_is : (keys : List (List ℕ)) (e : Element) → is_register (node_of_el
 register_is keys (TableOf pins out cover) = refl
 register_is keys (LatchOf pin out control init) = refl
 
-count_push : (xs : List Node) (x : Node) → count_by is_register (xs ++ x ∷ []) ≡ count_by is_register xs + (if is_register x then 1 else 0)
+pub count_push : (xs : List Node) (x : Node) → count_by is_register (xs ++ x ∷ []) ≡ count_by is_register xs + (if is_register x then 1 else 0)
 count_push xs x = sum_by-append (λ y. if is_register y then 1 else 0) xs (x ∷ []) ∙ ap (λ k. count_by is_register xs + k) (zero-add (if is_register x then 1 else 0))
 
 pub wires_none : (keys : List (List ℕ)) → AreWires keys [] [] [] 0

@@ -2,7 +2,8 @@
 //!
 //! The layers above may rely on this: a `FlatNet` is a record of lists (model, inputs, nodes, outputs,
 //! clock) that is valid, and beside it an order in which its nodes can be evaluated. It is built from a
-//! `Draft`, which has the same by name; where the draft is no design, its first fault is named.
+//! `Draft`, which has the same by name; where the draft is no design, its first fault is named. A
+//! `FreeNet` is a design with a mark at each register whose value in cycle 0 is left free.
 #![tactic(auto)]
 
 mod building;
@@ -10,6 +11,7 @@ mod clocking;
 mod draft;
 mod driving;
 mod fault;
+mod free;
 mod kind;
 mod net;
 mod nodes;
@@ -20,5 +22,7 @@ mod wiring;
 pub use building::build;
 pub use draft::Draft;
 pub use fault::NetFault;
+pub use free::FreeNet;
 pub use kind::Kind;
 pub use net::FlatNet;
+pub use nodes::{Body, PackedNodes, no_nodes, push_register, push_table};

@@ -6,7 +6,7 @@ ghost use Rattle.flat_net.specs.Kinds.{kind_of};
 ghost use Rattle.flat_net.specs.Nodes.{number_of};
 
 use crate::Kind;
-use crate::nodes::id_at;
+use crate::nodes::{PackedNodes, id_at};
 use crate::wiring::Wiring;
 use indexmap::IndexSet;
 use std::marker::Model;
@@ -33,6 +33,9 @@ impl Model for FlatNet {
 }
 
 impl FlatNet {
+    ghost use Rattle.std.specs.Prelude.{◌≡◌};
+    ghost use Rattle.flat_net.specs.View.{net_of, IsWiring};
+
     /// A design with an order of its nodes.
     pub(crate) fn new(wiring: Wiring, order: Vec<NetId>) -> FlatNet
         requires { IsOrder wiring (map number_of order.items) }
@@ -40,6 +43,27 @@ impl FlatNet {
     {
         let _inputs = wiring.input_count();
         FlatNet { wiring, order }
+    }
+
+    /// A design of net numbers: the names of all nets in order, of which the first are the inputs'; the nodes; the
+    /// outputs; the clock; and an order of the nodes in which each table stands behind each table that it reads.
+    pub fn make(
+        model: Name,
+        names: IndexSet<Name>,
+        inputs: u32,
+        nodes: PackedNodes,
+        outputs: Vec<NetId>,
+        clock: Option<(Edge, Name)>,
+        order: Vec<NetId>,
+    ) -> FlatNet
+        requires wiring { IsWiring (record { model = model; names = names; inputs = inputs; nodes = nodes; outputs = outputs; clock = clock }) }
+        requires order { IsOrder (net_of (record { model = model; names = names; inputs = inputs; nodes = nodes; outputs = outputs; clock = clock })) (map number_of order.items) }
+        ensures { result ≡ record { net = net_of (record { model = model; names = names; inputs = inputs; nodes = nodes; outputs = outputs; clock = clock }); order = map number_of order.items } }
+    {
+        FlatNet::new(
+            Wiring::new(model, names, inputs, nodes, outputs, clock),
+            order,
+        )
     }
 }
 

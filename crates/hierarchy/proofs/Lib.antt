@@ -43,3 +43,4 @@ pub mod OrderOrLoop
 pub mod OneDraftFault
 pub mod OneAnswer
 pub mod Sizing
+pub mod Marks

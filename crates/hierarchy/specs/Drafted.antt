@@ -34,3 +34,13 @@ is_assumed (Instance model bindings) = false
 -- how many registers have an initial value that is 2, 3 or absent
 unfoldable pub assumed : PlainModel → ℕ
 assumed m = count_by is_assumed m.elements
+
+-- the mark of a drafted element: whether it is a register whose initial value is 2, 3 or absent
+abbrev pub open_mark : PlainElement → List Bool
+open_mark (Table pins out cover) = false ∷ []
+open_mark (Register pin out control init) = is_open init ∷ []
+open_mark (Instance model bindings) = []
+
+-- the marks of all drafted elements, one for each
+unfoldable pub open_marks : PlainModel → List Bool
+open_marks m = flat_map open_mark m.elements

@@ -1,5 +1,5 @@
 -- The flat design of a library, and why it has none.
-use Rattle.std.specs.Prelude.{◌≡◌, ◌≢◌, ◌≤◌, ◌<◌, ℕ, List, Some, None, Vec}
+use Rattle.std.specs.Prelude.{◌≡◌, ◌≢◌, ◌≤◌, ◌<◌, ℕ, Bool, List, Some, None, Vec, count_by}
 use Rattle.std.specs.declared.alloc.Global.{Global}
 use Rattle.blif_text.specs.Models.{PlainModel}
 use Rattle.flat_net.specs.Net.{Net}
@@ -15,7 +15,7 @@ use Rattle.hierarchy.specs.Found.{IsOrder}
 use Rattle.hierarchy.specs.Flat.{flat_model}
 use Rattle.hierarchy.specs.FlatText.{text_length}
 use Rattle.hierarchy.specs.Clash.{name_clash}
-use Rattle.hierarchy.specs.Drafted.{draft_of, assumed}
+use Rattle.hierarchy.specs.Drafted.{draft_of, assumed, open_marks}
 
 -- no statement of a reached model has a fault, and the reached models can be listed so that each stands after those that it places
 pub record IsSound (library : List PlainModel) : Type 0 where
@@ -87,3 +87,8 @@ pub record IsFlat (library : List PlainModel) (limit : ℕ) (design : Net) (open
   pub faultless : IsFaultless (draft_of (flat_model library))
   pub design_is : design ≡ net_of_draft (draft_of (flat_model library))
   pub open_are : open_values ≡ assumed (flat_model library)
+
+-- the same, where the registers whose initial values are assumed are marked
+pub record IsFreeFlat (library : List PlainModel) (limit : ℕ) (design : Net) (free : List Bool) : Type 0 where
+  pub flat : IsFlat library limit design (count_by (λ bit. bit) free)
+  pub marks_are : free ≡ open_marks (flat_model library)

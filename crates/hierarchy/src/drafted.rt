@@ -1,9 +1,9 @@
 //! The draft of a model that places no models.
-ghost use Rattle.std.specs.Prelude.{◌≡◌, ◌++◌, ◌<◌, ◌^◌, length, map, count_by, All, IfOk, OnOk};
+ghost use Rattle.std.specs.Prelude.{◌≡◌, ◌++◌, map, All, IfOk, OnOk};
 ghost use Rattle.std.specs.List.{flat_map};
 ghost use Rattle.blif_text.specs.Library.{FitsPins};
 ghost use Rattle.blif_text.specs.Views.{plain_model, plain_element};
-ghost use Rattle.hierarchy.specs.Drafted.{draft_of as draft_of_model, drafted, starts_with, is_assumed, is_open as is_open_init, assumed as assumed_in};
+ghost use Rattle.hierarchy.specs.Drafted.{draft_of as draft_of_model, drafted, starts_with, is_open as is_open_init, open_mark, open_marks};
 
 use blif_text::{BlifModel, Element, Init};
 use flat_net::Draft;
@@ -117,27 +117,27 @@ pub fn draft_of(alloc: Global, model: &BlifModel) -> Result<Draft, OutOfMemory>
     Ok(draft)
 }
 
-/// The element is a latch whose value in cycle 0 is left open.
-fn is_assumed_element(element: &Element) -> bool
-    ensures { result ≡ is_assumed (plain_element element.now) }
+/// Adds the element's mark behind the others: whether it is a latch whose value in cycle 0 is left open.
+fn push_mark(marks: &mut Vec<bool>, element: &Element) -> Result<(), OutOfMemory>
+    ensures { OnOk result (marks.new.items ≡ marks.old.items ++ open_mark (plain_element element.now)) }
 {
     match element {
-        Element::Latch { init, .. } => is_left_open(*init),
-        Element::Table { .. } | Element::Instance { .. } => false,
+        Element::Table { .. } => marks.push(false)?,
+        Element::Latch { init, .. } => marks.push(is_left_open(*init))?,
+        Element::Instance { .. } => {}
     }
+    Ok(())
 }
 
-/// How many latches leave their value in cycle 0 open. It is read as 0.
-#[tactic(auto, unfolding(crate::specs::Drafted::assumed))]
-pub fn assumed(model: &BlifModel) -> u32
-    requires { length (plain_model model.now).elements < 2 ^ 32 }
-    ensures { result ≡ assumed_in (plain_model model.now) }
+/// For each element of the draft, whether it is a latch that leaves its value in cycle 0 open. It is read
+/// as 0.
+#[tactic(auto, unfolding(crate::specs::Drafted::open_marks))]
+pub fn open_marks(alloc: Global, model: &BlifModel) -> Result<Vec<bool>, OutOfMemory>
+    ensures { IfOk result (λ marks. marks.items ≡ open_marks (plain_model model.now)) }
 {
-    let mut count = 0;
+    let mut marks = Vec::new(alloc);
     for element in &model.elements {
-        if is_assumed_element(element) {
-            count += 1;
-        }
+        push_mark(&mut marks, element)?;
     }
-    count
+    Ok(marks)
 }

@@ -1,5 +1,5 @@
 //! The flat design of a library.
-ghost use Rattle.std.specs.Prelude.{◌≡◌, ◌≢◌, ◌≤◌, ◌<◌, ◌+◌, ◌*◌, ◌⊎◌, ℕ, map, length, All, IfOk, OnOk, IfErr, IsErrAnd, IfSome, IsSome, MatchResult, None};
+ghost use Rattle.std.specs.Prelude.{◌≡◌, ◌≢◌, ◌≤◌, ◌<◌, ◌+◌, ◌*◌, ◌⊎◌, ℕ, Bool, List, map, length, All, count_by, IfOk, OnOk, IfErr, IsErrAnd, IfSome, IsSome, MatchResult, None};
 ghost use Rattle.blif_text.specs.Library.{IsLibrary, FitsPins, Differ};
 ghost use Rattle.blif_text.specs.Views.{plain_model, plain_element};
 ghost use Rattle.hierarchy.specs.Graph.{graph, names_of};
@@ -12,7 +12,7 @@ ghost use Rattle.hierarchy.specs.Alone.{is_placing, places_nothing};
 ghost use Rattle.hierarchy.specs.Walk.{IsReady};
 ghost use Rattle.hierarchy.specs.Counts.{ArePlaces};
 ghost use Rattle.hierarchy.specs.Naming.{IsClash};
-ghost use Rattle.hierarchy.specs.Flatten.{IsSound, IsSoundFault, IsTextFault, IsFlatFault, IsSameFault, IsFlat, Fits, flat_fault_of};
+ghost use Rattle.hierarchy.specs.Flatten.{IsSound, IsSoundFault, IsTextFault, IsFlatFault, IsSameFault, IsFlat, IsFreeFlat, Fits, flat_fault_of};
 ghost use Rattle.hierarchy.specs.Sizes.{row_total};
 ghost use Rattle.hierarchy.specs.declared.flat_fault.FlatFault.{FlatFault};
 ghost use Rattle.hierarchy.specs.declared.flat_fault.FlatFault.TheVariants.{Memory};
@@ -30,9 +30,9 @@ use crate::links::{Row, all_links};
 use crate::named_model::named_model;
 use crate::naming::NamingFault;
 use crate::placed_text::fits;
-use crate::{PlacingFault, assumed, draft_of};
+use crate::{PlacingFault, draft_of, open_marks};
 use blif_text::{BlifModel, Element, Library};
-use flat_net::{FlatNet, NetFault, build};
+use flat_net::{FlatNet, FreeNet, NetFault, build};
 use indexmap::IndexSet;
 use std::alloc::Global;
 use tmr_base::{Name, OutOfMemory};
@@ -273,27 +273,27 @@ fn design_of(alloc: Global, flat: &BlifModel) -> Result<FlatNet, NetFault>
     Ok(net)
 }
 
-/// The design of a library's flat model, with its open initial values.
+/// The design of a library's flat model, with a mark at each open initial value.
 fn flat_design(
     alloc: Global,
     lib: &Library,
     flat: &BlifModel,
     limit: u64,
-) -> Result<Flat, FlatFault>
+) -> Result<FreeNet, FlatFault>
     requires model { plain_model flat.now ≡ flat_model lib.now }
     requires kept { IsLibrary lib.now }
     requires sound { IsSound lib.now }
     requires fits { Fits lib.now limit }
     requires clear { name_clash lib.now ≡ None }
     requires limit { limit ≤ 1073741824 }
-    ensures ok { IfOk result (λ flat. IsFlat lib.now limit flat.net.net flat.assumed) }
+    ensures ok { IfOk result (λ flat. IsFreeFlat lib.now limit flat.design.net flat.free) }
     ensures fault { IfErr result (λ fault. IsFlatFault lib.now limit fault) }
-    ensures nets { IfOk result (λ flat. 2 * (net_count flat.net.net + pin_total flat.net.net) ≤ limit) }
-    ensures rows { IfOk result (λ flat. row_total flat.net.net ≤ limit) }
+    ensures nets { IfOk result (λ flat. 2 * (net_count flat.design.net + pin_total flat.design.net) ≤ limit) }
+    ensures rows { IfOk result (λ flat. row_total flat.design.net ≤ limit) }
 {
-    let assumed = assumed(flat);
+    let marks = open_marks(alloc, flat)?;
     match design_of(alloc, flat) {
-        Ok(net) => Ok(Flat { net, assumed }),
+        Ok(net) => Ok(FreeNet::make(net, marks)),
         Err(NetFault::Memory) => Err(FlatFault::Memory),
         Err(fault) => Err(FlatFault::Net(fault)),
     }
@@ -301,12 +301,12 @@ fn flat_design(
 
 /// The flat design of the library, or its first fault. A main model that places no models is its own flat model,
 /// and nothing of it is copied but into the design.
-fn flat_of(alloc: Global, lib: &Library, limit: u64) -> Result<Flat, FlatFault>
+fn flat_of(alloc: Global, lib: &Library, limit: u64) -> Result<FreeNet, FlatFault>
     requires { limit ≤ 1073741824 }
-    ensures ok { IfOk result (λ flat. IsFlat lib.now limit flat.net.net flat.assumed) }
+    ensures ok { IfOk result (λ flat. IsFreeFlat lib.now limit flat.design.net flat.free) }
     ensures fault { IfErr result (λ fault. IsFlatFault lib.now limit fault) }
-    ensures nets { IfOk result (λ flat. 2 * (net_count flat.net.net + pin_total flat.net.net) ≤ limit) }
-    ensures rows { IfOk result (λ flat. row_total flat.net.net ≤ limit) }
+    ensures nets { IfOk result (λ flat. 2 * (net_count flat.design.net + pin_total flat.design.net) ≤ limit) }
+    ensures rows { IfOk result (λ flat. row_total flat.design.net ≤ limit) }
 {
     let models = lib.models();
     let found = sound_order(alloc, models)?;
@@ -318,13 +318,54 @@ fn flat_of(alloc: Global, lib: &Library, limit: u64) -> Result<Flat, FlatFault>
     flat_design(alloc, lib, &flat, limit)
 }
 
-/// The flat design of the library, where its flat text has at most `limit` bytes, and the number of its
-/// registers whose initial value is left open.
+/// The flat design of the library, where its flat text has at most `limit` bytes, with a mark at each
+/// register whose initial value is left open.
 ///
 /// Where the library has a flat design, that design is the answer. Where it has a fault, the first one is,
 /// of which a loop may be told by any list that is one. It never has both. `Memory` may come in place of
 /// either. Nets and pins of a design are together at most half of `limit`, and the rows of all covers,
 /// each of the cover's width plus 1, at most `limit`. The library is not changed.
+pub fn flatten_free(alloc: Global, lib: &Library, limit: u64) -> Result<FreeNet, FlatFault>
+    requires { limit ≤ 1073741824 }
+    ensures ok { IfOk result (λ flat. IsFreeFlat lib.now limit flat.design.net flat.free) }
+    ensures ok_only { (n : Net) (free : List Bool) → IsFreeFlat lib.now limit n free
+        → MatchResult result (λ flat. (flat.design.net ≡ n) × (flat.free ≡ free)) (λ fault. fault ≡ Memory) }
+    ensures fault { IfErr result (λ fault. IsFlatFault lib.now limit fault) }
+    ensures fault_only { (fault : FlatFault) → fault ≢ Memory → IsFlatFault lib.now limit fault
+        → IsErrAnd result (λ answered. (answered ≡ Memory) ⊎ IsSameFault answered fault) }
+    ensures nets { IfOk result (λ flat. 2 * (net_count flat.design.net + pin_total flat.design.net) ≤ limit) }
+    ensures rows { IfOk result (λ flat. row_total flat.design.net ≤ limit) }
+{
+    flat_of(alloc, lib, limit)
+}
+
+/// The design alone, and how many marks it has.
+fn unmarked(flat: FreeNet) -> Flat
+    ensures net { result.net ≡ flat.design }
+    ensures assumed { result.assumed ≡ count_by (λ bit. bit) flat.free }
+{
+    let assumed = flat.free_count();
+    Flat {
+        net: flat.into_net(),
+        assumed,
+    }
+}
+
+/// The flat design, and how many of its registers have an open initial value.
+fn flat_counted(alloc: Global, lib: &Library, limit: u64) -> Result<Flat, FlatFault>
+    requires { limit ≤ 1073741824 }
+    ensures ok { IfOk result (λ flat. IsFlat lib.now limit flat.net.net flat.assumed) }
+    ensures fault { IfErr result (λ fault. IsFlatFault lib.now limit fault) }
+    ensures nets { IfOk result (λ flat. 2 * (net_count flat.net.net + pin_total flat.net.net) ≤ limit) }
+    ensures rows { IfOk result (λ flat. row_total flat.net.net ≤ limit) }
+{
+    match flat_of(alloc, lib, limit) {
+        Ok(flat) => Ok(unmarked(flat)),
+        Err(fault) => Err(fault),
+    }
+}
+
+/// The same design, and the number of its registers whose initial value is left open. It is read as 0.
 pub fn flatten(alloc: Global, lib: &Library, limit: u64) -> Result<Flat, FlatFault>
     requires { limit ≤ 1073741824 }
     ensures ok { IfOk result (λ flat. IsFlat lib.now limit flat.net.net flat.assumed) }
@@ -336,5 +377,5 @@ pub fn flatten(alloc: Global, lib: &Library, limit: u64) -> Result<Flat, FlatFau
     ensures nets { IfOk result (λ flat. 2 * (net_count flat.net.net + pin_total flat.net.net) ≤ limit) }
     ensures rows { IfOk result (λ flat. row_total flat.net.net ≤ limit) }
 {
-    flat_of(alloc, lib, limit)
+    flat_counted(alloc, lib, limit)
 }

@@ -32,10 +32,11 @@ mod reach;
 mod resolve;
 mod walk;
 
-pub use drafted::{assumed, draft_of};
+pub use drafted::draft_of;
+use drafted::open_marks;
 use fault::PlacingFault;
 pub use flat_fault::FlatFault;
 pub use flat_text::text_length;
-pub use flattening::{Flat, flatten};
+pub use flattening::{Flat, flatten, flatten_free};
 use graph::Graph;
 use ports::Ports;

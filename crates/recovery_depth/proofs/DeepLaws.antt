@@ -13,8 +13,9 @@ use Rattle.flat_net.proofs.Slots.{slot_within, slot_there}
 use Rattle.certificate.specs.declared.role.Role.{Role}
 use Rattle.certificate.specs.declared.role.Role.TheVariants.{Copy, Voter}
 use Rattle.certificate.specs.Cert.{PlainCert, IsCert, role_of, role_count, part_of, label_of, depth_of, Fits}
+use Rattle.flat_net.specs.Free.{node_bit}
 use Rattle.certificate.specs.Reads.{Reads, RoleReads}
-use Rattle.certificate.specs.Rules.{Corresponds, CopiesTable, CopiesRegister, PinsRead}
+use Rattle.certificate.specs.Rules.{AllHold, CopiesTable, CopiesRegister, PinsRead}
 use Rattle.feedback_cut.specs.Rows.{Follows}
 use Rattle.feedback_cut.specs.Lists.{Leads, alone, longer}
 use Rattle.feedback_cut.proofs.Places.{leads_map}
@@ -31,7 +32,7 @@ use Rattle.recovery_depth.proofs.WalkedLaws.{length_walked, walked_walk}
 use Rattle.recovery_depth.proofs.BeforeLaws.{IsLastOf, last_is}
 use Rattle.recovery_depth.proofs.CopyLaws.{copied_long, node_with_role, reads_of_follows, follows_of_reads, bit_of, own_count, label_at, label_grows, label_own}
 
-module _ (n h : Net) (k : PlainCert) (fits : Fits n h k) (valid_n : IsValid n) (valid_h : IsValid h) (corresponds : Corresponds n h k) where
+module _ (n h : Net) (k : PlainCert) (fits : Fits n h k) (valid_n : IsValid n) (valid_h : IsValid h) (corresponds : AllHold n [] h [] k) where
   -- what reads for partition p and copy c, and is a copy, is one there
   copy_there : (q f x p : ℕ) (c : CopyNo) → Reads k q x p c → q ≡ length h.inputs + f → is_copy (role_at h k f) ≡ true → IsCopyIn h k f p c
   copy_there q f x p c reads e t = go (role_at h k f) refl t (subst (λ (z : ℕ). RoleReads k (role_of k z) z x p c) e reads)
@@ -50,7 +51,13 @@ module _ (n h : Net) (k : PlainCert) (fits : Fits n h k) (valid_n : IsValid n) (
       tables : CopiesTable k (node_of n i.original) (node_at h g) p c
       tables = (corresponds 3 g).tables refl i.original c p i.role i.part
 
-      registers : CopiesRegister k (node_of n i.original) (node_at h g) p c
+      free : Bool
+      free = node_bit (length n.inputs) [] i.original
+
+      copy_free : Bool
+      copy_free = node_bit (length h.inputs) [] (length h.inputs + g)
+
+      registers : CopiesRegister k (node_of n i.original) free (node_at h g) copy_free p c
       registers = (corresponds 4 g).registers refl i.original c p i.role i.part
 
       go : (node : Node) × (node_of n i.original ≡ Some node) → IsCopyIn h k f p c
@@ -63,10 +70,10 @@ module _ (n h : Net) (k : PlainCert) (fits : Fits n h k) (valid_n : IsValid n) (
               let long : length hpins ≡ length pins = (valid_h.wired (length h.inputs + g) _ d).1 ∙ (ap (λ (w : PlainCover). w.width) rule.0 ∙ sym (valid_n.wired i.original _ e).1) in
               copy_there (get_or hpins r.pin 0) f (get_or pins r.pin 0) p c (rule.1 r.pin (omega (arith, long, l))) is r.read
           by (Table name cover pins) e (Some (Register hname hinit hpin)) d l is = absurd (subst (λ o. CopiesTable k o (Some (Register hname hinit hpin)) p c) e (subst (λ o. CopiesTable k (node_of n i.original) o p c) d tables))
-          by (Register name init pin) e (Some (Table hname hcover hpins)) d l is = absurd (subst (λ o. CopiesRegister k o (Some (Table hname hcover hpins)) p c) e (subst (λ o. CopiesRegister k (node_of n i.original) o p c) d registers))
+          by (Register name init pin) e (Some (Table hname hcover hpins)) d l is = absurd (subst (λ o. CopiesRegister k o free (Some (Table hname hcover hpins)) copy_free p c) e (subst (λ o. CopiesRegister k (node_of n i.original) free o copy_free p c) d registers))
           by (Register name init pin) e (Some (Register hname hinit hpin)) d l is =
-              let rule : (hinit ≡ init) × Reads k hpin pin p c = subst (λ o. CopiesRegister k o (Some (Register hname hinit hpin)) p c) e (subst (λ o. CopiesRegister k (node_of n i.original) o p c) d registers) in
-              one r.pin l is rule.1
+              let rule : (hinit ≡ init) × (copy_free ≡ free) × Reads k hpin pin p c = subst (λ o. CopiesRegister k o free (Some (Register hname hinit hpin)) copy_free p c) e (subst (λ o. CopiesRegister k (node_of n i.original) free o copy_free p c) d registers) in
+              one r.pin l is rule.2
             where
               one : (j : ℕ) → j < length (hpin ∷ []) → get_or (hpin ∷ []) j 0 ≡ length h.inputs + f → Reads k hpin pin p c → IsCopyIn h k f p c
               one zero l is reads = copy_there hpin f pin p c reads is r.read
@@ -136,7 +143,7 @@ pub record IsFound (h : Net) (k : PlainCert) (bits : List Bool) (reaches before 
   pub none_is : none ≡ length (copied_rows h k)
   pub originals_are : originals ≡ originals_of h k
 
-module _ (n h : Net) (k : PlainCert) (fits : Fits n h k) (valid_n : IsValid n) (valid_h : IsValid h) (corresponds : Corresponds n h k) (cert : IsCert k) (bits : List Bool) (reaches before depths tops originals : List ℕ) (none : ℕ) (found : IsFound h k bits reaches before depths tops originals none) where
+module _ (n h : Net) (k : PlainCert) (fits : Fits n h k) (valid_n : IsValid n) (valid_h : IsValid h) (corresponds : AllHold n [] h [] k) (cert : IsCert k) (bits : List Bool) (reaches before depths tops originals : List ℕ) (none : ℕ) (found : IsFound h k bits reaches before depths tops originals none) where
   most : (p : ℕ) → p < length k.depth → (g : ℕ) (c : CopyNo) (seen : List ℕ) → IsCopyIn h k g p c → Walk (ReadsCopy h k) (own_original h k) g seen → length seen ≤ number_at depths p
   most p pl g c seen i w = go (walk_map (ReadsCopy h k) (Follows (copied_rows h k)) (own_original h k) (marked bits) (follows_of_reads n h k fits) (λ z. sym (own_count n h k fits bits found.bits_are z)) g seen w)
     where

@@ -1,5 +1,7 @@
 pub mod Ordered
 pub mod ReachLaws
+pub mod SettledLaws
+pub mod ExtraLaws
 pub mod GreatestLaws
 pub mod UncutLaws
 pub mod WalkLaws
@@ -9,3 +11,4 @@ pub mod CopyLaws
 pub mod CopyOrder
 pub mod DeepLaws
 pub mod AdmitLaws
+pub mod Alike

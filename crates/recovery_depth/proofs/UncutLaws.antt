@@ -1,5 +1,5 @@
 -- What is read through uncut pins, as rows.
-use Rattle.std.proofs.Common.{◌≡◌, ℕ, ◌+◌, ◌<◌, ◌≤◌, ◌⊎◌, Bool, true, false, List, [], ◌∷◌, length, get_or, map, refl, sym, ◌∙◌, ap, inl, inr, arith}
+use Rattle.std.proofs.Common.{◌≡◌, ℕ, ◌+◌, ◌<◌, ◌≤◌, ◌⊎◌, Bool, true, false, List, [], ◌∷◌, length, get_or, map, refl, sym, ◌∙◌, ap, subst, inl, inr, arith}
 use Rattle.std.specs.Prelude.{cond, Option, Some, None}
 use Rattle.std.specs.List.{range_with_len}
 use Rattle.std.proofs.lemmas.Bool.{cases_lt}
@@ -10,11 +10,11 @@ use Rattle.flat_net.specs.Net.{Net, Node, node_of, IsValid, pins_at}
 use Rattle.flat_net.proofs.Slots.{slot_there, slot_within}
 use Rattle.flat_net.proofs.Ranges.{pins_few}
 use Rattle.feedback_cut.specs.Rows.{row}
-use Rattle.feedback_cut.specs.Inner.{inner_rows}
+use Rattle.feedback_cut.specs.Inner.{ReadsInside, inner_rows}
 use Rattle.feedback_cut.specs.Cut.{is_cut, ReadsUncut, CutMeets}
 use Rattle.feedback_cut.specs.Search.{Kept}
 use Rattle.feedback_cut.proofs.Places.{leads_map}
-use Rattle.feedback_cut.proofs.InnerLaws.{inner_long, inner_pins}
+use Rattle.feedback_cut.proofs.InnerLaws.{inner_long, inner_pins, read_from, read_to}
 use Rattle.feedback_cut.proofs.CutLaws.{uncut_of_kept, kept_of_uncut}
 use Rattle.feedback_cut.specs.Rows.{Follows}
 use Rattle.recovery_depth.specs.Walks.{HasNoLoop, IsReach, IsReachIn, marked, is_marked}
@@ -29,7 +29,7 @@ module _ (rows : List (List ℕ)) (cut : List (List Bool)) where
   uncut_at : (y : ℕ) → y < length rows → row (uncut_rows rows cut) y ≡ uncut_row rows cut y
   uncut_at y l = get_or-map-range_with_len (uncut_row rows cut) 0 (length rows) y y [] l (omega arith)
 
-  uncut_places : (y : ℕ) → y < length rows → length (row (uncut_rows rows cut) y) ≡ length (row rows y)
+  pub uncut_places : (y : ℕ) → y < length rows → length (row (uncut_rows rows cut) y) ≡ length (row rows y)
   uncut_places y l = ap length (uncut_at y l) ∙ length-map-range_with_len (uncut_entry rows cut y) 0 (length (row rows y))
 
   uncut_read : (y place : ℕ) → y < length rows → place < length (row rows y) → get_or (row (uncut_rows rows cut) y) place 0 ≡ uncut_entry rows cut y place
@@ -40,6 +40,18 @@ module _ (rows : List (List ℕ)) (cut : List (List Bool)) where
 
   entry_kept : (y place : ℕ) → is_cut cut y place ≡ false → uncut_entry rows cut y place ≡ get_or (row rows y) place 0
   entry_kept y place e = ap (λ b. cond b (length rows) (get_or (row rows y) place 0)) e
+
+  -- what a place names is what was there, uncut
+  pub left_at : (y place : ℕ) → y < length rows → place < length (row rows y) → get_or (row (uncut_rows rows cut) y) place 0 < length rows → (is_cut cut y place ≡ false) × (get_or (row (uncut_rows rows cut) y) place 0 ≡ get_or (row rows y) place 0)
+  left_at y place l m vertex = go (is_cut cut y place) refl
+    where
+      go : (b : Bool) → is_cut cut y place ≡ b → (is_cut cut y place ≡ false) × (get_or (row (uncut_rows rows cut) y) place 0 ≡ get_or (row rows y) place 0)
+      go true e = absurd (omega (arith, uncut_read y place l m, entry_cut y place e, vertex))
+      go false e = (e, uncut_read y place l m ∙ entry_kept y place e)
+
+  -- and what was there uncut is there still
+  pub at_left : (y place : ℕ) → y < length rows → place < length (row rows y) → is_cut cut y place ≡ false → get_or (row (uncut_rows rows cut) y) place 0 ≡ get_or (row rows y) place 0
+  at_left y place l m e = uncut_read y place l m ∙ entry_kept y place e
 
   -- one of the vertices, where a row has something
   row_vertex : (y place : ℕ) → place < length (row rows y) → y < length rows
@@ -91,10 +103,10 @@ module _ (n : Net) (parts : PlainParts) (cut : List (List Bool)) (valid : IsVali
       go (inl l) = meets.pins y l ∙ sym (inner_pins n parts y l)
       go (inr l) = ap length (get_or_past cut y [] (omega (arith, meets.nodes, l))) ∙ sym (ap length (get_or_past (inner_rows n parts) y [] (omega (arith, inner_long n parts, l))))
 
-  uncut_of_follows : (x y : ℕ) → Follows (uncut_rows (inner_rows n parts) cut) x y → ReadsUncut n parts cut x y
+  pub uncut_of_follows : (x y : ℕ) → Follows (uncut_rows (inner_rows n parts) cut) x y → ReadsUncut n parts cut x y
   uncut_of_follows x y f = uncut_of_kept n parts cut valid shape x y (kept_of_follows (inner_rows n parts) cut shape x y f)
 
-  follows_of_uncut : (x y : ℕ) → ReadsUncut n parts cut x y → Follows (uncut_rows (inner_rows n parts) cut) x y
+  pub follows_of_uncut : (x y : ℕ) → ReadsUncut n parts cut x y → Follows (uncut_rows (inner_rows n parts) cut) x y
   follows_of_uncut x y u = follows_of_kept (inner_rows n parts) cut shape x y (kept_of_uncut n parts cut valid shape x y u)
 
   pub no_loop : HasNoLoop (uncut_rows (inner_rows n parts) cut)
@@ -104,12 +116,34 @@ module _ (n : Net) (parts : PlainParts) (cut : List (List Bool)) (valid : IsVali
   rest_long = uncut_long (inner_rows n parts) cut ∙ inner_long n parts
 
   -- the bits of registers
-  own_count : (bits : List Bool) → bits ≡ map (is_register_at n) (range_with_len 0 (length n.nodes)) → (x : ℕ) → length (own_register n x) ≡ length (marked bits x)
-  own_count bits e x = ap (λ b. length (cond b (x ∷ []) [])) (go (cases_lt x (length n.nodes)))
+  pub register_bit : (bits : List Bool) → bits ≡ map (is_register_at n) (range_with_len 0 (length n.nodes)) → (x : ℕ) → is_register_at n x ≡ is_marked bits x
+  register_bit bits e x = go (cases_lt x (length n.nodes))
     where
       go : (x < length n.nodes) ⊎ (length n.nodes ≤ x) → is_register_at n x ≡ is_marked bits x
       go (inl l) = sym (ap (λ b. get_or b x false) e ∙ get_or-map-range_with_len (is_register_at n) 0 (length n.nodes) x x false l (omega arith))
       go (inr l) = past n x l ∙ sym (get_or_past bits x false (omega (arith, ap length e, length-map-range_with_len (is_register_at n) 0 (length n.nodes), l)))
+
+  pub own_count : (bits : List Bool) → bits ≡ map (is_register_at n) (range_with_len 0 (length n.nodes)) → (x : ℕ) → length (own_register n x) ≡ length (marked bits x)
+  own_count bits e x = ap (λ b. length (cond b (x ∷ []) [])) (register_bit bits e x)
+
+  -- what a place of the rest names is read inside the partition, through an uncut pin
+  pub reads_place : (y j : ℕ) → j < length (row (uncut_rows (inner_rows n parts) cut) y) → get_or (row (uncut_rows (inner_rows n parts) cut) y) j 0 < length n.nodes → (y < length n.nodes) × (is_cut cut y j ≡ false) × ReadsInside n parts y j (get_or (row (uncut_rows (inner_rows n parts) cut) y) j 0)
+  reads_place y j l v = go (cases_lt y (length n.nodes))
+    where
+      go : (y < length n.nodes) ⊎ (length n.nodes ≤ y) → (y < length n.nodes) × (is_cut cut y j ≡ false) × ReadsInside n parts y j (get_or (row (uncut_rows (inner_rows n parts) cut) y) j 0)
+      go (inr past_all) = absurd (let none : length (row (uncut_rows (inner_rows n parts) cut) y) ≡ 0 = ap length (get_or_past (uncut_rows (inner_rows n parts) cut) y [] (omega (arith, rest_long, past_all))) in omega (arith, none, l))
+      go (inl here) =
+          let vertex : y < length (inner_rows n parts) = omega (arith, inner_long n parts, here) in
+          let place : j < length (row (inner_rows n parts) y) = omega (arith, uncut_places (inner_rows n parts) cut y vertex, l) in
+          let left = left_at (inner_rows n parts) cut y j vertex place (omega (arith, inner_long n parts, v)) in
+          (here, left.0, subst (ReadsInside n parts y j) (sym left.1) (read_from n parts y j place (omega (arith, left.1, inner_long n parts, v))))
+
+  -- and what is read so stands there
+  pub place_reads : (y j x : ℕ) → ReadsInside n parts y j x → is_cut cut y j ≡ false → (y < length n.nodes) × (j < length (row (uncut_rows (inner_rows n parts) cut) y)) × (get_or (row (uncut_rows (inner_rows n parts) cut) y) j 0 ≡ x) × (x < length n.nodes)
+  place_reads y j x reads e =
+      let r = read_to n parts valid y j x reads in
+      let vertex : y < length (inner_rows n parts) = omega (arith, inner_long n parts, r.0) in
+      (r.0, omega (arith, uncut_places (inner_rows n parts) cut y vertex, r.1), at_left (inner_rows n parts) cut y j vertex r.1 e ∙ r.2, omega (arith, inner_long n parts, r.3))
 
   pub label_reach : (bits : List Bool) → bits ≡ map (is_register_at n) (range_with_len 0 (length n.nodes)) → (x r : ℕ) → IsReachIn (uncut_rows (inner_rows n parts) cut) bits x r → IsReach (ReadsUncut n parts cut) (own_register n) x r
   label_reach bits e x r reach = reach_map (Follows (uncut_rows (inner_rows n parts) cut)) (ReadsUncut n parts cut) (marked bits) (own_register n) uncut_of_follows follows_of_uncut (own_count bits e) x r reach

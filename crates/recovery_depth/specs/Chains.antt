@@ -24,6 +24,7 @@ pub record IsDeep (h : Net) (k : PlainCert) (p depth : ℕ) (chain : List ℕ) :
 -- the certificate with other labels and depths
 abbrev pub relabeled : PlainCert → List Three → List ℕ → PlainCert
 relabeled k labels depths = record {
+  version = k.version;
   original_inputs = k.original_inputs;
   hardened_inputs = k.hardened_inputs;
   depth = depths;

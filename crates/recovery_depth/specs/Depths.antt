@@ -2,7 +2,7 @@
 use Rattle.std.specs.Prelude.{◌≡◌, ℕ, ◌+◌, ◌<◌, ◌≤◌, ◌⊎◌, Bool, false, List, [], ◌∷◌, length, slice_index, cond, Option, Some, None}
 use Rattle.tmr_base.specs.Parts.{PlainParts}
 use Rattle.flat_net.specs.Net.{Net, Node, node_of, is_register}
-use Rattle.feedback_cut.specs.Cut.{ReadsUncut}
+use Rattle.feedback_cut.specs.Cut.{ReadsUnvoted}
 use Rattle.recovery_depth.specs.Walks.{IsReach}
 
 abbrev pub is_some_register : Option Node → Bool
@@ -27,10 +27,11 @@ pub record IsDepth (parts : PlainParts) (labels : List ℕ) (k p depth : ℕ) : 
   pub most : (x : ℕ) → x < k → slice_index parts.of x ≡ p → slice_index labels x ≤ depth
   pub some : (depth ≡ 0) ⊎ ((x : ℕ) × (x < k) × (slice_index parts.of x ≡ p) × (slice_index labels x ≡ depth))
 
--- a node's label is the most registers of a walk through uncut pins inside one partition that ends in it, and a
--- partition's depth is the greatest label of its nodes, or 0
-pub record AreDepths (n : Net) (parts : PlainParts) (cut : List (List Bool)) (t : PlainDepths) : Type 0 where
+-- a node's label is the most registers of a walk that ends in it, in which each node reads the one before through a pin
+-- inside one partition that is not voted, and a partition's depth is the greatest label of its nodes, or 0;
+-- `voted y j` says that pin j of node y is voted
+pub record AreDepths (n : Net) (parts : PlainParts) (voted : ℕ → ℕ → Bool) (t : PlainDepths) : Type 0 where
   pub nodes : length t.labels ≡ length n.nodes
   pub parts_long : length t.depths ≡ parts.count
-  pub labels : (x : ℕ) → x < length n.nodes → IsReach (ReadsUncut n parts cut) (own_register n) x (slice_index t.labels x)
+  pub labels : (x : ℕ) → x < length n.nodes → IsReach (ReadsUnvoted n parts voted) (own_register n) x (slice_index t.labels x)
   pub depths : (p : ℕ) → p < parts.count → IsDepth parts t.labels (length n.nodes) p (slice_index t.depths p)

@@ -2,6 +2,8 @@ pub mod Walks
 pub mod Reaching
 pub mod Uncut
 pub mod Depths
+pub mod Settled
+pub mod Extra
 pub mod Hardened
 pub mod Chains
 pub mod Ranks

@@ -1,9 +1,9 @@
 //! The least depths that a hardened design admits.
-ghost use Rattle.std.specs.Prelude.{◌≡◌, ◌<◌, ◌≤◌, ℕ, List, length, map, Some, slice_get, slice_index, IfOk};
+ghost use Rattle.std.specs.Prelude.{◌≡◌, ◌<◌, ◌≤◌, ℕ, List, [], length, map, Some, slice_get, slice_index, IfOk};
 ghost use Rattle.tmr_base.specs.Copies.{Three};
 ghost use Rattle.flat_net.specs.Nodes.{number_of};
 ghost use Rattle.certificate.specs.Cert.{Fits};
-ghost use Rattle.certificate.specs.Rules.{Corresponds};
+ghost use Rattle.certificate.specs.Rules.{AllHold};
 ghost use Rattle.recovery_depth.specs.Chains.{IsDeep, relabeled, Admits};
 ghost use Rattle.recovery_depth.specs.Least.{AreDeep, AreLeast, AreAdmitted};
 
@@ -21,7 +21,8 @@ use std::alloc::Global;
 use tmr_base::OutOfMemory;
 
 /// For each partition the least depth that the rules on labels and depths admit with the certificate's
-/// roles, and the original registers of a longest chain, first to last.
+/// roles, and the original registers of a longest chain, first to last. The rules are those of the
+/// certificate's version, and no register counts as marked.
 ///
 /// The depth is the most registers of a walk of copies in the partition. The chain lies in the lowest copy
 /// that has one, ends in the register of least number, and has before each register the one of least
@@ -33,7 +34,7 @@ pub fn least(
     c: &Certificate,
 ) -> Result<Vec<Deep>, OutOfMemory>
     requires fits { Fits n.now.net h.now.net c.now }
-    requires corresponds { Corresponds n.now.net h.now.net c.now }
+    requires corresponds { AllHold n.now.net [] h.now.net [] c.now }
     ensures long { IfOk result (λ deeps. length deeps.items ≡ length c.now.depth) }
     ensures deep { IfOk result (λ deeps. AreDeep h.now.net c.now deeps.items) }
     ensures lowest { IfOk result (λ deeps. AreLeast h.now.net c.now deeps.items) }

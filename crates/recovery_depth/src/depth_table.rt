@@ -1,13 +1,13 @@
 //! Labels of nodes and depths of partitions.
 ghost use Rattle.std.specs.Prelude.{◌≡◌, ◌<◌, length, slice_index, IfOk};
-ghost use Rattle.feedback_cut.specs.Cut.{CutMeets};
+ghost use Rattle.feedback_cut.specs.Cut.{is_cut, CutMeets};
 ghost use Rattle.recovery_depth.specs.Depths.{AreDepths};
 
 use crate::greatest::greatest_labels;
 use crate::reaching::reaches;
 use crate::registers::{nodes_of, registers};
-use crate::uncut::uncut;
-use feedback_cut::{CutPins, inner_reads};
+use crate::uncut::uncut_inner;
+use feedback_cut::CutPins;
 use flat_net::FlatNet;
 use std::alloc::Global;
 use std::marker::Model;
@@ -29,6 +29,13 @@ impl Model for DepthTable {
 }
 
 impl DepthTable {
+    /// These labels and depths.
+    pub(crate) fn new(labels: Vec<u32>, depths: Vec<u32>) -> DepthTable
+        ensures { result ≡ record { labels = labels.items; depths = depths.items } }
+    {
+        DepthTable { labels, depths }
+    }
+
     /// The label of node i: the most registers of a walk that ends in it.
     pub fn label(&self, i: u32) -> u32
         requires { i < length self.now.labels }
@@ -56,11 +63,10 @@ pub fn depths(
 ) -> Result<DepthTable, OutOfMemory>
     requires parts { length parts.now.of ≡ length n.now.net.nodes }
     requires cut { CutMeets n.now.net parts.now cut.now }
-    ensures { IfOk result (λ table. AreDepths n.now.net parts.now cut.now table) }
+    ensures { IfOk result (λ table. AreDepths n.now.net parts.now (is_cut cut.now) table) }
 {
     let count = nodes_of(n);
-    let graph = inner_reads(alloc, n, parts)?;
-    let rest = uncut(alloc, &graph, cut, count)?;
+    let rest = uncut_inner(alloc, n, parts, cut)?;
     let is_register = registers(alloc, n)?;
     let labels = reaches(alloc, &rest, is_register.as_slice(), count)?;
     let depths = greatest_labels(alloc, parts, labels.as_slice())?;

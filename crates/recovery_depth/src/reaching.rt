@@ -21,7 +21,7 @@ pub fn reach_at(reaches: &[u32], x: u32) -> u32
 }
 
 /// The greatest reach of the vertices of a row, or 0.
-fn greatest_of(row: &[u32], reaches: &[u32]) -> u32
+pub fn greatest_of(row: &[u32], reaches: &[u32]) -> u32
     ensures { IsGreatestOf row.now reaches.now result }
 {
     let mut greatest = 0;

@@ -2,11 +2,16 @@
 ghost use Rattle.std.specs.Prelude.{◌≡◌, ◌<◌, ℕ, length, map, IfOk, OnOk, slice_index};
 ghost use Rattle.std.specs.List.{range_with_len};
 ghost use Rattle.feedback_cut.specs.Rows.{row};
+ghost use Rattle.feedback_cut.specs.Inner.{inner_rows};
+ghost use Rattle.feedback_cut.specs.Cut.{CutMeets};
+ghost use Rattle.recovery_depth.specs.Walks.{HasNoLoop};
 ghost use Rattle.recovery_depth.specs.Uncut.{uncut_entry, uncut_row, uncut_rows};
 
-use feedback_cut::{CutPins, Graph};
+use crate::registers::nodes_of;
+use feedback_cut::{CutPins, Graph, inner_reads};
+use flat_net::FlatNet;
 use std::alloc::Global;
-use tmr_base::OutOfMemory;
+use tmr_base::{OutOfMemory, Parts};
 
 /// What y reads at a place, or `count`, past all vertices, where that is cut.
 fn uncut_read(graph: &Graph, cut: &CutPins, y: u32, place: u32, count: u32) -> u32
@@ -46,7 +51,7 @@ fn uncut_reads(
 }
 
 /// What each vertex reads, where a place that is cut stands for a number past all vertices.
-pub fn uncut(alloc: Global, graph: &Graph, cut: &CutPins, count: u32) -> Result<Graph, OutOfMemory>
+fn uncut(alloc: Global, graph: &Graph, cut: &CutPins, count: u32) -> Result<Graph, OutOfMemory>
     requires vertices { length cut.now ≡ length graph.now }
     requires places { (y : ℕ) → y < length graph.now → length (row cut.now y) ≡ length (row graph.now y) }
     requires few { (y : ℕ) → y < length graph.now → length (row graph.now y) < 4294967296 }
@@ -59,5 +64,23 @@ pub fn uncut(alloc: Global, graph: &Graph, cut: &CutPins, count: u32) -> Result<
         uncut_reads(graph, cut, y, count, &mut reads)?;
         rest.push(&reads)?;
     }
+    Ok(rest)
+}
+
+/// What each node reads inside its partition through pins that are not cut. Nothing of it makes a loop.
+pub fn uncut_inner(
+    alloc: Global,
+    n: &FlatNet,
+    parts: &Parts,
+    cut: &CutPins,
+) -> Result<Graph, OutOfMemory>
+    requires parts { length parts.now.of ≡ length n.now.net.nodes }
+    requires cut { CutMeets n.now.net parts.now cut.now }
+    ensures rows { IfOk result (λ rest. rest ≡ uncut_rows (inner_rows n.now.net parts.now) cut.now) }
+    ensures nodes { IfOk result (λ rest. length rest ≡ length n.now.net.nodes) }
+    ensures open_ended { IfOk result (λ rest. HasNoLoop rest) }
+{
+    let graph = inner_reads(alloc, n, parts)?;
+    let rest = uncut(alloc, &graph, cut, nodes_of(n))?;
     Ok(rest)
 }

@@ -1,5 +1,5 @@
 -- Past all nodes the rules of nodes hold.
-use Rattle.std.proofs.Common.{◌≡◌, ℕ, ◌+◌, ◌<◌, ◌≤◌, ◌⊎◌, Some, length, arith, inl, inr}
+use Rattle.std.proofs.Common.{◌≡◌, ℕ, Bool, List, ◌+◌, ◌<◌, ◌≤◌, ◌⊎◌, Some, length, arith, inl, inr}
 use Rattle.flat_net.specs.Net.{Net}
 use Rattle.flat_net.proofs.Slots.{slot_within}
 use Rattle.certificate.specs.Cert.{PlainCert, Fits, role_of}
@@ -15,20 +15,20 @@ no_role n h k i r fits past e =
     let nodes : length k.roles ≡ length h.nodes = fits.hardened_nodes in
     omega (arith, within)
 
-node_rule_past : (rule : NodeRule) (n h : Net) (k : PlainCert) (i : ℕ) → Fits n h k → length h.nodes ≤ i → NodeHolds n h k rule (length h.inputs + i)
-node_rule_past Tables n h k i fits past = λ x c p e part. absurd (no_role n h k i _ fits past e)
-node_rule_past Registers n h k i fits past = λ x c p e part. absurd (no_role n h k i _ fits past e)
-node_rule_past Voters n h k i fits past = λ x p c e. absurd (no_role n h k i _ fits past e)
-node_rule_past Labels n h k i fits past = λ x c e. absurd (no_role n h k i _ fits past e)
-node_rule_past Depths n h k i fits past = λ x c p e part. absurd (no_role n h k i _ fits past e)
+node_rule_past : (rule : NodeRule) (n : Net) (f : List Bool) (h : Net) (g : List Bool) (k : PlainCert) (i : ℕ) → Fits n h k → length h.nodes ≤ i → NodeHolds n f h g k rule (length h.inputs + i)
+node_rule_past Tables n f h g k i fits past = λ x c p e part. absurd (no_role n h k i _ fits past e)
+node_rule_past Registers n f h g k i fits past = λ x c p e part. absurd (no_role n h k i _ fits past e)
+node_rule_past Voters n f h g k i fits past = λ x p c e. absurd (no_role n h k i _ fits past e)
+node_rule_past Labels n f h g k i fits past = λ x c e. absurd (no_role n h k i _ fits past e)
+node_rule_past Depths n f h g k i fits past = λ x c p e part. absurd (no_role n h k i _ fits past e)
 
 -- a rule that holds of each node holds everywhere
-pub node_rule_all : (rule : NodeRule) (n h : Net) (k : PlainCert) → Fits n h k → ((i : ℕ) → i < length h.nodes → NodeHolds n h k rule (length h.inputs + i)) → (i : ℕ) → NodeHolds n h k rule (length h.inputs + i)
-node_rule_all rule n h k fits each i = go (cases i (length h.nodes))
+pub node_rule_all : (rule : NodeRule) (n : Net) (f : List Bool) (h : Net) (g : List Bool) (k : PlainCert) → Fits n h k → ((i : ℕ) → i < length h.nodes → NodeHolds n f h g k rule (length h.inputs + i)) → (i : ℕ) → NodeHolds n f h g k rule (length h.inputs + i)
+node_rule_all rule n f h g k fits each i = go (cases i (length h.nodes))
   where
     cases : (a b : ℕ) → (a < b) ⊎ (b ≤ a)
     cases a b = grind arith
 
-    go : (i < length h.nodes) ⊎ (length h.nodes ≤ i) → NodeHolds n h k rule (length h.inputs + i)
+    go : (i < length h.nodes) ⊎ (length h.nodes ≤ i) → NodeHolds n f h g k rule (length h.inputs + i)
     go (inl l) = each i l
-    go (inr past) = node_rule_past rule n h k i fits past
+    go (inr past) = node_rule_past rule n f h g k i fits past

@@ -2,3 +2,4 @@ pub mod FirstBad
 pub mod Masking
 pub mod NodeRules
 pub mod Place
+pub mod Sides

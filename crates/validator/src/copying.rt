@@ -4,7 +4,7 @@ ghost use Rattle.flat_net.specs.Net.{net_count, node_of};
 ghost use Rattle.certificate.specs.Cert.{Fits};
 ghost use Rattle.certificate.specs.Rules.{CopiesTable, CopiesRegister, Votes, LabelReaches};
 
-use crate::reading::{count, pins_read, reads};
+use crate::reading::{count, is_copy, pins_read, reads};
 use certificate::Certificate;
 use flat_net::{FlatNet, Kind};
 use tmr_base::{CopyNo, NetId, PartId};
@@ -35,10 +35,12 @@ pub fn copies_table(
     h.cover(g).same(n.cover(x)) && pins_read(n, h, c, g, x, p, d)
 }
 
-/// A copy of a register x is a register that copies it.
+/// A copy of a register x is a register that copies it, and marked as x is; the marks are handed in.
 pub fn copies_register(
     n: &FlatNet,
+    free: bool,
     h: &FlatNet,
+    copy_free: bool,
     c: &Certificate,
     g: NetId,
     x: NetId,
@@ -50,7 +52,7 @@ pub fn copies_register(
     requires g_high { g.0 < net_count h.now.net }
     requires x_low { length n.now.net.inputs ≤ x.0 }
     requires x_high { x.0 < net_count n.now.net }
-    ensures { IsTrue result ↔ CopiesRegister c.now (node_of n.now.net x.0) (node_of h.now.net g.0) p.0 d }
+    ensures { IsTrue result ↔ CopiesRegister c.now (node_of n.now.net x.0) free (node_of h.now.net g.0) copy_free p.0 d }
 {
     if n.kind(x) != Kind::Register {
         return true;
@@ -58,22 +60,22 @@ pub fn copies_register(
     if h.kind(g) != Kind::Register {
         return false;
     }
-    h.init(g) == n.init(x) && reads(n, h, c, h.pin(g, 0), n.pin(x, 0), p, d)
+    h.init(g) == n.init(x) && copy_free == free && reads(n, h, c, h.pin(g, 0), n.pin(x, 0), p, d)
 }
 
 /// g is a table that votes on the three copies of x.
-pub fn votes(h: &FlatNet, c: &Certificate, g: NetId, x: NetId) -> bool
+pub fn votes(n: &FlatNet, h: &FlatNet, c: &Certificate, g: NetId, x: NetId) -> bool
+    requires fits { Fits n.now.net h.now.net c.now }
     requires g_low { length h.now.net.inputs ≤ g.0 }
     requires g_high { g.0 < net_count h.now.net }
-    requires x_low { c.now.original_inputs ≤ x.0 }
-    requires x_high { x.0 < c.now.original_inputs + length c.now.part }
+    requires x { x.0 < net_count n.now.net }
     ensures { IsTrue result ↔ Votes c.now (node_of h.now.net g.0) x.0 }
 {
     h.kind(g) == Kind::Table
         && h.pin_count(g) == 3
-        && h.pin(g, 0) == c.copy(x, CopyNo::First)
-        && h.pin(g, 1) == c.copy(x, CopyNo::Second)
-        && h.pin(g, 2) == c.copy(x, CopyNo::Third)
+        && is_copy(n, c, h.pin(g, 0), x, CopyNo::First)
+        && is_copy(n, c, h.pin(g, 1), x, CopyNo::Second)
+        && is_copy(n, c, h.pin(g, 2), x, CopyNo::Third)
         && h.cover(g).is_majority()
 }
 

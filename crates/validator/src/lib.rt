@@ -2,6 +2,8 @@
 //!
 //! The layer above may rely on this: `check` answers Ok exactly where the eight rules hold, and else
 //! the first rule and place that fail; where it answers Ok, every allowed schedule of upsets is masked.
+//! `check_free` does so for certificates of both versions: with version 2 inputs may be upset, and the
+//! marked registers may begin with any value.
 #![tactic(auto)]
 
 mod clocks;
@@ -10,7 +12,8 @@ mod node_rules;
 mod outputs;
 mod reading;
 mod refusal;
+mod side;
 mod verdict;
 
 pub use refusal::Refusal;
-pub use verdict::check;
+pub use verdict::{check, check_free};

@@ -1,14 +1,14 @@
 //! The rule of outputs.
-ghost use Rattle.std.specs.Prelude.{◌≡◌, ◌↔◌, ◌+◌, ◌<◌, length, IsTrue};
-ghost use Rattle.flat_net.specs.Net.{net_count};
+ghost use Rattle.std.specs.Prelude.{◌≡◌, ◌↔◌, ◌<◌, length, IsTrue};
 ghost use Rattle.tmr_base.specs.Copies.{copy_number};
-ghost use Rattle.certificate.specs.Cert.{Fits, copy_of};
+ghost use Rattle.certificate.specs.Cert.{Fits};
 ghost use Rattle.certificate.specs.Rules.{Rule8};
 ghost use Rattle.validator.specs.FirstBad.{IsFirstBad};
 
+use crate::reading::is_copy;
 use certificate::Certificate;
 use flat_net::FlatNet;
-use tmr_base::{CopyNo, NetId};
+use tmr_base::CopyNo;
 
 /// Output j of h is the copy that it should be.
 #[tactic(auto, using(crate::proofs::OutputLaws::rule_8_at))]
@@ -22,22 +22,7 @@ fn output_holds(n: &FlatNet, h: &FlatNet, c: &Certificate, j: u32) -> bool
         return false;
     }
     let x = n.output(i);
-    u64::from(h.output(j).0) == copy_net(n, c, x, copy_at(j % 3))
-}
-
-/// Copy d of original net x.
-#[tactic(auto, using(flat_net::proofs::Slots::slot_below))]
-fn copy_net(n: &FlatNet, c: &Certificate, x: NetId, d: CopyNo) -> u64
-    requires inputs { c.now.original_inputs ≡ length n.now.net.inputs }
-    requires nodes { length c.now.part ≡ length n.now.net.nodes }
-    requires x { x.0 < net_count n.now.net }
-    ensures { result ≡ copy_of c.now x.0 d }
-{
-    if x.0 < n.input_count() {
-        3 * u64::from(x.0) + u64::from(d.number())
-    } else {
-        u64::from(c.copy(x, d).0)
-    }
+    is_copy(n, c, h.output(j), x, copy_at(j % 3))
 }
 
 /// The copy with this number.

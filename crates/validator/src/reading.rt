@@ -1,13 +1,28 @@
 //! What a hardened net stands for, and what it counts.
 ghost use Rattle.std.specs.Prelude.{◌≡◌, ◌↔◌, ◌+◌, ◌<◌, ◌≤◌, length, IsTrue};
 ghost use Rattle.flat_net.specs.Net.{net_count, node_of, pins_at};
-ghost use Rattle.certificate.specs.Cert.{Fits, count_of};
+ghost use Rattle.certificate.specs.Cert.{Fits, copy_of, count_of};
 ghost use Rattle.certificate.specs.Reads.{Reads};
 ghost use Rattle.certificate.specs.Rules.{PinsRead};
 
 use certificate::{Certificate, Role};
 use flat_net::FlatNet;
 use tmr_base::{CopyNo, NetId, PartId};
+
+/// Hardened net g is copy d of original net x.
+#[tactic(auto, using(flat_net::proofs::Slots::slot_below))]
+pub fn is_copy(n: &FlatNet, c: &Certificate, g: NetId, x: NetId, d: CopyNo) -> bool
+    requires inputs { c.now.original_inputs ≡ length n.now.net.inputs }
+    requires nodes { length c.now.part ≡ length n.now.net.nodes }
+    requires x { x.0 < net_count n.now.net }
+    ensures { IsTrue result ↔ (g.0 ≡ copy_of c.now x.0 d) }
+{
+    if x.0 < n.input_count() {
+        u64::from(g.0) == 3 * u64::from(x.0) + u64::from(d.number())
+    } else {
+        g == c.copy(x, d)
+    }
+}
 
 /// Hardened net g reads x for partition p and copy d.
 #[tactic(auto, using(flat_net::proofs::Slots::slot_below))]
@@ -26,7 +41,8 @@ pub fn reads(
     ensures { IsTrue result ↔ Reads c.now g.0 x.0 p.0 d }
 {
     if g.0 < c.hardened_inputs() {
-        return x.0 < n.input_count()
+        return c.version() == 1
+            && x.0 < n.input_count()
             && u64::from(g.0) == 3 * u64::from(x.0) + u64::from(d.number());
     }
     match c.role(g) {

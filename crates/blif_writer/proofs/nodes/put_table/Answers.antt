@@ -6,5 +6,5 @@ use Rattle.blif_writer.proofs.nodes.put_table.Goals as goal
 pub returns : goal.returns
 returns c =
     let n = c.args.net.now.net in
-    table_put n c.args.x.0 (node_of n c.args.x.0) c.cover.result.now c.bytes.result.now c.args.out.now.items c.extend_from_slice.new.self.items c.put_pins.new.out.items c.put_word.new.out.items c.push.new.self.items c.put_rows.new.out.items refl c.cover.ensures.cover (c.bytes.ensures.bytes ∙ c.name.ensures)
+    table_put n c.args.free c.args.x.0 (node_of n c.args.x.0) c.cover.result.now c.bytes.result.now c.args.out.now.items c.extend_from_slice.new.self.items c.put_pins.new.out.items c.put_word.new.out.items c.push.new.self.items c.put_rows.new.out.items refl c.cover.ensures.cover (c.bytes.ensures.bytes ∙ c.name.ensures)
     c.in_ok-extend_from_slice.ensures.items c.in_ok-put_pins.ensures c.in_ok-put_word.ensures c.in_ok-push.ensures.items c.in_ok-put_rows.ensures
