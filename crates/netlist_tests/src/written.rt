@@ -3,9 +3,9 @@
 //! A line of the table is a text, `>` and its flat text. In both `|` stands for LF and `^` for CR.
 
 use blif_text::read_library;
-use blif_writer::write_flat;
-use flat_net::FlatNet;
-use hierarchy::{Flat, flatten};
+use blif_writer::{write_flat, write_free};
+use flat_net::{FlatNet, FreeNet};
+use hierarchy::{Flat, flatten, flatten_free};
 use std::alloc::{AllocError, Global};
 use std::str;
 use std::test::Fail;
@@ -81,5 +81,39 @@ fn first_other(alloc: Global, table: &str) -> Result<Option<String>, Fail> {
 fn flat_texts(rt: HostRuntime) -> Result<(), Fail> {
     let other = first_other(rt.alloc(), texts())?;
     assert_eq!(rt; other, None);
+    Ok(())
+}
+
+/// The design of the text with its marks, if it has one and the text is short.
+fn free_design_of(alloc: Global, bytes: &[u8]) -> Option<FreeNet> {
+    if bytes.len() > 1000 {
+        return None;
+    }
+    match read_library(alloc, bytes) {
+        Ok(library) => flatten_free(alloc, &library, 1000).ok(),
+        Err(_) => None,
+    }
+}
+
+/// The flat text of the text's design with its marks, or nothing where it has none.
+fn free_text(alloc: Global, text: &str) -> Result<Vec<u8>, AllocError> {
+    let bytes = bytes_of(alloc, text)?;
+    match free_design_of(alloc, bytes.as_slice()) {
+        Some(net) => match write_free(alloc, &net) {
+            Ok(written) => Ok(written),
+            Err(_) => Ok(Vec::new(alloc)),
+        },
+        None => Ok(Vec::new(alloc)),
+    }
+}
+
+#[test]
+fn free_values_are_written_as_3(rt: HostRuntime) -> Result<(), Fail> {
+    let alloc = rt.alloc();
+    let text = ".model f|.inputs i|.outputs a b|.latch i a 2|.names a t|1 1|.latch i b 1|.latch i c 0|.latch t d|.end";
+    let wanted = ".model f|.inputs i|.outputs a b|.latch i a 3|.names a t|1 1|.latch i b 1|.latch i c 0|.latch t d 3|.end|";
+    let written = free_text(alloc, text)?;
+    let wanted = bytes_of(alloc, wanted)?;
+    assert_eq!(rt; str::from_utf8(written.as_slice())?, str::from_utf8(wanted.as_slice())?);
     Ok(())
 }

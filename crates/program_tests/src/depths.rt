@@ -89,6 +89,9 @@ fn least_of(alloc: Global, n: &FlatNet, h: &FlatNet, certificate: &str) -> Resul
     let Ok(c) = read_cert(alloc, certificate.as_bytes(), n, h) else {
         return Ok(String::new(alloc));
     };
+    if c.version() != 1 {
+        return Ok(String::new(alloc));
+    }
     let Ok(()) = check(n, h, &c) else {
         return Ok(String::new(alloc));
     };

@@ -61,6 +61,15 @@ const TOP_HARD: &str =
 const TOP_CERT: &str =
     "tmr-cert 1\nparts 1\npart 0 depth 1\nnode $false 0 $false~0 $false~1 $false~2 0 0 0\nnode $true 0 $true~0 $true~1 $true~2 0 0 0\nnode $undef 0 $undef~0 $undef~1 $undef~2 0 0 0\nnode d 0 d~0 d~1 d~2 1 1 1\nnode q 0 q~0 q~1 q~2 1 1 1\nvoter d~0~a d 0 0\nvoter d~0~b d 0 1\nvoter d~0~c d 0 2\nend\n";
 
+/// A register that begins with any value, behind an input that may be upset.
+const FREE: &str = ".model fr\n.inputs i\n.outputs q\n.latch i q\n.end\n";
+
+const FREE_HARD: &str =
+    ".model fr\n.inputs i~0 i~1 i~2\n.outputs q~0 q~1 q~2\n.names i~0 i~1 i~2 i~0~a\n11- 1\n1-1 1\n-11 1\n.names i~0 i~1 i~2 i~0~b\n11- 1\n1-1 1\n-11 1\n.names i~0 i~1 i~2 i~0~c\n11- 1\n1-1 1\n-11 1\n.latch i~0~a q~0 3\n.latch i~0~b q~1 3\n.latch i~0~c q~2 3\n.end\n";
+
+const FREE_CERT: &str =
+    "tmr-cert 2\nparts 1\npart 0 depth 1\nnode q 0 q~0 q~1 q~2 1 1 1\nvoter i~0~a i 0 0\nvoter i~0~b i 0 1\nvoter i~0~c i 0 2\nend\n";
+
 /// Two registers that a model places, which the main model places.
 const NESTED: &str =
     ".model top\n.inputs ck i\n.outputs o\n.subckt two c=ck a=i z=o\n.end\n.model two\n.inputs c a\n.outputs z\n.subckt reg c=c a=a z=m\n.subckt reg c=c a=m z=z\n.end\n.model reg\n.inputs c a\n.outputs z\n.names a w\n1 1\n.latch w z re c 0\n.end\n";
@@ -88,6 +97,7 @@ TOGGLE PARTED_HARD PARTED_CERT=0 accepted partitions 2 depth 1 assumed 0 0
 TWO TWO_HARD TWO_CERT=0 accepted partitions 2 depth 0 assumed 0 0
 SHIFT SHIFT_HARD SHIFT_CERT=0 accepted partitions 1 depth 3 assumed 0 0
 TOP TOP_HARD TOP_CERT=0 accepted partitions 1 depth 1 assumed 1 0
+FREE FREE_HARD FREE_CERT=0 accepted partitions 1 depth 1 free 1 3
 AND A_GATE AND_CERT=4 refused h: line 2: unsupported
 UNDRIVEN AND_HARD AND_CERT=4 refused o: undriven y";
 
@@ -121,7 +131,12 @@ TWO TWO_HARD TWO_CERT;h;.names x~1~a y~0;.names x~1~b y~0;1 not accepted: rule 3
 TWO TWO_HARD TWO_CERT;h;x~1~a|11- 1|1-1 1|;x~1~a|11- 1|;1 not accepted: rule 5 at x~1~a
 SHIFT SHIFT_HARD SHIFT_CERT;c;depth 3;depth 7;0 accepted partitions 1 depth 7 assumed 0 0
 SHIFT SHIFT_HARD SHIFT_CERT;c;depth 3;depth 2;1 not accepted: rule 7 at q3~0
-TOP TOP_HARD TOP_CERT;h; re ; fe ;1 not accepted: rule 2 at clock";
+TOP TOP_HARD TOP_CERT;h; re ; fe ;1 not accepted: rule 2 at clock
+FREE FREE_HARD FREE_CERT;h;q~0 3;q~0 0;1 not accepted: rule 4 at q~0
+FREE FREE_HARD FREE_CERT;h;.latch i~0~a q~0 3;.latch i~0 q~0 3;1 not accepted: rule 4 at q~0
+FREE FREE_HARD FREE_CERT;c;tmr-cert 2|;tmr-cert 1|;4 refused c: line 5: unknown net
+AND AND_HARD AND_CERT;c;tmr-cert 1|;tmr-cert 2|;1 not accepted: rule 3 at y~0
+SHIFT SHIFT_HARD SHIFT_CERT;h;q1~0 0;q1~0 3;0 accepted partitions 1 depth 3 assumed 0 1";
 
 /// Words that are no command, a list in each line.
 const NO_COMMANDS: &str = "
@@ -159,6 +174,9 @@ fn text_of(name: &str) -> &'static str {
         "TOP" => TOP,
         "TOP_HARD" => TOP_HARD,
         "TOP_CERT" => TOP_CERT,
+        "FREE" => FREE,
+        "FREE_HARD" => FREE_HARD,
+        "FREE_CERT" => FREE_CERT,
         "NESTED" => NESTED,
         "NESTED_FLATTENED" => NESTED_FLATTENED,
         "A_GATE" => A_GATE,

@@ -6,4 +6,5 @@ pub mod MemorySink
 pub mod Pieces
 pub mod Plan
 pub mod Reading
+pub mod Seen
 pub mod Written

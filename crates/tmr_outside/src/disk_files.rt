@@ -96,11 +96,8 @@ fn write_anew<R: rt::Files>(rt: &R, name: &str, bytes: &[u8]) -> Result<(), Save
 impl<R: rt::Files> Files for DiskFiles<'_, R> {
     ghost use Rattle.std.specs.Prelude.{None};
 
-    ghost contents = { λ files. None };
-
-    ghost load_count = { λ count name. count };
-
-    ghost save_count = { λ count name. count };
+    ghost seen = { λ count. record {
+        contents = None; load_count = λ name. count; save_count = λ name. count } };
 
     ghost steady = { λ files. ⊥ };
 

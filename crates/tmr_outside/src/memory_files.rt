@@ -178,11 +178,8 @@ impl Files for MemFiles {
     ghost use Rattle.std.specs.FinMap.{empty};
     ghost use Rattle.tmr_outside.specs.MemoryFiles.{failed_loads, failed_saves};
 
-    ghost contents = { λ files. Some files.held };
-
-    ghost load_count = { failed_loads };
-
-    ghost save_count = { failed_saves };
+    ghost seen = { λ files. record {
+        contents = Some files.held; load_count = failed_loads files; save_count = failed_saves files } };
 
     ghost steady = { λ files. files.plan.failing ≡ empty };
 

@@ -81,9 +81,7 @@ impl Sink for MemSink {
     ghost use Rattle.std.specs.Prelude.{Some, ◌≡◌};
     ghost use Rattle.std.specs.FinMap.{empty};
 
-    ghost written = { λ sink. Some sink.bytes };
-
-    ghost put_count = { λ sink. sink.faults };
+    ghost seen = { λ sink. record { written = Some sink.bytes; put_count = sink.faults } };
 
     ghost steady = { λ sink. sink.plan.failing ≡ empty };
 

@@ -60,9 +60,7 @@ fn write_rest(to: &impl Print, bytes: &[u8]) -> Result<(), PutFault> {
 impl<P: Print> Sink for StdSink<'_, P> {
     ghost use Rattle.std.specs.Prelude.{None};
 
-    ghost written = { λ sink. None };
-
-    ghost put_count = { λ count. count };
+    ghost seen = { λ count. record { written = None; put_count = count } };
 
     ghost steady = { λ sink. ⊥ };
 

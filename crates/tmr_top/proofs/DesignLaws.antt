@@ -1,6 +1,6 @@
 -- Bytes give one design, or none.
-use Rattle.std.proofs.Common.{◌≡◌, ◌≢◌, ℕ, List, Option, Some, None, Result, Ok, Err, inl, inr, subst}
-use Rattle.std.specs.Prelude.{IfSome}
+use Rattle.std.proofs.Common.{◌≡◌, ◌≢◌, ℕ, Bool, List, Option, Some, Result, Ok, Err, inl, inr, subst}
+use Rattle.std.specs.Prelude.{count_by}
 use Rattle.std.specs.FinMap.{get}
 use Rattle.blif_text.specs.Kind.{Bad}
 use Rattle.blif_text.specs.Models.{PlainModel}
@@ -8,12 +8,13 @@ use Rattle.blif_text.specs.Reading.{reading}
 use Rattle.blif_text.specs.Stands.{Reads}
 use Rattle.blif_text.specs.declared.fault.TextFault.{TextFault}
 use Rattle.flat_net.specs.Net.{Net}
-use Rattle.hierarchy.specs.Flatten.{IsFlat, IsFlatFault}
+use Rattle.hierarchy.specs.Flatten.{IsFlatFault, IsFreeFlat}
 use Rattle.hierarchy.specs.declared.flat_fault.FlatFault.{FlatFault}
 use Rattle.hierarchy.specs.declared.flat_fault.FlatFault.TheVariants.{Memory}
-use Rattle.hierarchy.proofs.OneAnswer.{flat_or_fault, one_flat}
+use Rattle.hierarchy.proofs.OneAnswer.{flat_or_fault}
+use Rattle.hierarchy.proofs.Marks.{one_free}
 use Rattle.tmr_outside.specs.Contents.{Contents}
-use Rattle.blif_writer.specs.NetOf.{IsNetOf}
+use Rattle.blif_writer.specs.NetOf.{IsFreeNetOf}
 use Rattle.tmr_top.specs.Loads.{Load}
 use Rattle.tmr_top.specs.Loaded.{HoldsText}
 use Rattle.tmr_top.specs.Designs.{IsUnread, HoldsDesign, HoldsNoDesign}
@@ -21,8 +22,8 @@ use Rattle.tmr_top.specs.Reasons.{bad_reason, flat_reason}
 
 -- ---- what a text gives
 
-pub is_design : (limit : ℕ) (bytes : List ℕ) (library : List PlainModel) (n : Net) (assumed : ℕ) → reading bytes ≡ Ok library → IsFlat library limit n assumed → IsNetOf bytes limit n assumed
-is_design limit bytes library n assumed read flat = record { library = library; reads = read; flat = flat }
+pub is_design : (limit : ℕ) (bytes : List ℕ) (library : List PlainModel) (n : Net) (free : List Bool) → reading bytes ≡ Ok library → IsFreeFlat library limit n free → IsFreeNetOf bytes limit n free
+is_design limit bytes library n free read flat = record { library = library; reads = read; flat = flat }
 
 pub bad_library : (limit : ℕ) (bytes : List ℕ) (library : List PlainModel) (fault : FlatFault) (reason : List ℕ) → reading bytes ≡ Ok library → fault ≢ Memory → IsFlatFault library limit fault → reason ≡ flat_reason fault → IsUnread limit bytes reason
 bad_library limit bytes library fault reason read caused first says = inr (record { library = library; read = read; fault = fault; caused = caused; first = first; says = says })
@@ -36,19 +37,11 @@ pub ruleset texts = (bad_text)
 
 -- ---- what a name holds
 
-pub holds_design : (held : Contents) (load : Load) (text : Result (List PlainModel) TextFault) (n : Net) (assumed : ℕ) → HoldsText held load text → ((bytes : List ℕ) → Reads text (reading bytes) → IsNetOf bytes load.limit n assumed) → HoldsDesign held load n assumed
-holds_design held load text n assumed holds read = record { bytes = holds.bytes; there = holds.there; short = holds.short; read = read holds.bytes holds.reads }
+pub holds_design : (held : Contents) (load : Load) (text : Result (List PlainModel) TextFault) (n : Net) (free : List Bool) → HoldsText held load text → ((bytes : List ℕ) → Reads text (reading bytes) → IsFreeNetOf bytes load.limit n free) → HoldsDesign held load n free
+holds_design held load text n free holds read = record { bytes = holds.bytes; there = holds.there; short = holds.short; fact = read holds.bytes holds.fact }
 
 pub holds_no_design : (held : Contents) (load : Load) (text : Result (List PlainModel) TextFault) (reason : List ℕ) → HoldsText held load text → ((bytes : List ℕ) → Reads text (reading bytes) → IsUnread load.limit bytes reason) → HoldsNoDesign held load reason
-holds_no_design held load text reason holds unread = record { bytes = holds.bytes; there = holds.there; short = holds.short; unread = unread holds.bytes holds.reads }
-
-pub text_holds : (contents : Option Contents) (load : Load) (text : Result (List PlainModel) TextFault) (n : Net) (assumed : ℕ) → ((bytes : List ℕ) → Reads text (reading bytes) → IsNetOf bytes load.limit n assumed) → IfSome contents (λ held. HoldsText held load text) → IfSome contents (λ held. HoldsDesign held load n assumed)
-text_holds None load text n assumed read holds = tt
-text_holds (Some held) load text n assumed read holds = holds_design held load text n assumed holds read
-
-pub text_holds_none : (contents : Option Contents) (load : Load) (text : Result (List PlainModel) TextFault) (reason : List ℕ) → ((bytes : List ℕ) → Reads text (reading bytes) → IsUnread load.limit bytes reason) → IfSome contents (λ held. HoldsText held load text) → IfSome contents (λ held. HoldsNoDesign held load reason)
-text_holds_none None load text reason unread holds = tt
-text_holds_none (Some held) load text reason unread holds = holds_no_design held load text reason holds unread
+holds_no_design held load text reason holds unread = record { bytes = holds.bytes; there = holds.there; short = holds.short; fact = unread holds.bytes holds.fact }
 
 -- ---- it gives one design, or none
 
@@ -61,25 +54,25 @@ read_or_bad r library bad e f = cc
 same_bytes : (o : Option (List ℕ)) (one other : List ℕ) → o ≡ Some one → o ≡ Some other → one ≡ other
 same_bytes o one other e f = cc
 
-design_once : (limit : ℕ) (bytes : List ℕ) (n m : Net) (a b : ℕ) → IsNetOf bytes limit n a → IsNetOf bytes limit m b → (n ≡ m) × (a ≡ b)
+design_once : (limit : ℕ) (bytes : List ℕ) (n m : Net) (a b : List Bool) → IsFreeNetOf bytes limit n a → IsFreeNetOf bytes limit m b → (n ≡ m) × (a ≡ b)
 design_once limit bytes n m a b one other =
     let same = same_library (reading bytes) one.library other.library one.reads other.reads in
-    one_flat other.library limit n m a b (subst (λ (l : List PlainModel). IsFlat l limit n a) same one.flat) other.flat
+    one_free other.library limit n m a b (subst (λ (l : List PlainModel). IsFreeFlat l limit n a) same one.flat) other.flat
 
-design_or_unread : (limit : ℕ) (bytes : List ℕ) (n : Net) (a : ℕ) (reason : List ℕ) → IsNetOf bytes limit n a → IsUnread limit bytes reason → ⊥
+design_or_unread : (limit : ℕ) (bytes : List ℕ) (n : Net) (a : List Bool) (reason : List ℕ) → IsFreeNetOf bytes limit n a → IsUnread limit bytes reason → ⊥
 design_or_unread limit bytes n a reason design (inl bad) = read_or_bad (reading bytes) design.library bad.bad design.reads bad.read
 design_or_unread limit bytes n a reason design (inr bad) =
     let same = same_library (reading bytes) design.library bad.library design.reads bad.read in
-    flat_or_fault bad.library limit n a bad.fault (subst (λ (l : List PlainModel). IsFlat l limit n a) same design.flat) bad.caused bad.first
+    flat_or_fault bad.library limit n (count_by (λ bit. bit) a) bad.fault (subst (λ (l : List PlainModel). IsFreeFlat l limit n a) same design.flat).flat bad.caused bad.first
 
 -- a name holds one design
-pub one_design : (held : Contents) (load : Load) (n m : Net) (a b : ℕ) → HoldsDesign held load n a → HoldsDesign held load m b → (n ≡ m) × (a ≡ b)
+pub one_design : (held : Contents) (load : Load) (n m : Net) (a b : List Bool) → HoldsDesign held load n a → HoldsDesign held load m b → (n ≡ m) × (a ≡ b)
 one_design held load n m a b one other =
     let same = same_bytes (get held load.name) one.bytes other.bytes one.there other.there in
-    design_once load.limit other.bytes n m a b (subst (λ (bytes : List ℕ). IsNetOf bytes load.limit n a) same one.read) other.read
+    design_once load.limit other.bytes n m a b (subst (λ (bytes : List ℕ). IsFreeNetOf bytes load.limit n a) same one.fact) other.fact
 
 -- a name that holds a design is not refused
-pub design_or_none : (held : Contents) (load : Load) (n : Net) (a : ℕ) (reason : List ℕ) → HoldsDesign held load n a → HoldsNoDesign held load reason → ⊥
+pub design_or_none : (held : Contents) (load : Load) (n : Net) (a : List Bool) (reason : List ℕ) → HoldsDesign held load n a → HoldsNoDesign held load reason → ⊥
 design_or_none held load n a reason one none =
     let same = same_bytes (get held load.name) one.bytes none.bytes one.there none.there in
-    design_or_unread load.limit none.bytes n a reason (subst (λ (bytes : List ℕ). IsNetOf bytes load.limit n a) same one.read) none.unread
+    design_or_unread load.limit none.bytes n a reason (subst (λ (bytes : List ℕ). IsFreeNetOf bytes load.limit n a) same one.fact) none.fact

@@ -1,9 +1,12 @@
 pub mod PlainWords
+pub mod ChangeLaws
 pub mod LoadLaws
+pub mod SaveLaws
 pub mod TextLaws
 pub mod DesignLaws
 pub mod PairLaws
-pub mod SeenLaws
 pub mod FlatLaws
+pub mod PerformLaws
 pub mod RunLaws
+pub mod OutcomeLaws
 pub mod RunClauses

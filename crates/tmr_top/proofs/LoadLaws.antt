@@ -1,123 +1,183 @@
 -- Loads, one after the other.
-use Rattle.std.proofs.Common.{◌≡◌, ℕ, ◌≤◌, Bool, true, false, List, [], ◌∷◌, length, Option, Some, None, Result, inl, inr, refl, sym, ap, subst, ◌∙◌, arith}
-use Rattle.std.specs.Prelude.{IfSome, IsSome}
-use Rattle.std.specs.Str.{bytes_eq}
+use Rattle.std.proofs.Common.{◌≡◌, ℕ, ◌<◌, ◌≤◌, ◌+◌, List, [], ◌∷◌, ◌++◌, map, length, take, drop, get_or, Option, Some, None, Result, inl, inr, refl, sym, ap, subst, ◌∙◌, drop-cons, add-one}
+use Rattle.std.specs.Prelude.{IfSome, Vec}
+use Rattle.std.specs.declared.alloc.Global.{Global}
 use Rattle.std.specs.FinMap.{get}
-use Rattle.std.proofs.lemmas.Slice.Eq.{bytes_eq-Decides}
+use Rattle.std.proofs.lemmas.List.{map-append, take-append-drop, take_more}
 use Rattle.blif_text.specs.Models.{PlainModel}
 use Rattle.blif_text.specs.Reading.{reading}
 use Rattle.blif_text.specs.Reader.{ReaderState, StandsFor}
 use Rattle.blif_text.specs.Stands.{Reads}
 use Rattle.blif_text.specs.declared.fault.TextFault.{TextFault}
 use Rattle.tmr_outside.specs.Contents.{Contents}
-use Rattle.tmr_outside.specs.Counts.{RoseOf, NoneFell, NoneRose, OthersStay}
+use Rattle.tmr_outside.specs.Counts.{RoseOf, NoneFell, NoneRose}
 use Rattle.tmr_outside.specs.Pieces.{TakesFile}
+use Rattle.tmr_outside.specs.Seen.{FilesSeen, IsTold}
 use Rattle.tmr_top.specs.declared.loads.Stop.{Stop}
 use Rattle.tmr_top.specs.declared.loads.Stop.TheVariants as stop
-use Rattle.tmr_top.specs.Loads.{Load, OfOne, OfFirst, IsLong, IsMissing, IsFine, Seen, LoadRose, StayElsewhere}
-use Rattle.tmr_top.specs.Loaded.{HoldsText, HoldsBytes, IsStop, IsSteadyStop}
+use Rattle.tmr_top.specs.declared.file_words.LoadWords.{LoadWords}
+use Rattle.tmr_top.specs.declared.loads.Loaded.{Loaded}
+use Rattle.tmr_top.specs.declared.loads.Loaded.TheVariants as loaded
+use Rattle.tmr_top.specs.declared.file_words.FileKind.TheVariants as kind
+use Rattle.tmr_top.specs.FileWords.{load_in}
+use Rattle.tmr_top.specs.Loads.{Load, load_name}
+use Rattle.tmr_top.specs.Files.{OfOne, OfEach, OfFirst, IsLong, IsMissing, IsFine}
+use Rattle.tmr_top.specs.Changes.{LoadRose, IsNone, ChangesOnly}
+use Rattle.tmr_top.specs.Loaded.{HoldsText, HoldsBytes, HoldsLoaded, HoldsEach, FitsEach, Loads, IsStop, IsSteadyStop}
+use Rattle.tmr_top.proofs.ChangeLaws.{none_rose, load_change, rose_since, none_since, told_as_before, changes_then, changes_more, none_at}
 
--- where no other count rose, nor this one, none did
-pub none_rose : (name : List ℕ) (before now : List ℕ → ℕ) → OthersStay name before now → now name ≡ before name → NoneRose before now
-none_rose name before now others same other = go (bytes_eq other name) refl
-  where
-    go : (b : Bool) → bytes_eq other name ≡ b → now other ≡ before other
-    go true is = let e : other ≡ name = (bytes_eq-Decides other name).0 is in ap now e ∙ (same ∙ ap before (sym e))
-    go false is = others other (λ e. let yes : bytes_eq other name ≡ true = (bytes_eq-Decides other name).1 e in cc)
+-- ---- one load
 
 -- what was taken is what the name holds, and it is read
-pub held_text : (contents : Option Contents) (name : List ℕ) (limit : ℕ) (old new : ReaderState) (ok : Type 0) (text : Result (List PlainModel) TextFault) → StandsFor old [] → TakesFile (StandsFor old) (StandsFor new) old.room new.room limit contents name ok → ok → ((given : List ℕ) → StandsFor new given → Reads text (reading given)) → IfSome contents (λ held. HoldsText held (record { name = name; limit = limit }) text)
-held_text None name limit old new ok text stands takes done reads = tt
-held_text (Some held) name limit old new ok text stands takes done reads = record {
+pub held_text : (contents : Option Contents) (load : Load) (old new : ReaderState) (ok : Type 0) (text : Result (List PlainModel) TextFault) → StandsFor old [] → TakesFile (StandsFor old) (StandsFor new) old.room new.room load.limit contents load.name ok → ok → ((given : List ℕ) → StandsFor new given → Reads text (reading given)) → IfSome contents (λ held. HoldsText held load text)
+held_text None load old new ok text stands takes done reads = tt
+held_text (Some held) load old new ok text stands takes done reads = record {
   bytes = takes.taken;
   there = takes.whole done;
   short = takes.within;
-  reads = reads takes.taken (takes.takes.appended [] stands);
+  fact = reads takes.taken (takes.takes.appended [] stands);
 }
 
-pub held_bytes : (contents : Option Contents) (name : List ℕ) (limit : ℕ) (bytes : List ℕ) → IfSome contents (λ held. get held name ≡ Some bytes) → length bytes ≤ limit → IfSome contents (λ held. HoldsBytes held (record { name = name; limit = limit }) bytes)
-held_bytes None name limit bytes there short = tt
-held_bytes (Some held) name limit bytes there short = record { there = there; short = short }
+pub held_bytes : (contents : Option Contents) (load : Load) (bytes : List ℕ) → IfSome contents (λ held. get held load.name ≡ Some bytes) → length bytes ≤ load.limit → IfSome contents (λ held. HoldsBytes held load bytes)
+held_bytes None load bytes there short = tt
+held_bytes (Some held) load bytes there short = record { bytes = bytes; there = there; short = short; fact = refl }
 
-pub failed_stop : (contents : Option Contents) (name : List ℕ) (limit : ℕ) (before now saves left : List ℕ → ℕ) (after : Option Contents) → RoseOf contents (before name) (now name) → OfOne (λ (load : Load). LoadRose (record { contents = contents; load_count = before; save_count = saves }) (record { contents = after; load_count = now; save_count = left }) load × (name ≡ load.name)) (record { name = name; limit = limit } ∷ [])
-failed_stop contents name limit before now saves left after rose = inl (rose, refl)
+pub failed_stop : (load : Load) (old new : FilesSeen) → RoseOf old.contents (old.load_count load.name) (new.load_count load.name) → OfOne (λ (l : Load). LoadRose old new l × (load.name ≡ l.name)) (load ∷ [])
+failed_stop load old new rose = inl (rose, refl)
 
-pub long_stop : (contents : Option Contents) (name : List ℕ) (limit : ℕ) (before now : List ℕ → ℕ) → IfSome contents (λ held. IsLong held (record { name = name; limit = limit })) → (IsSome contents → NoneRose before now) → IfSome contents (λ held. OfFirst held (λ (load : Load). IsLong held load × (name ≡ load.name)) (record { name = name; limit = limit } ∷ []) × NoneRose before now)
-long_stop None name limit before now long none = tt
-long_stop (Some held) name limit before now long none = (inl (long, refl), none refl)
+pub long_stop : (contents : Option Contents) (load : Load) → IfSome contents (λ held. IsLong held load) → IfSome contents (λ held. OfFirst held (λ (l : Load). IsLong held l × (load.name ≡ l.name)) (load ∷ []))
+long_stop None load long = tt
+long_stop (Some held) load long = inl (long, refl)
 
-pub missing_stop : (contents : Option Contents) (name : List ℕ) (limit : ℕ) → IfSome contents (λ held. get held name ≡ None) → IfSome contents (λ held. OfFirst held (IsMissing held) (record { name = name; limit = limit } ∷ []))
-missing_stop None name limit missing = tt
-missing_stop (Some held) name limit missing = inl missing
+pub missing_stop : (contents : Option Contents) (load : Load) → IfSome contents (λ held. get held load.name ≡ None) → IfSome contents (λ held. OfFirst held (IsMissing held) (load ∷ []))
+missing_stop None load missing = tt
+missing_stop (Some held) load missing = inl missing
 
-pub others_stay : (name : List ℕ) (before now : List ℕ → ℕ) → OthersStay name before now → StayElsewhere (name ∷ []) before now
-others_stay name before now others other none = others other none.0
+pub ruleset one_load = (none_rose, held_text, held_bytes, failed_stop, long_stop, missing_stop, load_change)
 
-pub ruleset one_load = (none_rose, held_text, held_bytes, failed_stop, long_stop, missing_stop, others_stay)
-
--- ---- one load behind another
-
--- a count that rose later rose since before
-pub rose_since : {C : Type 0} (told : Option C) (a b c : ℕ) → a ≤ b → RoseOf told b c → RoseOf told a c
-rose_since None a b c h rose = omega arith
-rose_since (Some held) a b c h rose = omega arith
-
-one_more : {A : Type 0} (P : A → Type 0) (x : A) (xs : List A) → OfOne P (x ∷ []) → OfOne P (x ∷ xs)
-one_more P x xs (inl here) = inl here
-one_more P x xs (inr none) = absurd none
-
-first_more : (held : Contents) (P : Load → Type 0) (x : Load) (xs : List Load) → OfFirst held P (x ∷ []) → OfFirst held P (x ∷ xs)
-first_more held P x xs (inl here) = inl here
-first_more held P x xs (inr none) = absurd none.1
-
--- the first load came to no end
-pub stop_first : (load : Load) (loads : List Load) (old new : Seen) (s : Stop) → IsStop (load ∷ []) old new s → IsStop (load ∷ loads) old new s
-stop_first load loads old new (stop.Failed name) is = one_more _ load loads is
-stop_first load loads old new (stop.TooLong name) is = go old.contents is
+pub loads_text : (load : Load) (old new : FilesSeen) (text : Result (List PlainModel) TextFault) → load.kind ≡ kind.Netlist → IfSome old.contents (λ held. HoldsText held load text) → (IsTold old → NoneRose old.load_count new.load_count) → Loads (load ∷ []) old new (loaded.Netlist text ∷ [])
+loads_text load old new text is holds none = record { fits = (is, tt); holds = go old.contents holds; none = none }
   where
-    go : (c : Option Contents) → IfSome c (λ held. OfFirst held (λ l. IsLong held l × (name.now ≡ l.name)) (load ∷ []) × NoneRose old.load_count new.load_count) → IfSome c (λ held. OfFirst held (λ l. IsLong held l × (name.now ≡ l.name)) (load ∷ loads) × NoneRose old.load_count new.load_count)
-    go None long = tt
-    go (Some held) long = (first_more held _ load loads long.0, long.1)
-stop_first load loads old new stop.Memory is = is
+    go : (o : Option Contents) → IfSome o (λ held. HoldsText held load text) → IfSome o (λ held. HoldsEach held (load ∷ []) (loaded.Netlist text ∷ []))
+    go None holds = tt
+    go (Some held) holds = (holds, tt)
 
-risen_since : (old mid new : Seen) (name : List ℕ) → mid.contents ≡ old.contents → NoneFell old.load_count mid.load_count → (loads : List Load) → OfOne (λ l. LoadRose mid new l × (name ≡ l.name)) loads → OfOne (λ l. LoadRose old new l × (name ≡ l.name)) loads
-risen_since old mid new name same fell [] rose = rose
-risen_since old mid new name same fell (load ∷ loads) (inl here) =
-    inl (rose_since old.contents (old.load_count load.name) (mid.load_count load.name) (new.load_count load.name) (fell load.name) (subst (λ (c : Option Contents). RoseOf c (mid.load_count load.name) (new.load_count load.name)) same here.0), here.1)
-risen_since old mid new name same fell (load ∷ loads) (inr later) = inr (risen_since old mid new name same fell loads later)
-
-none_since : (a b c : List ℕ → ℕ) → NoneRose a b → NoneRose b c → NoneRose a c
-none_since a b c one other name = other name ∙ one name
-
--- the first load was fine, and one behind it came to no end
-pub stop_later : (load : Load) (loads : List Load) (old mid new : Seen) (s : Stop) → mid.contents ≡ old.contents → IfSome old.contents (λ held. IsFine held load) → NoneFell old.load_count mid.load_count → (IsSome old.contents → NoneRose old.load_count mid.load_count) → IsStop loads mid new s → IsStop (load ∷ loads) old new s
-stop_later load loads old mid new (stop.Failed name) same fine fell quiet is = inr (risen_since old mid new name.now same fell loads is)
-stop_later load loads old mid new (stop.TooLong name) same fine fell quiet is =
-    go old.contents fine quiet (subst (λ (c : Option Contents). IfSome c (λ held. OfFirst held (λ l. IsLong held l × (name.now ≡ l.name)) loads × NoneRose mid.load_count new.load_count)) same is)
+pub loads_bytes : (load : Load) (old new : FilesSeen) (bytes : Vec ℕ Global) → load.kind ≡ kind.Bytes → length bytes.items ≤ load.limit → IfSome old.contents (λ held. HoldsBytes held load bytes.items) → (IsTold old → NoneRose old.load_count new.load_count) → Loads (load ∷ []) old new (loaded.Bytes bytes ∷ [])
+loads_bytes load old new bytes is short holds none = record { fits = ((is, short), tt); holds = go old.contents holds; none = none }
   where
-    go : (c : Option Contents) → IfSome c (λ held. IsFine held load) → (IsSome c → NoneRose old.load_count mid.load_count) → IfSome c (λ held. OfFirst held (λ l. IsLong held l × (name.now ≡ l.name)) loads × NoneRose mid.load_count new.load_count) → IfSome c (λ held. OfFirst held (λ l. IsLong held l × (name.now ≡ l.name)) (load ∷ loads) × NoneRose old.load_count new.load_count)
-    go None fine quiet long = tt
-    go (Some held) fine quiet long = (inr (fine, long.0), none_since old.load_count mid.load_count new.load_count (quiet refl) long.1)
-stop_later load loads old mid new stop.Memory same fine fell quiet is =
-    λ told. none_since old.load_count mid.load_count new.load_count (quiet told) (is (subst (λ (c : Option Contents). IsSome c) (sym same) told))
+    go : (o : Option Contents) → IfSome o (λ held. HoldsBytes held load bytes.items) → IfSome o (λ held. HoldsEach held (load ∷ []) (loaded.Bytes bytes ∷ []))
+    go None holds = tt
+    go (Some held) holds = (holds, tt)
 
-pub steady_first : (load : Load) (loads : List Load) (contents : Option Contents) (s : Stop) → IsSteadyStop (load ∷ []) contents s → IsSteadyStop (load ∷ loads) contents s
-steady_first load loads None (stop.Failed name) is = tt
-steady_first load loads (Some held) (stop.Failed name) is = first_more held (IsMissing held) load loads is
-steady_first load loads contents (stop.TooLong name) is = tt
-steady_first load loads contents stop.Memory is = tt
+pub ruleset of_kind = (loads_text, loads_bytes)
 
-pub steady_later : (load : Load) (loads : List Load) (contents mid : Option Contents) (s : Stop) → mid ≡ contents → IfSome contents (λ held. IsFine held load) → IsSteadyStop loads mid s → IsSteadyStop (load ∷ loads) contents s
-steady_later load loads contents mid s same fine is = go contents s fine (subst (λ (c : Option Contents). IsSteadyStop loads c s) same is)
+-- ---- one load behind others
+
+fits_then : (ls : List Load) (all : List Loaded) (l : Load) (one : Loaded) → FitsEach ls all → FitsEach (l ∷ []) (one ∷ []) → FitsEach (ls ++ l ∷ []) (all ++ one ∷ [])
+fits_then [] [] l one fits fit = fit
+fits_then (load ∷ ls) (first ∷ all) l one fits fit = (fits.0, fits_then ls all l one fits.1 fit)
+fits_then [] (first ∷ all) l one fits fit = absurd fits
+fits_then (load ∷ ls) [] l one fits fit = absurd fits
+
+holds_then : (held : Contents) (ls : List Load) (all : List Loaded) (l : Load) (one : Loaded) → HoldsEach held ls all → HoldsEach held (l ∷ []) (one ∷ []) → HoldsEach held (ls ++ l ∷ []) (all ++ one ∷ [])
+holds_then held [] [] l one holds hold = hold
+holds_then held (load ∷ ls) (first ∷ all) l one holds hold = (holds.0, holds_then held ls all l one holds.1 hold)
+holds_then held [] (first ∷ all) l one holds hold = absurd holds
+holds_then held (load ∷ ls) [] l one holds hold = absurd holds
+
+pub loads_then : (ls : List Load) (all : List Loaded) (l : Load) (one : Loaded) (a b c : FilesSeen) → b.contents ≡ a.contents → Loads ls a b all → Loads (l ∷ []) b c (one ∷ []) → Loads (ls ++ l ∷ []) a c (all ++ one ∷ [])
+loads_then ls all l one a b c same first last = record {
+  fits = fits_then ls all l one first.fits last.fits;
+  holds = go a.contents first.holds (subst (λ (o : Option Contents). IfSome o (λ held. HoldsEach held (l ∷ []) (one ∷ []))) same last.holds);
+  none = λ told. none_since a.load_count b.load_count c.load_count (first.none told) (last.none (told_as_before a.contents b.contents same told));
+}
   where
-    go : (c : Option Contents) (s : Stop) → IfSome c (λ held. IsFine held load) → IsSteadyStop loads c s → IsSteadyStop (load ∷ loads) c s
-    go None (stop.Failed name) fine is = tt
-    go (Some held) (stop.Failed name) fine is = inr (fine, is)
-    go c (stop.TooLong name) fine is = tt
-    go c stop.Memory fine is = tt
+    go : (o : Option Contents) → IfSome o (λ held. HoldsEach held ls all) → IfSome o (λ held. HoldsEach held (l ∷ []) (one ∷ [])) → IfSome o (λ held. HoldsEach held (ls ++ l ∷ []) (all ++ one ∷ []))
+    go None holds hold = tt
+    go (Some held) holds hold = holds_then held ls all l one holds hold
 
-pub fine_text : (contents : Option Contents) (load : Load) (text : Result (List PlainModel) TextFault) → IfSome contents (λ held. HoldsText held load text) → IfSome contents (λ held. IsFine held load)
-fine_text None load text holds = tt
-fine_text (Some held) load text holds = record { bytes = holds.bytes; there = holds.there; short = holds.short }
+loaded_fine : (held : Contents) (load : Load) (one : Loaded) → HoldsLoaded held load one → IsFine held load
+loaded_fine held load (loaded.Netlist text) holds = record { bytes = holds.bytes; there = holds.there; short = holds.short; fact = tt }
+loaded_fine held load (loaded.Bytes bytes) holds = record { bytes = holds.bytes; there = holds.there; short = holds.short; fact = tt }
 
-pub ruleset more_loads = (stop_first, steady_first)
+-- files that were loaded are there and within their limits
+pub all_fine : (held : Contents) (ls : List Load) (all : List Loaded) → HoldsEach held ls all → OfEach (IsFine held) ls
+all_fine held [] [] holds = tt
+all_fine held (load ∷ ls) (one ∷ all) holds = (loaded_fine held load one holds.0, all_fine held ls all holds.1)
+all_fine held [] (one ∷ all) holds = absurd holds
+all_fine held (load ∷ ls) [] holds = absurd holds
+
+one_behind : {A : Type 0} (P : A → Type 0) (first : List A) (x : A) (later : List A) → OfOne P (x ∷ []) → OfOne P (first ++ x ∷ later)
+one_behind P [] x later (inl here) = inl here
+one_behind P [] x later (inr none) = absurd none
+one_behind P (y ∷ first) x later one = inr (one_behind P first x later one)
+
+first_behind : (held : Contents) (P : Load → Type 0) (first : List Load) (x : Load) (later : List Load) → OfEach (IsFine held) first → OfFirst held P (x ∷ []) → OfFirst held P (first ++ x ∷ later)
+first_behind held P [] x later fine (inl here) = inl here
+first_behind held P [] x later fine (inr none) = absurd none.1
+first_behind held P (y ∷ first) x later fine one = inr (fine.0, first_behind held P first x later fine.1 one)
+
+module _ (first : List Load) (all : List Loaded) (load : Load) (later : List Load) (a b c : FilesSeen) (same : b.contents ≡ a.contents) (fell : NoneFell a.load_count b.load_count) (loads : Loads first a b all) where
+  first_of : (P : Contents → Load → Type 0) → IfSome b.contents (λ held. OfFirst held (P held) (load ∷ [])) → IfSome a.contents (λ held. OfFirst held (P held) (first ++ load ∷ later))
+  first_of P one = go a.contents loads.holds (subst (λ (o : Option Contents). IfSome o (λ held. OfFirst held (P held) (load ∷ []))) same one)
+    where
+      go : (o : Option Contents) → IfSome o (λ held. HoldsEach held first all) → IfSome o (λ held. OfFirst held (P held) (load ∷ [])) → IfSome o (λ held. OfFirst held (P held) (first ++ load ∷ later))
+      go None holds one = tt
+      go (Some held) holds one = first_behind held (P held) first load later (all_fine held first all holds) one
+
+  none_of : (IsTold b → NoneRose b.load_count c.load_count) → IsTold a → NoneRose a.load_count c.load_count
+  none_of none told = none_since a.load_count b.load_count c.load_count (loads.none told) (none (told_as_before a.contents b.contents same told))
+
+  risen : (name : List ℕ) → OfOne (λ l. LoadRose b c l × (name ≡ l.name)) (load ∷ []) → OfOne (λ l. LoadRose a c l × (name ≡ l.name)) (load ∷ [])
+  risen name (inl here) = inl (rose_since a.contents (a.load_count load.name) (b.load_count load.name) (c.load_count load.name) (fell load.name) (subst (λ (o : Option Contents). RoseOf o (b.load_count load.name) (c.load_count load.name)) same here.0), here.1)
+  risen name (inr none) = absurd none
+
+  pub stop_behind : (why : Stop) → IsStop (load ∷ []) b c why → IsStop (first ++ load ∷ later) a c why
+  stop_behind (stop.Failed name) is = one_behind (λ l. LoadRose a c l × (name.now ≡ l.name)) first load later (risen name.now is)
+  stop_behind (stop.TooLong name) is = (first_of (λ held l. IsLong held l × (name.now ≡ l.name)) is.0, none_of is.1)
+  stop_behind stop.Memory is = none_of is
+
+  pub steady_behind : (why : Stop) → IsSteadyStop (load ∷ []) b.contents why → IsSteadyStop (first ++ load ∷ later) a.contents why
+  steady_behind (stop.Failed name) is = first_of IsMissing is
+  steady_behind (stop.TooLong name) is = tt
+  steady_behind stop.Memory is = tt
+
+-- ---- the loop
+
+pub split_at : (ws : List LoadWords) (i : ℕ) (d : LoadWords) → i < length ws → map load_in ws ≡ map load_in (take i ws) ++ load_in (get_or ws i d) ∷ map load_in (drop (i + 1) ws)
+split_at ws i d h =
+    let cut : drop i ws ≡ get_or ws i d ∷ drop (i + 1) ws = rw (add-one, drop-cons ws i d h) refl in
+    ap (map load_in) (sym (take-append-drop i ws) ∙ ap (λ (t : List LoadWords). take i ws ++ t) cut) ∙ map-append load_in (take i ws) (get_or ws i d ∷ drop (i + 1) ws)
+
+pub one_more : (ws : List LoadWords) (i : ℕ) (d : LoadWords) → i < length ws → map load_in (take (i + 1) ws) ≡ map load_in (take i ws) ++ load_in (get_or ws i d) ∷ []
+one_more ws i d h = ap (map load_in) (take_more ws i d h) ∙ map-append load_in (take i ws) (get_or ws i d ∷ [])
+
+module _ (ws : List LoadWords) (i : ℕ) (x : LoadWords) (a b c : FilesSeen) (within : i < length ws) (is : x ≡ get_or ws i x) (same : b.contents ≡ a.contents) (before : ChangesOnly (map load_name (map load_in ws)) [] a b) where
+  -- one of the files is loaded
+  pub change_in : ChangesOnly (x.name.now ∷ []) [] b c → ChangesOnly (map load_name (map load_in ws)) [] a c
+  change_in one =
+      changes_then (map load_name (map load_in ws)) [] a b c before
+      (changes_more (x.name.now ∷ []) [] (map load_name (map load_in ws)) [] b c one_of (λ name none. none) one)
+    where
+      names : map load_name (map load_in ws) ≡ map load_name (map load_in (take i ws)) ++ x.name.now ∷ map load_name (map load_in (drop (i + 1) ws))
+      names = ap (map load_name) (split_at ws i x within) ∙ (map-append load_name (map load_in (take i ws)) (load_in (get_or ws i x) ∷ map load_in (drop (i + 1) ws))
+          ∙ ap (λ (w : LoadWords). map load_name (map load_in (take i ws)) ++ w.name.now ∷ map load_name (map load_in (drop (i + 1) ws))) (sym is))
+
+      one_of : (name : List ℕ) → IsNone (map load_name (map load_in ws)) name → IsNone (x.name.now ∷ []) name
+      one_of name none = none_at (map load_name (map load_in (take i ws))) x.name.now (map load_name (map load_in (drop (i + 1) ws))) name (subst (λ (ns : List (List ℕ)). IsNone ns name) names none)
+
+  split : map load_in ws ≡ map load_in (take i ws) ++ load_in x ∷ map load_in (drop (i + 1) ws)
+  split = split_at ws i x within ∙ ap (λ (w : LoadWords). map load_in (take i ws) ++ load_in w ∷ map load_in (drop (i + 1) ws)) (sym is)
+
+  module _ (all : List Loaded) (loads : Loads (map load_in (take i ws)) a b all) where
+    pub stop_in : (why : Stop) → IsStop (load_in x ∷ []) b c why → IsStop (map load_in ws) a c why
+    stop_in why at = subst (λ (ls : List Load). IsStop ls a c why) (sym split) (stop_behind (map load_in (take i ws)) all (load_in x) (map load_in (drop (i + 1) ws)) a b c same before.loads loads why at)
+
+    pub steady_in : (why : Stop) → IsSteadyStop (load_in x ∷ []) b.contents why → IsSteadyStop (map load_in ws) a.contents why
+    steady_in why at = subst (λ (ls : List Load). IsSteadyStop ls a.contents why) (sym split) (steady_behind (map load_in (take i ws)) all (load_in x) (map load_in (drop (i + 1) ws)) a b c same before.loads loads why at)
+
+    pub loads_in : (one : Loaded) (items : List Loaded) → Loads (load_in x ∷ []) b c (one ∷ []) → items ≡ all ++ one ∷ [] → Loads (map load_in (take (i + 1) ws)) a c items
+    loads_in one items at pushed =
+        let more : map load_in (take (i + 1) ws) ≡ map load_in (take i ws) ++ load_in x ∷ [] = one_more ws i x within ∙ ap (λ (w : LoadWords). map load_in (take i ws) ++ load_in w ∷ []) (sym is) in
+        subst (λ (ls : List Load). Loads ls a c items) (sym more) (subst (λ (l : List Loaded). Loads (map load_in (take i ws) ++ load_in x ∷ []) a c l) (sym pushed)
+        (loads_then (map load_in (take i ws)) all (load_in x) one a b c same loads at))

@@ -1,5 +1,6 @@
 -- Verdicts over a pair, and that its files give one pair or none.
-use Rattle.std.proofs.Common.{◌≡◌, ◌≢◌, ℕ, List, Option, Some, Result, Ok, Err, inl, inr, refl, subst}
+use Rattle.std.proofs.Common.{◌≡◌, ◌≢◌, ℕ, Bool, List, [], Option, Some, Result, Ok, Err, inl, inr, refl, sym, ap, subst, ◌∙◌}
+use Rattle.std.specs.Prelude.{count_by}
 use Rattle.std.specs.FinMap.{get}
 use Rattle.certificate.specs.Gives.{Fails}
 use Rattle.certificate.specs.declared.fault.CertFault.{CertFault}
@@ -7,63 +8,100 @@ use Rattle.certificate.specs.declared.fault.CertFault.TheVariants as faults
 use Rattle.flat_net.specs.Net.{Net}
 use Rattle.certificate.specs.Cert.{PlainCert}
 use Rattle.certificate.specs.Reading.{cert_of_text}
-use Rattle.certificate.specs.Rules.{Corresponds, IsFirstFailure}
-use Rattle.net_meaning.specs.Meaning.{TracesAreUnique}
-use Rattle.validator.specs.Masking.{Masks}
+use Rattle.certificate.specs.Rules.{FreeCorresponds, IsFirstFreeFailure}
+use Rattle.certificate.specs.Starts.{counted}
+use Rattle.net_meaning.specs.Meaning.{FreeTracesAreUnique}
+use Rattle.validator.specs.Masking.{Masks, FreeMasks}
 use Rattle.tmr_outside.specs.Contents.{Contents}
-use Rattle.tmr_top.specs.Line.{Pair, Validate}
-use Rattle.tmr_top.specs.Loads.{Load, original_file, hardened_file, certificate_file, loads_of, OfEach, IsFine}
-use Rattle.tmr_top.specs.Loaded.{HoldsBytes, HoldsPairTexts}
-use Rattle.tmr_top.specs.declared.loads.PairTexts.{PairTexts}
+use Rattle.tmr_top.specs.declared.decision.Work.{Work}
+use Rattle.tmr_top.specs.declared.decision.Verdict.{Verdict}
+use Rattle.tmr_top.specs.declared.decision.Verdict.TheVariants.{Done, NotAccepted, Refused}
+use Rattle.tmr_top.specs.FileWords.{texts_in}
+use Rattle.tmr_top.specs.Line.{Command, Pair, Validate}
+use Rattle.tmr_top.specs.Loads.{Load, original_file, hardened_file, certificate_file}
+use Rattle.tmr_top.specs.Loaded.{HoldsBytes}
 use Rattle.tmr_top.specs.Designs.{HoldsDesign, HoldsNoDesign}
 use Rattle.tmr_top.specs.Reasons.{cert_reason}
 use Rattle.tmr_top.specs.Texts.{accepted_line, not_accepted_line, refused_line}
-use Rattle.tmr_top.specs.Pairs.{ReadPair, HoldsCertificate, HoldsNoCertificate, HoldsPair, Accepts, Validates, Differs, Masked, SaysAccepted, SaysNotAccepted, SaysPairUnread}
-use Rattle.tmr_top.specs.Judged.{SaysFileUnread}
+use Rattle.tmr_top.specs.Pairs.{ReadPair, HoldsCertificate, HoldsNoCertificate, HoldsPair, Accepts, Masked}
+use Rattle.tmr_top.specs.Validated.{IsNotAccepted, IsPairUnread}
+use Rattle.tmr_top.specs.Outcomes.{Outcome}
+use Rattle.tmr_top.specs.Works.{IsWork}
 use Rattle.tmr_top.proofs.DesignLaws.{one_design, design_or_none}
+
+-- ---- works
+
+-- a work of this verdict
+pub outcome_work : (c : Command) (held : Contents) (w : Work) (v : Verdict) → w.verdict ≡ v → Outcome c held v (texts_in w.saves.items) w.text.items → ((p : Pair) → c ≡ Validate p → w.verdict ≡ Done → Masked held p) → IsWork c held w
+outcome_work c held w v is outcome masks = record {
+  outcome = subst (λ (q : Verdict). Outcome c held q (texts_in w.saves.items) w.text.items) (sym is) outcome;
+  masks = masks;
+}
+
+-- a work that is not done masks nothing
+not_done : (held : Contents) (c : Command) (v w : Verdict) → v ≡ w → w ≢ Done → (p : Pair) → c ≡ Validate p → v ≡ Done → Masked held p
+not_done held c v w is other p line done = absurd (other (sym is ∙ done))
 
 -- ---- what is said
 
-module _ (held : Contents) (p : Pair) (text : List ℕ) (n h : Net) (a c : ℕ) (one : HoldsDesign held (original_file p.original) n a) (other : HoldsDesign held (hardened_file p.hardened) h c) where
-  pub says_accepted : (k : PlainCert) → HoldsCertificate held (certificate_file p.certificate) n h k → text ≡ accepted_line k a c → Corresponds n h k → Masks n h k → TracesAreUnique n → TracesAreUnique h → SaysAccepted held p text
-  says_accepted k read says holds masks runs hardened_runs = record {
-    masked = record {
-      pair = record { original = n; assumed = a; hardened = h; hardened_assumed = c; certificate = k };
-      holds = record { original_read = one; hardened_read = other; certificate_read = read };
-      accepts = holds;
-      is_masking = record { masks = masks; original_runs = runs; hardened_runs = hardened_runs };
-    };
-    says = says;
-  }
+module _ (held : Contents) (p : Pair) (w : Work) (n h : Net) (a c : List Bool) (one : HoldsDesign held (original_file p.original) n a) (other : HoldsDesign held (hardened_file p.hardened) h c) where
+  pub accepted_work : (k : PlainCert) → HoldsCertificate held (certificate_file p.certificate) n h k → w.verdict ≡ Done → texts_in w.saves.items ≡ [] → w.text.items ≡ accepted_line k (count_by (λ bit. bit) a) (count_by (λ bit. bit) c) → FreeCorresponds n a h c k → Masks n h k → FreeMasks n a h c k → FreeTracesAreUnique n (counted k a) → FreeTracesAreUnique h (counted k c) → IsWork (Validate p) held w
+  accepted_work k read done none says accepts masks free_masks runs hardened_runs =
+      outcome_work (Validate p) held w Done done (record { pair = pair; holds = holds; accepts = accepts; says = says }, none) masked
+    where
+      pair : ReadPair
+      pair = record { original = n; free = a; hardened = h; hardened_free = c; certificate = k }
 
-  pub says_not_accepted : (k : PlainCert) (rule place : ℕ) → HoldsCertificate held (certificate_file p.certificate) n h k → text ≡ not_accepted_line h rule place → IsFirstFailure n h k rule place → SaysNotAccepted held p text
-  says_not_accepted k rule place read says first = record {
-    pair = record { original = n; assumed = a; hardened = h; hardened_assumed = c; certificate = k };
-    holds = record { original_read = one; hardened_read = other; certificate_read = read };
-    rule = rule;
-    place = place;
-    first = first;
-    says = says;
-  }
+      holds : HoldsPair held p pair
+      holds = record { original_read = one; hardened_read = other; certificate_read = read }
 
-  pub says_certificate : (fault : CertFault) → HoldsNoCertificate held (certificate_file p.certificate) n h fault → text ≡ refused_line p.certificate (cert_reason fault) → SaysFileUnread held p text
-  says_certificate fault unread says = inr (inr (record {
-    original = n;
-    assumed = a;
-    original_read = one;
-    hardened = h;
-    hardened_assumed = c;
-    hardened_read = other;
-    fault = fault;
-    unread = unread;
-    says = says;
-  }))
+      here : Masked held p
+      here = record {
+        pair = pair;
+        holds = holds;
+        accepts = accepts;
+        is_masking = record { masks = masks; free_masks = free_masks; original_runs = runs; hardened_runs = hardened_runs };
+      }
 
-pub says_hardened : (held : Contents) (p : Pair) (text : List ℕ) (n : Net) (a : ℕ) (reason : List ℕ) → HoldsDesign held (original_file p.original) n a → HoldsNoDesign held (hardened_file p.hardened) reason → text ≡ refused_line p.hardened reason → SaysFileUnread held p text
-says_hardened held p text n a reason one unread says = inr (inl (record { original = n; assumed = a; original_read = one; reason = reason; unread = unread; says = says }))
+      masked : (q : Pair) → Validate p ≡ Validate q → w.verdict ≡ Done → Masked held q
+      masked q is done = let same : p ≡ q = cc in subst (Masked held) same here
 
-pub says_original : (held : Contents) (p : Pair) (text reason : List ℕ) → HoldsNoDesign held (original_file p.original) reason → text ≡ refused_line p.original reason → SaysFileUnread held p text
-says_original held p text reason unread says = inl (record { reason = reason; unread = unread; says = says })
+  pub not_accepted_work : (k : PlainCert) (rule place : ℕ) → HoldsCertificate held (certificate_file p.certificate) n h k → w.verdict ≡ NotAccepted → w.text.items ≡ not_accepted_line h rule place → IsFirstFreeFailure n a h c k rule place → IsWork (Validate p) held w
+  not_accepted_work k rule place read is says first = outcome_work (Validate p) held w NotAccepted is
+      (record {
+        pair = record { original = n; free = a; hardened = h; hardened_free = c; certificate = k };
+        holds = record { original_read = one; hardened_read = other; certificate_read = read };
+        rule = rule;
+        place = place;
+        first = first;
+        says = says;
+      })
+      (not_done held (Validate p) w.verdict NotAccepted is (λ e. cc))
+
+  pub certificate_work : (fault : CertFault) → HoldsNoCertificate held (certificate_file p.certificate) n h fault → w.verdict ≡ Refused → w.text.items ≡ refused_line p.certificate (cert_reason fault) → IsWork (Validate p) held w
+  certificate_work fault unread is says = outcome_work (Validate p) held w Refused is
+      (inr (inr (record {
+        original = n;
+        free = a;
+        original_read = one;
+        hardened = h;
+        hardened_free = c;
+        hardened_read = other;
+        fault = fault;
+        unread = unread;
+        says = says;
+      })))
+      (not_done held (Validate p) w.verdict Refused is (λ e. cc))
+
+pub hardened_work : (held : Contents) (p : Pair) (w : Work) (n : Net) (a : List Bool) (reason : List ℕ) → HoldsDesign held (original_file p.original) n a → HoldsNoDesign held (hardened_file p.hardened) reason → w.verdict ≡ Refused → w.text.items ≡ refused_line p.hardened reason → IsWork (Validate p) held w
+hardened_work held p w n a reason one unread is says = outcome_work (Validate p) held w Refused is
+    (inr (inl (record { original = n; free = a; original_read = one; reason = reason; unread = unread; says = says })))
+    (not_done held (Validate p) w.verdict Refused is (λ e. cc))
+
+pub original_work : (held : Contents) (p : Pair) (w : Work) (reason : List ℕ) → HoldsNoDesign held (original_file p.original) reason → w.verdict ≡ Refused → w.text.items ≡ refused_line p.original reason → IsWork (Validate p) held w
+original_work held p w reason unread is says = outcome_work (Validate p) held w Refused is
+    (inl (record { reason = reason; unread = unread; says = says }))
+    (not_done held (Validate p) w.verdict Refused is (λ e. cc))
 
 -- a fault that is no want of memory is what reading gives
 pub read_fault : (fault : CertFault) (read : Result PlainCert CertFault) → Fails fault read → fault ≢ faults.Memory → read ≡ Err fault
@@ -75,26 +113,16 @@ read_fault (faults.Doubled n) read fails caused = fails
 read_fault faults.Memory read fails caused = absurd (caused refl)
 
 pub holds_certificate : (held : Contents) (load : Load) (bytes : List ℕ) (n h : Net) (k : PlainCert) → HoldsBytes held load bytes → cert_of_text n h bytes ≡ Ok k → HoldsCertificate held load n h k
-holds_certificate held load bytes n h k holds read = record { bytes = bytes; there = holds.there; short = holds.short; read = read }
+holds_certificate held load bytes n h k holds read = record { bytes = holds.bytes; there = holds.there; short = holds.short; fact = ap (cert_of_text n h) holds.fact ∙ read }
 
 pub holds_no_certificate : (held : Contents) (load : Load) (bytes : List ℕ) (n h : Net) (fault : CertFault) → HoldsBytes held load bytes → cert_of_text n h bytes ≡ Err fault → HoldsNoCertificate held load n h fault
-holds_no_certificate held load bytes n h fault holds unread = record { bytes = bytes; there = holds.there; short = holds.short; unread = unread }
-
--- files that were loaded are there and within their limits
-pub all_fine : (held : Contents) (p : Pair) (t : PairTexts) → HoldsPairTexts held p t → OfEach (IsFine held) (loads_of (Validate p))
-all_fine held p t holds = (
-  record { bytes = holds.original.bytes; there = holds.original.there; short = holds.original.short },
-  (
-    record { bytes = holds.hardened.bytes; there = holds.hardened.there; short = holds.hardened.short },
-    (record { bytes = t.certificate.items; there = holds.certificate.there; short = holds.certificate.short }, tt),
-  ),
-)
+holds_no_certificate held load bytes n h fault holds unread = record { bytes = holds.bytes; there = holds.there; short = holds.short; fact = ap (cert_of_text n h) holds.fact ∙ unread }
 
 -- ---- one pair, or none
 
-same_pair : (n m h g : Net) (a b c d : ℕ) (k l : PlainCert) → n ≡ m → a ≡ b → h ≡ g → c ≡ d → k ≡ l →
-    let r : ReadPair = record { original = n; assumed = a; hardened = h; hardened_assumed = c; certificate = k } in
-    let s : ReadPair = record { original = m; assumed = b; hardened = g; hardened_assumed = d; certificate = l } in
+same_pair : (n m h g : Net) (a b c d : List Bool) (k l : PlainCert) → n ≡ m → a ≡ b → h ≡ g → c ≡ d → k ≡ l →
+    let r : ReadPair = record { original = n; free = a; hardened = h; hardened_free = c; certificate = k } in
+    let s : ReadPair = record { original = m; free = b; hardened = g; hardened_free = d; certificate = l } in
     r ≡ s
 same_pair n m h g a b c d k l one two three four five = cc
 
@@ -113,41 +141,37 @@ ok_or_err x y e k f g h = cc
 
 pub one_pair : (held : Contents) (p : Pair) (r s : ReadPair) → HoldsPair held p r → HoldsPair held p s → r ≡ s
 one_pair held p r s one other =
-    let original = one_design held (original_file p.original) r.original s.original r.assumed s.assumed one.original_read other.original_read in
-    let hardened = one_design held (hardened_file p.hardened) r.hardened s.hardened r.hardened_assumed s.hardened_assumed one.hardened_read other.hardened_read in
+    let original = one_design held (original_file p.original) r.original s.original r.free s.free one.original_read other.original_read in
+    let hardened = one_design held (hardened_file p.hardened) r.hardened s.hardened r.hardened_free s.hardened_free one.hardened_read other.hardened_read in
     let bytes = same_bytes (get held p.certificate) one.certificate_read.bytes other.certificate_read.bytes one.certificate_read.there other.certificate_read.there in
     let text = same_text r.original s.original r.hardened s.hardened one.certificate_read.bytes other.certificate_read.bytes original.0 hardened.0 bytes in
-    let certificate = same_ok (cert_of_text r.original r.hardened one.certificate_read.bytes) (cert_of_text s.original s.hardened other.certificate_read.bytes) r.certificate s.certificate text one.certificate_read.read other.certificate_read.read in
-    same_pair r.original s.original r.hardened s.hardened r.assumed s.assumed r.hardened_assumed s.hardened_assumed r.certificate s.certificate original.0 original.1 hardened.0 hardened.1 certificate
+    let certificate = same_ok (cert_of_text r.original r.hardened one.certificate_read.bytes) (cert_of_text s.original s.hardened other.certificate_read.bytes) r.certificate s.certificate text one.certificate_read.fact other.certificate_read.fact in
+    same_pair r.original s.original r.hardened s.hardened r.free s.free r.hardened_free s.hardened_free r.certificate s.certificate original.0 original.1 hardened.0 hardened.1 certificate
 
 -- what is refused is not read
-pub unread_pair : (held : Contents) (p : Pair) (text : List ℕ) (r : ReadPair) → SaysPairUnread held p text → HoldsPair held p r → ⊥
-unread_pair held p text r unread read = go unread.says
+pub unread_pair : (held : Contents) (p : Pair) (text : List ℕ) (r : ReadPair) → IsPairUnread p held text → HoldsPair held p r → ⊥
+unread_pair held p text r unread read = go unread
   where
-    go : SaysFileUnread held p text → ⊥
-    go (inl says) = design_or_none held (original_file p.original) r.original r.assumed says.reason read.original_read says.unread
-    go (inr (inl says)) = design_or_none held (hardened_file p.hardened) r.hardened r.hardened_assumed says.reason read.hardened_read says.unread
+    go : IsPairUnread p held text → ⊥
+    go (inl says) = design_or_none held (original_file p.original) r.original r.free says.reason read.original_read says.unread
+    go (inr (inl says)) = design_or_none held (hardened_file p.hardened) r.hardened r.hardened_free says.reason read.hardened_read says.unread
     go (inr (inr says)) =
-        let original = one_design held (original_file p.original) says.original r.original says.assumed r.assumed says.original_read read.original_read in
-        let hardened = one_design held (hardened_file p.hardened) says.hardened r.hardened says.hardened_assumed r.hardened_assumed says.hardened_read read.hardened_read in
+        let original = one_design held (original_file p.original) says.original r.original says.free r.free says.original_read read.original_read in
+        let hardened = one_design held (hardened_file p.hardened) says.hardened r.hardened says.hardened_free r.hardened_free says.hardened_read read.hardened_read in
         let bytes = same_bytes (get held p.certificate) says.unread.bytes read.certificate_read.bytes says.unread.there read.certificate_read.there in
         let same = same_text says.original r.original says.hardened r.hardened says.unread.bytes read.certificate_read.bytes original.0 hardened.0 bytes in
-        ok_or_err (cert_of_text says.original says.hardened says.unread.bytes) (cert_of_text r.original r.hardened read.certificate_read.bytes) says.fault r.certificate same says.unread.unread read.certificate_read.read
-
-pub differing : (held : Contents) (p : Pair) (text : List ℕ) → SaysNotAccepted held p text → Differs held p
-differing held p text says = record { pair = says.pair; holds = says.holds; fails = λ accepts. says.first.fails (accepts says.rule says.place) }
-
-pub validated : (held : Contents) (p : Pair) → Masked held p → Validates held p
-validated held p masked = record { pair = masked.pair; holds = masked.holds; accepts = masked.accepts }
+        ok_or_err (cert_of_text says.original says.hardened says.unread.bytes) (cert_of_text r.original r.hardened read.certificate_read.bytes) says.fault r.certificate same says.unread.fact read.certificate_read.fact
 
 -- a pair that is accepted does not differ
-pub agrees : (held : Contents) (p : Pair) → Validates held p → Differs held p → ⊥
-agrees held p validates differs = differs.fails (subst Accepts (one_pair held p validates.pair differs.pair validates.holds differs.holds) validates.accepts)
+pub agrees : (held : Contents) (p : Pair) (r : ReadPair) (text : List ℕ) → HoldsPair held p r → Accepts r → IsNotAccepted p held text → ⊥
+agrees held p r text holds accepts differs =
+    let there : Accepts differs.pair = subst Accepts (one_pair held p r differs.pair holds differs.holds) accepts in
+    differs.first.fails (there differs.rule differs.place)
 
-pub ruleset verdicts = (says_accepted, says_not_accepted, holds_certificate)
+pub ruleset verdicts = (accepted_work, not_accepted_work, holds_certificate)
 
-pub ruleset certificate_refusals = (says_certificate, holds_certificate, holds_no_certificate)
+pub ruleset certificate_refusals = (certificate_work, holds_certificate, holds_no_certificate, read_fault)
 
-pub ruleset hardened_refusals = (says_hardened)
+pub ruleset hardened_refusals = (hardened_work)
 
-pub ruleset original_refusals = (says_original)
+pub ruleset original_refusals = (original_work)

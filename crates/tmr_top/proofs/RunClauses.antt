@@ -1,22 +1,23 @@
--- When each status comes, from what a run prints and leaves.
+-- When each status comes, from what a run saves and prints.
 use Rattle.std.proofs.Common.{◌≡◌, ◌≢◌, ◌⊎◌, ℕ, ◌<◌, ◌≤◌, List, [], ◌∷◌, length, Option, Some, None, inl, inr, refl, sym, ap, subst, ◌∙◌, arith}
-use Rattle.std.specs.Prelude.{IfSome, IsSome, IsSomeAnd}
+use Rattle.std.specs.Prelude.{IfSome, IsSome, IsSomeAnd, codes}
 use Rattle.std.specs.FinMap.{get}
 use Rattle.tmr_outside.specs.Contents.{Contents}
-use Rattle.tmr_outside.specs.Counts.{Rose, NoneRose}
+use Rattle.tmr_outside.specs.Counts.{Rose, RoseOf, NoneRose}
+use Rattle.tmr_outside.specs.Seen.{FilesSeen, SinkSeen, IsTold}
+use Rattle.tmr_top.specs.declared.decision.Verdict.{Verdict}
+use Rattle.tmr_top.specs.declared.decision.Verdict.TheVariants as verdict
 use Rattle.tmr_top.specs.declared.status.Status.{Status}
 use Rattle.tmr_top.specs.declared.status.Status.TheVariants as status
-use Rattle.tmr_top.specs.Line.{Command, Pair, Flattening, Validate, Flatten}
-use Rattle.tmr_top.specs.Loads.{Load, loads_of, saves_of, OfOne, OfEach, OfFirst, IsLong, IsMissing, IsFine, Seen, LoadRose, SaveRose}
-use Rattle.std.specs.Prelude.{codes}
-use Rattle.tmr_outside.specs.Counts.{RoseOf}
-use Rattle.tmr_top.specs.Loads.{original_file}
+use Rattle.tmr_top.specs.Line.{Command}
+use Rattle.tmr_top.specs.Loads.{Load, loads_of, saves_of}
+use Rattle.tmr_top.specs.Files.{OfOne, OfEach, OfFirst, IsLong, IsMissing, IsFine}
+use Rattle.tmr_top.specs.Changes.{LoadRose, SaveRose}
+use Rattle.tmr_top.specs.Causes.{Where, OrMemory, ComesTo, IsRefusable, Succeeds, Disagrees, SomeMissing, SomeLoadRose, SomeSaveRose}
+use Rattle.tmr_top.specs.Saves.{IsDone, Completes, IsBroken}
 use Rattle.tmr_top.specs.Texts.{load_fault_line, save_fault_line, refused_line}
-use Rattle.tmr_top.specs.Pairs.{Masked}
-use Rattle.tmr_top.specs.Flattened.{IsFlattened}
-use Rattle.tmr_top.specs.Runs.{AllRead, IsRefusable, Succeeds, Disagrees, SomeMissing, SomeLoadRose, SomeSaveRose, SaysTooLong, SaysLoadFault, SaysSaveFault, SaysDone, SaysDisagree, SaysUnread, PrintsOf, Prints, Leaves, Ran}
-use Rattle.tmr_top.proofs.DesignLaws.{design_or_none}
-use Rattle.tmr_top.proofs.PairLaws.{unread_pair, differing, validated, agrees}
+use Rattle.tmr_top.specs.Runs.{Untouched, Says, SaysTooLong, SaysLoadFault, SaysSaveFault, SaysBroken, Performs, Acts, Ran}
+use Rattle.tmr_top.proofs.OutcomeLaws.{one_verdict}
 use Rattle.tmr_top.proofs.RunLaws.{same_status}
 
 -- ---- files that are there, too long, or missing
@@ -64,67 +65,57 @@ missing_or_long held text (load ∷ loads) (inl missing) (inr later) = fine_not_
 missing_or_long held text (load ∷ loads) (inr later) (inl long) = fine_not_long held load later.0 long.0
 missing_or_long held text (load ∷ loads) (inr missing) (inr long) = missing_or_long held text loads missing.1 long.1
 
--- ---- commands whose files are read
+-- ---- what a command comes to
 
-read_fine : (held : Contents) (c : Command) → AllRead held c → OfEach (IsFine held) (loads_of c)
-read_fine held (Validate p) (r, pair) = (
-  record { bytes = pair.original_read.bytes; there = pair.original_read.there; short = pair.original_read.short },
-  (
-    record { bytes = pair.hardened_read.bytes; there = pair.hardened_read.there; short = pair.hardened_read.short },
-    (record { bytes = pair.certificate_read.bytes; there = pair.certificate_read.there; short = pair.certificate_read.short }, tt),
-  ),
-)
-read_fine held (Flatten f) flattens = (record { bytes = flattens.holds.bytes; there = flattens.holds.there; short = flattens.holds.short }, tt)
+done_comes : (c : Command) (held : Contents) (now : Option Contents) (text : List ℕ) → IsDone c held now text → Succeeds c held
+done_comes c held now text is = record { fine = is.fine; saved = is.saved; text = text; outcome = is.outcome }
 
-unread_or_read : (held : Contents) (c : Command) (text : List ℕ) → SaysUnread held c text → AllRead held c → ⊥
-unread_or_read held (Validate p) text says (r, pair) = unread_pair held p text r says pair
-unread_or_read held (Flatten f) text says flattens = design_or_none held (original_file f.original) flattens.design flattens.assumed says.reason flattens.holds says.unread
+broken_comes : (c : Command) (held : Contents) (old new : FilesSeen) → IsBroken c held old new → Succeeds c held
+broken_comes c held old new is = record { fine = is.fine; saved = is.saved; text = is.text; outcome = is.outcome }
 
-unread_fine : (held : Contents) (c : Command) (text : List ℕ) → SaysUnread held c text → OfEach (IsFine held) (loads_of c)
-unread_fine held (Validate p) text says = says.fine
-unread_fine held (Flatten f) text says = (record { bytes = says.unread.bytes; there = says.unread.there; short = says.unread.short }, tt)
+says_comes : (c : Command) (held : Contents) (v : Verdict) (text : List ℕ) → Says c held v text → ComesTo v c held
+says_comes c held v text says = record { fine = says.fine; saved = says.saved; text = text; outcome = says.outcome }
 
-read_not_refusable : (held : Contents) (c : Command) → AllRead held c → IsRefusable held c → ⊥
-read_not_refusable held c read (inl long) = none_long held (loads_of c) (read_fine held c read) long
-read_not_refusable held c read (inr none) = none read
+too_long : (c : Command) (held : Contents) (text : List ℕ) → SaysTooLong c held text → OfOne (IsLong held) (loads_of c)
+too_long c held text says = long_of held (λ load. text ≡ refused_line load.name (codes "too long")) (loads_of c) says
 
-refusable : (held : Contents) (c : Command) (text : List ℕ) → SaysTooLong held c text ⊎ SaysUnread held c text → IsRefusable held c
-refusable held c text (inl long) = inl (long_of held (λ load. text ≡ refused_line load.name (codes "too long")) (loads_of c) long)
-refusable held c text (inr unread) = inr (unread_or_read held c text unread)
+module _ (c : Command) (held : Contents) where
+  two_comes : (v w : Verdict) → ComesTo v c held → ComesTo w c held → v ≡ w
+  two_comes v w one other = one_verdict c held v w one.saved other.saved one.text other.text one.outcome other.outcome
 
-done_succeeds : (held : Contents) (c : Command) (text : List ℕ) → SaysDone held c text → Succeeds held c
-done_succeeds held (Validate p) text says = validated held p says.masked
-done_succeeds held (Flatten f) text says = says.flattens
+  comes_not_long : (v : Verdict) → ComesTo v c held → OfOne (IsLong held) (loads_of c) → ⊥
+  comes_not_long v comes long = none_long held (loads_of c) comes.fine long
 
-says_disagrees : (held : Contents) (c : Command) (text : List ℕ) → SaysDisagree held c text → Disagrees held c
-says_disagrees held (Validate p) text says = differing held p text says
-says_disagrees held (Flatten f) text says = says
+  comes_not_missing : (v : Verdict) → ComesTo v c held → SomeMissing c held → ⊥
+  comes_not_missing v comes missing = none_missing held (loads_of c) comes.fine missing
 
-succeeds_read : (held : Contents) (c : Command) → Succeeds held c → AllRead held c
-succeeds_read held (Validate p) succeeds = (succeeds.pair, succeeds.holds)
-succeeds_read held (Flatten f) succeeds = succeeds
+  not_refusable : (v : Verdict) → v ≢ verdict.Refused → ComesTo v c held → IsRefusable c held → ⊥
+  not_refusable v differs comes (inl long) = comes_not_long v comes long
+  not_refusable v differs comes (inr refused) = differs (two_comes v verdict.Refused comes refused)
 
-disagrees_read : (held : Contents) (c : Command) → Disagrees held c → AllRead held c
-disagrees_read held (Validate p) disagrees = (disagrees.pair, disagrees.holds)
-disagrees_read held (Flatten f) disagrees = absurd disagrees
-
-succeeds_or_disagrees : (held : Contents) (c : Command) → Succeeds held c → Disagrees held c → ⊥
-succeeds_or_disagrees held (Validate p) succeeds disagrees = agrees held p succeeds disagrees
-succeeds_or_disagrees held (Flatten f) succeeds disagrees = disagrees
+  refusable : (text : List ℕ) → SaysTooLong c held text ⊎ Says c held verdict.Refused text → IsRefusable c held
+  refusable text (inl long) = inl (too_long c held text long)
+  refusable text (inr says) = inr (says_comes c held verdict.Refused text says)
 
 -- ---- what failed
 
-says_load_rose : (old new : Seen) (text : Load → Type 0) (loads : List Load) → OfOne (λ load. LoadRose old new load × text load) loads → OfOne (LoadRose old new) loads
+says_load_rose : (old new : FilesSeen) (text : Load → Type 0) (loads : List Load) → OfOne (λ load. LoadRose old new load × text load) loads → OfOne (LoadRose old new) loads
 says_load_rose old new text [] rose = rose
 says_load_rose old new text (load ∷ loads) (inl here) = inl here.0
 says_load_rose old new text (load ∷ loads) (inr later) = inr (says_load_rose old new text loads later)
 
-says_save_rose : (old new : Seen) (text : List ℕ → Type 0) (names : List (List ℕ)) → OfOne (λ name. SaveRose old new name × text name) names → OfOne (SaveRose old new) names
+says_save_rose : (old new : FilesSeen) (text : List ℕ → Type 0) (names : List (List ℕ)) → OfOne (λ name. SaveRose old new name × text name) names → OfOne (SaveRose old new) names
 says_save_rose old new text [] rose = rose
 says_save_rose old new text (name ∷ names) (inl here) = inl here.0
 says_save_rose old new text (name ∷ names) (inr later) = inr (says_save_rose old new text names later)
 
-quiet : (old new : Seen) (held : Contents) (c : Command) → old.contents ≡ Some held → NoneRose old.load_count new.load_count → SomeLoadRose c old new → ⊥
+load_rose : (c : Command) (old new : FilesSeen) (text : List ℕ) → SaysLoadFault c old new text → SomeLoadRose c old new
+load_rose c old new text says = says_load_rose old new (λ load. text ≡ load_fault_line load.name) (loads_of c) says
+
+save_rose : (c : Command) (old new : FilesSeen) (text : List ℕ) → SaysSaveFault c old new text → SomeSaveRose c old new
+save_rose c old new text says = says_save_rose old new (λ name. text ≡ save_fault_line name) (saves_of c) says
+
+quiet : (old new : FilesSeen) (held : Contents) (c : Command) → old.contents ≡ Some held → NoneRose old.load_count new.load_count → SomeLoadRose c old new → ⊥
 quiet old new held c told none rose = go (loads_of c) rose
   where
     risen : (load : Load) → LoadRose old new load → ⊥
@@ -137,135 +128,95 @@ quiet old new held c told none rose = go (loads_of c) rose
 
 -- ---- each status, from what was decided
 
-module _ (line : Option Command) (old new : Seen) (written writes : Option (List ℕ)) (puts puts_after : ℕ) (answered : Status) (run : Ran line old new written writes puts puts_after answered) where
-  decided_is : (s : Status) → s ≢ status.Fault → s ≢ status.Memory → answered ≡ s → run.decided ≡ s
-  decided_is s fault memory e = sym (same_status run.decided answered (Rose puts puts_after) run.ends.same (λ f. fault (sym e ∙ f)) (λ m. memory (sym e ∙ m))) ∙ e
-
-  prints_status : (s : Status) → s ≢ status.Fault → s ≢ status.Memory → answered ≡ s → Prints line old new s run.text
-  prints_status s fault memory e = subst (λ (q : Status). Prints line old new q run.text) (decided_is s fault memory e) run.prints
-
-  leaves_status : (s : Status) → s ≢ status.Fault → s ≢ status.Memory → answered ≡ s → Leaves line old new s
-  leaves_status s fault memory e = subst (λ (q : Status). Leaves line old new q) (decided_is s fault memory e) run.leaves
-
-  pub masks : (p : Pair) → line ≡ Some (Validate p) → answered ≡ status.Done → IfSome old.contents (λ held. Masked held p)
-  masks p is e = go old.contents (subst (λ (l : Option Command). Prints l old new status.Done run.text) is (prints_status status.Done (λ f. cc) (λ m. cc) e))
-    where
-      go : (o : Option Contents) → IfSome o (λ held. SaysDone held (Validate p) run.text) → IfSome o (λ held. Masked held p)
-      go None says = tt
-      go (Some held) says = says.masked
-
-  pub flattens : (f : Flattening) → line ≡ Some (Flatten f) → answered ≡ status.Done → IfSome old.contents (λ held. IsFlattened held f new.contents)
-  flattens f is e = subst (λ (l : Option Command). Leaves l old new status.Done) is (leaves_status status.Done (λ f. cc) (λ m. cc) e)
+module _ (line : Option Command) (old new : FilesSeen) (out put : SinkSeen) (answered : Status) (run : Ran line old new out put answered) where
+  acts_at : (s : Status) → s ≢ status.Fault → s ≢ status.Memory → answered ≡ s → Acts line old new s run.text
+  acts_at s fault memory e = subst (λ (q : Status). Acts line old new q run.text)
+      (sym (same_status run.decided answered (Rose out.put_count put.put_count) run.ends.same (λ f. fault (sym e ∙ f)) (λ m. memory (sym e ∙ m))) ∙ e) run.acts
 
   pub usage : answered ≡ status.Usage → line ≡ None
-  usage e = go line (prints_status status.Usage (λ f. cc) (λ m. cc) e)
+  usage e = go line (acts_at status.Usage (λ f. cc) (λ m. cc) e)
     where
-      go : (l : Option Command) → Prints l old new status.Usage run.text → l ≡ None
-      go None prints = refl
-      go (Some c) prints = absurd prints
+      go : (l : Option Command) → Acts l old new status.Usage run.text → l ≡ None
+      go None acts = refl
+      go (Some c) acts = absurd acts
 
-  pub usage_only : line ≡ None → (answered ≡ status.Usage) ⊎ (answered ≡ status.Memory)
-  usage_only e = go run.decided (subst (λ (l : Option Command). Prints l old new run.decided run.text) e run.prints) run.ends.same
+  pub usage_only : line ≡ None → OrMemory answered status.Usage
+  usage_only e = go (subst (λ (l : Option Command). Acts l old new run.decided run.text) e run.acts) run.ends.same
     where
-      go : (d : Status) → Prints None old new d run.text → (answered ≡ d) ⊎ (answered ≡ status.Memory) ⊎ ((answered ≡ status.Fault) × (d ≡ status.Done) × Rose puts puts_after) → (answered ≡ status.Usage) ⊎ (answered ≡ status.Memory)
-      go status.Usage prints (inl e) = inl e
-      go status.Usage prints (inr (inl e)) = inr e
-      go status.Usage prints (inr (inr e)) = let f = e.1 in absurd cc
-      go status.Memory prints (inl e) = inr e
-      go status.Memory prints (inr (inl e)) = inr e
-      go status.Memory prints (inr (inr e)) = let f = e.1 in absurd cc
-      go status.Done prints same = absurd prints
-      go status.NotAccepted prints same = absurd prints
-      go status.Refused prints same = absurd prints
-      go status.Fault prints same = absurd prints
+      go : Acts None old new run.decided run.text → (answered ≡ run.decided) ⊎ (answered ≡ status.Memory) ⊎ ((answered ≡ status.Fault) × (run.decided ≡ status.Done) × Rose out.put_count put.put_count) → OrMemory answered status.Usage
+      go acts (inr (inl memory)) = inr memory
+      go (same, inl is) (inl e) = inl (e ∙ is.0)
+      go (same, inr is) (inl e) = inr (e ∙ is.0)
+      go (same, inl is) (inr (inr failed)) = let usage = is.0 in let done = failed.1 in absurd cc
+      go (same, inr is) (inr (inr failed)) = let memory = is.0 in let done = failed.1 in absurd cc
 
-  pub fault : answered ≡ status.Fault → IsSomeAnd line (λ c. SomeLoadRose c old new ⊎ SomeSaveRose c old new ⊎ Rose puts puts_after)
-  fault e = go line run.prints run.ends.same
+  pub fault : answered ≡ status.Fault → IsSomeAnd line (λ c. SomeLoadRose c old new ⊎ SomeSaveRose c old new ⊎ Rose out.put_count put.put_count)
+  fault e = go line run.acts run.ends.same
     where
-      risen : (c : Command) → PrintsOf c old new status.Fault run.text → SomeLoadRose c old new ⊎ SomeSaveRose c old new ⊎ Rose puts puts_after
-      risen c (inl says) = inl (says_load_rose old new (λ load. run.text ≡ load_fault_line load.name) (loads_of c) says)
-      risen c (inr says) = inr (inl (says_save_rose old new (λ name. run.text ≡ save_fault_line name) (saves_of c) says.0))
+      risen : (c : Command) → Performs c old new status.Fault run.text → SomeLoadRose c old new ⊎ SomeSaveRose c old new ⊎ Rose out.put_count put.put_count
+      risen c (inl is) = inl (load_rose c old new run.text is.1)
+      risen c (inr is) = inr (inl (save_rose c old new run.text is.0))
 
-      not_done : (d : Status) → Prints None old new d run.text → d ≡ status.Done → ⊥
-      not_done status.Usage prints e = cc
-      not_done status.Memory prints e = cc
-      not_done status.Done prints e = absurd prints
-      not_done status.NotAccepted prints e = absurd prints
-      not_done status.Refused prints e = absurd prints
-      not_done status.Fault prints e = absurd prints
+      go : (l : Option Command) → Acts l old new run.decided run.text → (answered ≡ run.decided) ⊎ (answered ≡ status.Memory) ⊎ ((answered ≡ status.Fault) × (run.decided ≡ status.Done) × Rose out.put_count put.put_count) → IsSomeAnd l (λ c. SomeLoadRose c old new ⊎ SomeSaveRose c old new ⊎ Rose out.put_count put.put_count)
+      go None (same, inl is) (inl d) = let usage = is.0 in absurd cc
+      go None (same, inr is) (inl d) = let memory = is.0 in absurd cc
+      go None acts (inr (inl memory)) = absurd cc
+      go None (same, inl is) (inr (inr failed)) = let usage = is.0 in let done = failed.1 in absurd cc
+      go None (same, inr is) (inr (inr failed)) = let memory = is.0 in let done = failed.1 in absurd cc
+      go (Some c) acts (inl d) = risen c (subst (λ (s : Status). Performs c old new s run.text) (sym d ∙ e) acts)
+      go (Some c) acts (inr (inl memory)) = absurd cc
+      go (Some c) acts (inr (inr failed)) = inr (inr failed.2)
 
-      go : (l : Option Command) → Prints l old new run.decided run.text → (answered ≡ run.decided) ⊎ (answered ≡ status.Memory) ⊎ ((answered ≡ status.Fault) × (run.decided ≡ status.Done) × Rose puts puts_after) → IsSomeAnd l (λ c. SomeLoadRose c old new ⊎ SomeSaveRose c old new ⊎ Rose puts puts_after)
-      go None prints (inl same) = absurd (subst (λ (s : Status). Prints None old new s run.text) (sym same ∙ e) prints)
-      go None prints (inr (inl memory)) = absurd cc
-      go None prints (inr (inr put)) = absurd (not_done run.decided prints put.1)
-      go (Some c) prints (inl same) = risen c (subst (λ (s : Status). PrintsOf c old new s run.text) (sym same ∙ e) prints)
-      go (Some c) prints (inr (inl memory)) = absurd cc
-      go (Some c) prints (inr (inr put)) = inr (inr put.2)
-
-  pub untouched : (answered ≡ status.Usage) ⊎ (answered ≡ status.Refused) ⊎ (answered ≡ status.NotAccepted) → new.contents ≡ old.contents
-  untouched (inl e) = go line (leaves_status status.Usage (λ f. cc) (λ m. cc) e)
+  pub untouched : (answered ≡ status.Usage) ⊎ (answered ≡ status.Refused) ⊎ (answered ≡ status.NotAccepted) → Untouched old new
+  untouched (inl e) = go line (acts_at status.Usage (λ f. cc) (λ m. cc) e)
     where
-      go : (l : Option Command) → Leaves l old new status.Usage → new.contents ≡ old.contents
-      go None leaves = leaves
-      go (Some (Validate p)) leaves = leaves
-      go (Some (Flatten f)) leaves = leaves
-  untouched (inr (inl e)) = go line (leaves_status status.Refused (λ f. cc) (λ m. cc) e)
+      go : (l : Option Command) → Acts l old new status.Usage run.text → Untouched old new
+      go None acts = acts.0
+      go (Some c) acts = absurd acts
+  untouched (inr (inl e)) = go line (acts_at status.Refused (λ f. cc) (λ m. cc) e)
     where
-      go : (l : Option Command) → Leaves l old new status.Refused → new.contents ≡ old.contents
-      go None leaves = leaves
-      go (Some (Validate p)) leaves = leaves
-      go (Some (Flatten f)) leaves = leaves
-  untouched (inr (inr e)) = go line (leaves_status status.NotAccepted (λ f. cc) (λ m. cc) e)
+      go : (l : Option Command) → Acts l old new status.Refused run.text → Untouched old new
+      go None acts = acts.0
+      go (Some c) acts = acts.0
+  untouched (inr (inr e)) = go line (acts_at status.NotAccepted (λ f. cc) (λ m. cc) e)
     where
-      go : (l : Option Command) → Leaves l old new status.NotAccepted → new.contents ≡ old.contents
-      go None leaves = leaves
-      go (Some (Validate p)) leaves = leaves
-      go (Some (Flatten f)) leaves = leaves
+      go : (l : Option Command) → Acts l old new status.NotAccepted run.text → Untouched old new
+      go None acts = acts.0
+      go (Some c) acts = acts.0
 
-module _ (line : Option Command) (old new : Seen) (written writes : Option (List ℕ)) (puts puts_after : ℕ) (answered : Status) (run : Ran line old new written writes puts puts_after answered) (unfailed : IsSome old.contents → answered ≢ status.Fault → answered ≢ status.Memory → NoneRose old.load_count new.load_count) where
-  none_failed : (held : Contents) (c : Command) (s : Status) → old.contents ≡ Some held → s ≢ status.Fault → s ≢ status.Memory → answered ≡ s → ¬ (SomeLoadRose c old new)
-  none_failed held c s told no_fault no_memory e = quiet old new held c told (unfailed (subst (λ (o : Option Contents). IsSome o) (sym told) refl) (λ f. no_fault (sym e ∙ f)) (λ m. no_memory (sym e ∙ m)))
+  -- P of the command and of what is held, from what goes with a status
+  each_where : (l : Option Command) (s : Status) (P : Command → Contents → Type 0) → Acts l old new s run.text → ((c : Command) → Performs c old new s run.text → IfSome old.contents (λ held. P c held)) → Where l old P
+  each_where None s P acts each = tt
+  each_where (Some c) s P acts each = each c acts
 
-  pub refused : answered ≡ status.Refused → IsSomeAnd line (λ c. IfSome old.contents (λ held. ¬ (SomeLoadRose c old new) × IsRefusable held c))
-  refused e = go line (prints_status line old new written writes puts puts_after answered run status.Refused (λ f. cc) (λ m. cc) e)
+  pub refused : answered ≡ status.Refused → Where line old IsRefusable
+  refused e = each_where line status.Refused IsRefusable (acts_at status.Refused (λ f. cc) (λ m. cc) e) (λ c acts. told c old.contents acts.1)
     where
-      told : (c : Command) (o : Option Contents) → old.contents ≡ o → IfSome o (λ held. SaysTooLong held c run.text ⊎ SaysUnread held c run.text) → IfSome o (λ held. ¬ (SomeLoadRose c old new) × IsRefusable held c)
-      told c None is says = tt
-      told c (Some held) is says = (none_failed held c status.Refused is (λ f. cc) (λ m. cc) e, refusable held c run.text says)
+      told : (c : Command) (o : Option Contents) → IfSome o (λ held. SaysTooLong c held run.text ⊎ Says c held verdict.Refused run.text) → IfSome o (λ held. IsRefusable c held)
+      told c None says = tt
+      told c (Some held) says = refusable c held run.text says
 
-      go : (l : Option Command) → Prints l old new status.Refused run.text → IsSomeAnd l (λ c. IfSome old.contents (λ held. ¬ (SomeLoadRose c old new) × IsRefusable held c))
-      go None prints = absurd prints
-      go (Some c) prints = told c old.contents refl prints
-
-  pub not_accepted : answered ≡ status.NotAccepted → IsSomeAnd line (λ c. IfSome old.contents (λ held. ¬ (SomeLoadRose c old new) × Disagrees held c))
-  not_accepted e = go line (prints_status line old new written writes puts puts_after answered run status.NotAccepted (λ f. cc) (λ m. cc) e)
+  pub not_accepted : answered ≡ status.NotAccepted → Where line old Disagrees
+  not_accepted e = each_where line status.NotAccepted Disagrees (acts_at status.NotAccepted (λ f. cc) (λ m. cc) e) (λ c acts. told c old.contents acts.1)
     where
-      told : (c : Command) (o : Option Contents) → old.contents ≡ o → IfSome o (λ held. SaysDisagree held c run.text) → IfSome o (λ held. ¬ (SomeLoadRose c old new) × Disagrees held c)
-      told c None is says = tt
-      told c (Some held) is says = (none_failed held c status.NotAccepted is (λ f. cc) (λ m. cc) e, says_disagrees held c run.text says)
+      told : (c : Command) (o : Option Contents) → IfSome o (λ held. Says c held verdict.NotAccepted run.text) → IfSome o (λ held. Disagrees c held)
+      told c None says = tt
+      told c (Some held) says = says_comes c held verdict.NotAccepted run.text says
 
-      go : (l : Option Command) → Prints l old new status.NotAccepted run.text → IsSomeAnd l (λ c. IfSome old.contents (λ held. ¬ (SomeLoadRose c old new) × Disagrees held c))
-      go None prints = absurd prints
-      go (Some c) prints = told c old.contents refl prints
-
-  pub done : answered ≡ status.Done → IsSomeAnd line (λ c. IfSome old.contents (λ held. ¬ (SomeLoadRose c old new) × Succeeds held c))
-  done e = go line (prints_status line old new written writes puts puts_after answered run status.Done (λ f. cc) (λ m. cc) e)
+  pub done : answered ≡ status.Done → Where line old (λ c held. Completes c held new.contents)
+  done e = each_where line status.Done (λ c held. Completes c held new.contents) (acts_at status.Done (λ f. cc) (λ m. cc) e) (λ c acts. told c old.contents acts)
     where
-      told : (c : Command) (o : Option Contents) → old.contents ≡ o → IfSome o (λ held. SaysDone held c run.text) → IfSome o (λ held. ¬ (SomeLoadRose c old new) × Succeeds held c)
-      told c None is says = tt
-      told c (Some held) is says = (none_failed held c status.Done is (λ f. cc) (λ m. cc) e, done_succeeds held c run.text says)
-
-      go : (l : Option Command) → Prints l old new status.Done run.text → IsSomeAnd l (λ c. IfSome old.contents (λ held. ¬ (SomeLoadRose c old new) × Succeeds held c))
-      go None prints = absurd prints
-      go (Some c) prints = told c old.contents refl prints
+      told : (c : Command) (o : Option Contents) → IfSome o (λ held. IsDone c held new.contents run.text) → IfSome o (λ held. Completes c held new.contents)
+      told c None is = tt
+      told c (Some held) is = record { text = run.text; is_done = is }
 
 -- ---- what must come
 
-module _ (old new : Seen) (text : List ℕ) (rose : Type 0) (answered : Status) (held : Contents) (c : Command) (told : old.contents ≡ Some held) where
+module _ (old new : FilesSeen) (text : List ℕ) (rose : Type 0) (answered : Status) (held : Contents) (c : Command) (told : old.contents ≡ Some held) where
   abbrev Same : Status → Type 0
   Same d = (answered ≡ d) ⊎ (answered ≡ status.Memory) ⊎ ((answered ≡ status.Fault) × (d ≡ status.Done) × rose)
 
-  settle : (s : Status) → s ≢ status.Done → Same s → (answered ≡ s) ⊎ (answered ≡ status.Memory)
+  settle : (s : Status) → s ≢ status.Done → Same s → OrMemory answered s
   settle s differs (inl e) = inl e
   settle s differs (inr (inl m)) = inr m
   settle s differs (inr (inr put)) = absurd (differs put.1)
@@ -278,123 +229,131 @@ module _ (old new : Seen) (text : List ℕ) (rose : Type 0) (answered : Status) 
   over : (P : Contents → Type 0) → IfSome old.contents P → P held
   over P all = subst (λ (o : Option Contents). IfSome o P) told all
 
-  load_rose : SaysLoadFault c old new text → SomeLoadRose c old new
-  load_rose says = says_load_rose old new (λ load. text ≡ load_fault_line load.name) (loads_of c) says
+  is_done : Performs c old new status.Done text → Succeeds c held
+  is_done is = done_comes c held new.contents text (over (λ h. IsDone c h new.contents text) is)
 
-  save_rose : SaysSaveFault c old new text → SomeSaveRose c old new
-  save_rose says = says_save_rose old new (λ name. text ≡ save_fault_line name) (saves_of c) says.0
+  is_not_accepted : Performs c old new status.NotAccepted text → Disagrees c held
+  is_not_accepted is = says_comes c held verdict.NotAccepted text (over (λ h. Says c h verdict.NotAccepted text) is.1)
 
-  saved : SaysSaveFault c old new text → Succeeds held c
-  saved says = over (λ h. Succeeds h c) says.1
+  is_refused : Performs c old new status.Refused text → SaysTooLong c held text ⊎ Says c held verdict.Refused text
+  is_refused is = over (λ h. SaysTooLong c h text ⊎ Says c h verdict.Refused text) is.1
 
-  says_done : PrintsOf c old new status.Done text → SaysDone held c text
-  says_done prints = over (λ h. SaysDone h c text) prints
+  is_broken : IfSome old.contents (λ h. SaysBroken c h old new text) → Succeeds c held
+  is_broken is = let says = over (λ h. SaysBroken c h old new text) is in broken_comes c held old new says.broken
 
-  says_disagree : PrintsOf c old new status.NotAccepted text → SaysDisagree held c text
-  says_disagree prints = over (λ h. SaysDisagree h c text) prints
+  pub must_refuse : (d : Status) → Performs c old new d text → Same d → ¬ (SomeLoadRose c old new) → IsRefusable c held → OrMemory answered status.Refused
+  must_refuse status.Done is same none bad = absurd (not_refusable c held verdict.Done (λ e. cc) (is_done is) bad)
+  must_refuse status.NotAccepted is same none bad = absurd (not_refusable c held verdict.NotAccepted (λ e. cc) (is_not_accepted is) bad)
+  must_refuse status.Refused is same none bad = settle status.Refused (λ e. cc) same
+  must_refuse status.Fault (inl is) same none bad = absurd (none (load_rose c old new text is.1))
+  must_refuse status.Fault (inr is) same none bad = absurd (not_refusable c held verdict.Done (λ e. cc) (is_broken is.1) bad)
+  must_refuse status.Usage is same none bad = absurd is
+  must_refuse status.Memory is same none bad = to_memory same
 
-  says_refused : PrintsOf c old new status.Refused text → SaysTooLong held c text ⊎ SaysUnread held c text
-  says_refused prints = over (λ h. SaysTooLong h c text ⊎ SaysUnread h c text) prints
+  pub must_disagree : (d : Status) → Performs c old new d text → Same d → ¬ (SomeLoadRose c old new) → Disagrees c held → OrMemory answered status.NotAccepted
+  must_disagree status.Done is same none bad = absurd (let e = two_comes c held verdict.Done verdict.NotAccepted (is_done is) bad in cc)
+  must_disagree status.NotAccepted is same none bad = settle status.NotAccepted (λ e. cc) same
+  must_disagree status.Refused is same none bad = absurd (not_refusable c held verdict.NotAccepted (λ e. cc) bad (refusable c held text (is_refused is)))
+  must_disagree status.Fault (inl is) same none bad = absurd (none (load_rose c old new text is.1))
+  must_disagree status.Fault (inr is) same none bad = absurd (let e = two_comes c held verdict.Done verdict.NotAccepted (is_broken is.1) bad in cc)
+  must_disagree status.Usage is same none bad = absurd is
+  must_disagree status.Memory is same none bad = to_memory same
 
-  must_refuse : (d : Status) → PrintsOf c old new d text → Same d → ¬ (SomeLoadRose c old new) → IsRefusable held c → (answered ≡ status.Refused) ⊎ (answered ≡ status.Memory)
-  must_refuse status.Done prints same quiet bad = absurd (read_not_refusable held c (succeeds_read held c (done_succeeds held c text (says_done prints))) bad)
-  must_refuse status.NotAccepted prints same quiet bad = absurd (read_not_refusable held c (disagrees_read held c (says_disagrees held c text (says_disagree prints))) bad)
-  must_refuse status.Refused prints same quiet bad = settle status.Refused (λ e. cc) same
-  must_refuse status.Fault (inl load) same quiet bad = absurd (quiet (load_rose load))
-  must_refuse status.Fault (inr save) same quiet bad = absurd (read_not_refusable held c (succeeds_read held c (saved save)) bad)
-  must_refuse status.Usage prints same quiet bad = absurd prints
-  must_refuse status.Memory prints same quiet bad = to_memory same
+  pub must_succeed : (d : Status) → Performs c old new d text → Same d → (answered ≡ status.Fault → d ≡ status.Fault → ⊥) → (rose → ⊥) → Succeeds c held → OrMemory answered status.Done
+  must_succeed status.Done is (inl e) failed put good = inl e
+  must_succeed status.Done is (inr (inl m)) failed put good = inr m
+  must_succeed status.Done is (inr (inr risen)) failed put good = absurd (put risen.2)
+  must_succeed status.NotAccepted is same failed put good = absurd (let e = two_comes c held verdict.Done verdict.NotAccepted good (is_not_accepted is) in cc)
+  must_succeed status.Refused is same failed put good = absurd (not_refusable c held verdict.Done (λ e. cc) good (refusable c held text (is_refused is)))
+  must_succeed status.Fault is (inl e) failed put good = absurd (failed e refl)
+  must_succeed status.Fault is (inr (inl m)) failed put good = inr m
+  must_succeed status.Fault is (inr (inr risen)) failed put good = absurd (put risen.2)
+  must_succeed status.Usage is same failed put good = absurd is
+  must_succeed status.Memory is same failed put good = to_memory same
 
-  must_disagree : (d : Status) → PrintsOf c old new d text → Same d → ¬ (SomeLoadRose c old new) → Disagrees held c → (answered ≡ status.NotAccepted) ⊎ (answered ≡ status.Memory)
-  must_disagree status.Done prints same quiet bad = absurd (succeeds_or_disagrees held c (done_succeeds held c text (says_done prints)) bad)
-  must_disagree status.NotAccepted prints same quiet bad = settle status.NotAccepted (λ e. cc) same
-  must_disagree status.Refused prints same quiet bad = absurd (read_not_refusable held c (disagrees_read held c bad) (refusable held c text (says_refused prints)))
-  must_disagree status.Fault (inl load) same quiet bad = absurd (quiet (load_rose load))
-  must_disagree status.Fault (inr save) same quiet bad = absurd (succeeds_or_disagrees held c (saved save) bad)
-  must_disagree status.Usage prints same quiet bad = absurd prints
-  must_disagree status.Memory prints same quiet bad = to_memory same
+  -- in every other case
+  pub must_be_done : (d : Status) → Performs c old new d text → Same d → (d ≡ status.Fault → ⊥) → (rose → ⊥) → ¬ (IsRefusable c held) → ¬ (Disagrees c held) → OrMemory answered status.Done
+  must_be_done status.Done is (inl e) failed put fine agrees = inl e
+  must_be_done status.Done is (inr (inl m)) failed put fine agrees = inr m
+  must_be_done status.Done is (inr (inr risen)) failed put fine agrees = absurd (put risen.2)
+  must_be_done status.NotAccepted is same failed put fine agrees = absurd (agrees (is_not_accepted is))
+  must_be_done status.Refused is same failed put fine agrees = absurd (fine (refusable c held text (is_refused is)))
+  must_be_done status.Fault is same failed put fine agrees = absurd (failed refl)
+  must_be_done status.Usage is same failed put fine agrees = absurd is
+  must_be_done status.Memory is same failed put fine agrees = to_memory same
 
-  must_succeed : (d : Status) → PrintsOf c old new d text → Same d → (SaysLoadFault c old new text → ⊥) → (SaysSaveFault c old new text → ⊥) → ((answered ≡ status.Fault) × rose → ⊥) → Succeeds held c → (answered ≡ status.Done) ⊎ (answered ≡ status.Memory)
-  must_succeed status.Done prints (inl e) load save put good = inl e
-  must_succeed status.Done prints (inr (inl m)) load save put good = inr m
-  must_succeed status.Done prints (inr (inr failed)) load save put good = absurd (put (failed.0, failed.2))
-  must_succeed status.NotAccepted prints same load save put good = absurd (succeeds_or_disagrees held c good (says_disagrees held c text (says_disagree prints)))
-  must_succeed status.Refused prints same load save put good = absurd (read_not_refusable held c (succeeds_read held c good) (refusable held c text (says_refused prints)))
-  must_succeed status.Fault (inl says) same load save put good = absurd (load says)
-  must_succeed status.Fault (inr says) same load save put good = absurd (save says)
-  must_succeed status.Usage prints same load save put good = absurd prints
-  must_succeed status.Memory prints same load save put good = to_memory same
-
-  must_miss : (d : Status) → PrintsOf c old new d text → Same d → SomeMissing held c → (answered ≡ status.Fault) ⊎ (answered ≡ status.Memory)
-  must_miss status.Done prints same missing = absurd (none_missing held (loads_of c) (read_fine held c (succeeds_read held c (done_succeeds held c text (says_done prints)))) missing)
-  must_miss status.NotAccepted prints same missing = absurd (none_missing held (loads_of c) (read_fine held c (disagrees_read held c (says_disagrees held c text (says_disagree prints)))) missing)
-  must_miss status.Refused prints same missing = go (says_refused prints)
+  pub must_miss : (d : Status) → Performs c old new d text → Same d → SomeMissing c held → OrMemory answered status.Fault
+  must_miss status.Done is same missing = absurd (comes_not_missing c held verdict.Done (is_done is) missing)
+  must_miss status.NotAccepted is same missing = absurd (comes_not_missing c held verdict.NotAccepted (is_not_accepted is) missing)
+  must_miss status.Refused is same missing = go (is_refused is)
     where
-      go : SaysTooLong held c text ⊎ SaysUnread held c text → (answered ≡ status.Fault) ⊎ (answered ≡ status.Memory)
+      go : SaysTooLong c held text ⊎ Says c held verdict.Refused text → OrMemory answered status.Fault
       go (inl long) = absurd (missing_or_long held (λ load. text ≡ refused_line load.name (codes "too long")) (loads_of c) missing long)
-      go (inr unread) = absurd (none_missing held (loads_of c) (unread_fine held c text unread) missing)
-  must_miss status.Fault prints same missing = settle status.Fault (λ e. cc) same
-  must_miss status.Usage prints same missing = absurd prints
-  must_miss status.Memory prints same missing = to_memory same
+      go (inr says) = absurd (comes_not_missing c held verdict.Refused (says_comes c held verdict.Refused text says) missing)
+  must_miss status.Fault is same missing = settle status.Fault (λ e. cc) same
+  must_miss status.Usage is same missing = absurd is
+  must_miss status.Memory is same missing = to_memory same
 
-module _ (line : Option Command) (old new : Seen) (written writes : Option (List ℕ)) (puts puts_after : ℕ) (answered : Status) (run : Ran line old new written writes puts puts_after answered) where
-  -- P holds of what is held and of the command, where both are told
-  over_both : (P : Contents → Command → Type 0) → ((held : Contents) (c : Command) → old.contents ≡ Some held → PrintsOf c old new run.decided run.text → P held c) → IfSome old.contents (λ held. IfSome line (λ c. P held c))
-  over_both P each = go old.contents refl
+module _ (line : Option Command) (old new : FilesSeen) (out put : SinkSeen) (answered : Status) (run : Ran line old new out put answered) where
+  -- P holds of the command and of what is held, where both are told
+  over_both : (P : Command → Contents → Type 0) → ((c : Command) (held : Contents) → line ≡ Some c → old.contents ≡ Some held → Performs c old new run.decided run.text → P c held) → Where line old P
+  over_both P each = go line refl run.acts
     where
-      line_of : (held : Contents) → old.contents ≡ Some held → (l : Option Command) → Prints l old new run.decided run.text → IfSome l (λ c. P held c)
-      line_of held told None prints = tt
-      line_of held told (Some c) prints = each held c told prints
+      go : (l : Option Command) → line ≡ l → Acts l old new run.decided run.text → Where l old P
+      go None is acts = tt
+      go (Some c) is acts = held_of old.contents refl
+        where
+          held_of : (o : Option Contents) → old.contents ≡ o → IfSome o (λ held. P c held)
+          held_of None told = tt
+          held_of (Some held) told = each c held is told acts
 
-      go : (o : Option Contents) → old.contents ≡ o → IfSome o (λ held. IfSome line (λ c. P held c))
-      go None told = tt
-      go (Some held) told = line_of held told line run.prints
+  pub refused_only : Where line old (λ c held. ¬ (SomeLoadRose c old new) → IsRefusable c held → OrMemory answered status.Refused)
+  refused_only = over_both (λ c held. ¬ (SomeLoadRose c old new) → IsRefusable c held → OrMemory answered status.Refused)
+      (λ c held is told acts. must_refuse old new run.text (Rose out.put_count put.put_count) answered held c told run.decided acts run.ends.same)
 
-  pub refused_only : IfSome old.contents (λ held. IfSome line (λ c. ¬ (SomeLoadRose c old new) → IsRefusable held c → (answered ≡ status.Refused) ⊎ (answered ≡ status.Memory)))
-  refused_only = over_both (λ held c. ¬ (SomeLoadRose c old new) → IsRefusable held c → (answered ≡ status.Refused) ⊎ (answered ≡ status.Memory)) (λ held c told prints. must_refuse old new run.text (Rose puts puts_after) answered held c told run.decided prints run.ends.same)
+  pub not_accepted_only : Where line old (λ c held. ¬ (SomeLoadRose c old new) → Disagrees c held → OrMemory answered status.NotAccepted)
+  not_accepted_only = over_both (λ c held. ¬ (SomeLoadRose c old new) → Disagrees c held → OrMemory answered status.NotAccepted)
+      (λ c held is told acts. must_disagree old new run.text (Rose out.put_count put.put_count) answered held c told run.decided acts run.ends.same)
 
-  pub not_accepted_only : IfSome old.contents (λ held. IfSome line (λ c. ¬ (SomeLoadRose c old new) → Disagrees held c → (answered ≡ status.NotAccepted) ⊎ (answered ≡ status.Memory)))
-  not_accepted_only = over_both (λ held c. ¬ (SomeLoadRose c old new) → Disagrees held c → (answered ≡ status.NotAccepted) ⊎ (answered ≡ status.Memory)) (λ held c told prints. must_disagree old new run.text (Rose puts puts_after) answered held c told run.decided prints run.ends.same)
+  no_fault : (c : Command) → ¬ (SomeLoadRose c old new) → ¬ (SomeSaveRose c old new) → Performs c old new run.decided run.text → run.decided ≡ status.Fault → ⊥
+  no_fault c loads saves acts d = go (subst (λ (s : Status). Performs c old new s run.text) d acts)
+    where
+      go : Performs c old new status.Fault run.text → ⊥
+      go (inl is) = loads (load_rose c old new run.text is.1)
+      go (inr is) = saves (save_rose c old new run.text is.0)
 
-  pub complete : IfSome old.contents (λ held. IfSome line (λ c. ¬ (SomeLoadRose c old new) → ¬ (SomeSaveRose c old new) → ¬ (Rose puts puts_after) → Succeeds held c → (answered ≡ status.Done) ⊎ (answered ≡ status.Memory)))
-  complete = over_both (λ held c. ¬ (SomeLoadRose c old new) → ¬ (SomeSaveRose c old new) → ¬ (Rose puts puts_after) → Succeeds held c → (answered ≡ status.Done) ⊎ (answered ≡ status.Memory))
-      (λ held c told prints loads saves put good. must_succeed old new run.text (Rose puts puts_after) answered held c told run.decided prints run.ends.same
-      (λ says. loads (load_rose old new run.text (Rose puts puts_after) answered held c told says))
-      (λ says. saves (save_rose old new run.text (Rose puts puts_after) answered held c told says))
-      (λ failed. put failed.1) good)
+  pub otherwise : Where line old (λ c held. ¬ (SomeLoadRose c old new) → ¬ (SomeSaveRose c old new) → ¬ (Rose out.put_count put.put_count) → ¬ (IsRefusable c held) → ¬ (Disagrees c held) → OrMemory answered status.Done)
+  otherwise = over_both (λ c held. ¬ (SomeLoadRose c old new) → ¬ (SomeSaveRose c old new) → ¬ (Rose out.put_count put.put_count) → ¬ (IsRefusable c held) → ¬ (Disagrees c held) → OrMemory answered status.Done)
+      (λ c held is told acts loads saves puts fine agrees. must_be_done old new run.text (Rose out.put_count put.put_count) answered held c told run.decided acts run.ends.same (no_fault c loads saves acts) puts fine agrees)
+
+  pub complete : Where line old (λ c held. ¬ (SomeLoadRose c old new) → ¬ (SomeSaveRose c old new) → ¬ (Rose out.put_count put.put_count) → Succeeds c held → OrMemory answered status.Done)
+  complete = over_both (λ c held. ¬ (SomeLoadRose c old new) → ¬ (SomeSaveRose c old new) → ¬ (Rose out.put_count put.put_count) → Succeeds c held → OrMemory answered status.Done)
+      (λ c held is told acts loads saves puts good. must_succeed old new run.text (Rose out.put_count put.put_count) answered held c told run.decided acts run.ends.same (λ e d. no_fault c loads saves acts d) puts good)
 
   -- where a fault comes only of a file that is not there
-  pub complete_steady : (answered ≡ status.Fault → IfSome line (λ c. IfSome old.contents (λ held. SomeMissing held c))) → IfSome old.contents (λ held. IfSome line (λ c. Succeeds held c → (answered ≡ status.Done) ⊎ (answered ≡ status.Memory)))
-  complete_steady missing = go old.contents line refl refl run.prints
+  pub complete_steady : (answered ≡ status.Fault → Where line old SomeMissing) → Where line old (λ c held. Succeeds c held → OrMemory answered status.Done)
+  complete_steady missing = over_both (λ c held. Succeeds c held → OrMemory answered status.Done)
+      (λ c held is told acts good. settled c held is told acts good run.decided acts run.ends.same)
     where
-      go : (o : Option Contents) (l : Option Command) → old.contents ≡ o → line ≡ l → Prints l old new run.decided run.text → IfSome o (λ held. IfSome l (λ c. Succeeds held c → (answered ≡ status.Done) ⊎ (answered ≡ status.Memory)))
-      go None l told is prints = tt
-      go (Some held) None told is prints = tt
-      go (Some held) (Some c) told is prints = λ good.
-          let at_fault : answered ≡ status.Fault → ⊥ = λ e. none_missing held (loads_of c) (read_fine held c (succeeds_read held c good)) (subst (λ (o : Option Contents). IfSome o (λ h. SomeMissing h c)) told (subst (λ (m : Option Command). IfSome m (λ d. IfSome old.contents (λ h. SomeMissing h d))) is (missing e))) in
-          settled held c told good at_fault run.decided prints run.ends.same
-        where
-          settled : (held : Contents) (c : Command) → old.contents ≡ Some held → Succeeds held c → (answered ≡ status.Fault → ⊥) → (d : Status) → PrintsOf c old new d run.text → (answered ≡ d) ⊎ (answered ≡ status.Memory) ⊎ ((answered ≡ status.Fault) × (d ≡ status.Done) × Rose puts puts_after) → (answered ≡ status.Done) ⊎ (answered ≡ status.Memory)
-          settled held c told good never status.Fault prints (inl e) = absurd (never e)
-          settled held c told good never status.Fault prints (inr (inl m)) = inr m
-          settled held c told good never status.Fault prints (inr (inr put)) = absurd (never put.0)
-          settled held c told good never status.Done prints (inl e) = inl e
-          settled held c told good never status.Done prints (inr (inl m)) = inr m
-          settled held c told good never status.Done prints (inr (inr put)) = absurd (never put.0)
-          settled held c told good never status.NotAccepted prints same = absurd (succeeds_or_disagrees held c good (says_disagrees held c run.text (says_disagree old new run.text (Rose puts puts_after) answered held c told prints)))
-          settled held c told good never status.Refused prints same = absurd (read_not_refusable held c (succeeds_read held c good) (refusable held c run.text (says_refused old new run.text (Rose puts puts_after) answered held c told prints)))
-          settled held c told good never status.Usage prints same = absurd prints
-          settled held c told good never status.Memory prints same = to_memory old new run.text (Rose puts puts_after) answered held c told same
+      at_fault : (c : Command) (held : Contents) → line ≡ Some c → old.contents ≡ Some held → Succeeds c held → answered ≡ status.Fault → ⊥
+      at_fault c held is told good e = comes_not_missing c held verdict.Done good
+          (subst (λ (o : Option Contents). IfSome o (λ h. SomeMissing c h)) told (subst (λ (l : Option Command). Where l old SomeMissing) is (missing e)))
 
-  pub missing_only : IfSome old.contents (λ held. IfSome line (λ c. SomeMissing held c → (answered ≡ status.Fault) ⊎ (answered ≡ status.Memory)))
-  missing_only = over_both (λ held c. SomeMissing held c → (answered ≡ status.Fault) ⊎ (answered ≡ status.Memory)) (λ held c told prints. must_miss old new run.text (Rose puts puts_after) answered held c told run.decided prints run.ends.same)
+      settled : (c : Command) (held : Contents) → line ≡ Some c → old.contents ≡ Some held → Performs c old new run.decided run.text → Succeeds c held → (d : Status) → Performs c old new d run.text → (answered ≡ d) ⊎ (answered ≡ status.Memory) ⊎ ((answered ≡ status.Fault) × (d ≡ status.Done) × Rose out.put_count put.put_count) → OrMemory answered status.Done
+      settled c held is told acts good d at (inr (inl m)) = inr m
+      settled c held is told acts good d at (inr (inr risen)) = absurd (at_fault c held is told good risen.0)
+      settled c held is told acts good d at (inl e) = must_succeed old new run.text ⊥ answered held c told d at (inl e) (λ f same. at_fault c held is told good f) (λ never. never) good
+
+  pub missing_only : Where line old (λ c held. SomeMissing c held → OrMemory answered status.Fault)
+  missing_only = over_both (λ c held. SomeMissing c held → OrMemory answered status.Fault)
+      (λ c held is told acts. must_miss old new run.text (Rose out.put_count put.put_count) answered held c told run.decided acts run.ends.same)
 
 -- where a load failed, nothing was saved
-pub load_failed : (line : Option Command) (old new : Seen) → (IsSome old.contents → (new.contents ≡ old.contents) ⊎ NoneRose old.load_count new.load_count) → IsSome old.contents → IfSome line (λ c. SomeLoadRose c old new → new.contents ≡ old.contents)
+pub load_failed : (line : Option Command) (old new : FilesSeen) → (IsTold old → Untouched old new ⊎ NoneRose old.load_count new.load_count) → IsTold old → IfSome line (λ c. SomeLoadRose c old new → Untouched old new)
 load_failed None old new either told = tt
 load_failed (Some c) old new either told = λ rose. go old.contents refl told rose (either told)
   where
-    go : (o : Option Contents) → old.contents ≡ o → IsSome o → SomeLoadRose c old new → (new.contents ≡ old.contents) ⊎ NoneRose old.load_count new.load_count → new.contents ≡ old.contents
+    go : (o : Option Contents) → old.contents ≡ o → IsSome o → SomeLoadRose c old new → Untouched old new ⊎ NoneRose old.load_count new.load_count → Untouched old new
     go None is told rose one = absurd cc
     go (Some held) is told rose (inl same) = same
     go (Some held) is told rose (inr none) = absurd (quiet old new held c is none rose)

@@ -1,6 +1,5 @@
 -- The design that the bytes of a file give.
-use Rattle.std.specs.Prelude.{◌≡◌, ◌≢◌, ℕ, ◌≤◌, ◌⊎◌, List, length, Some, Ok, Err}
-use Rattle.std.specs.FinMap.{get}
+use Rattle.std.specs.Prelude.{◌≡◌, ◌≢◌, ℕ, ◌⊎◌, Bool, List, Ok, Err}
 use Rattle.blif_text.specs.Kind.{Bad}
 use Rattle.blif_text.specs.Models.{PlainModel}
 use Rattle.blif_text.specs.Reading.{reading}
@@ -8,9 +7,10 @@ use Rattle.flat_net.specs.Net.{Net}
 use Rattle.hierarchy.specs.Flatten.{IsFlatFault}
 use Rattle.hierarchy.specs.declared.flat_fault.FlatFault.{FlatFault}
 use Rattle.hierarchy.specs.declared.flat_fault.FlatFault.TheVariants.{Memory}
-use Rattle.blif_writer.specs.NetOf.{IsNetOf}
+use Rattle.blif_writer.specs.NetOf.{IsFreeNetOf}
 use Rattle.tmr_outside.specs.Contents.{Contents}
 use Rattle.tmr_top.specs.Loads.{Load}
+use Rattle.tmr_top.specs.Files.{Holds}
 use Rattle.tmr_top.specs.Reasons.{bad_reason, flat_reason}
 
 -- the first bad line of the text
@@ -32,16 +32,10 @@ pub record IsBadLibrary (limit : ℕ) (bytes reason : List ℕ) : Type 0 where
 abbrev pub IsUnread : ℕ → List ℕ → List ℕ → Type 0
 IsUnread limit bytes reason = IsBadText bytes reason ⊎ IsBadLibrary limit bytes reason
 
--- the name holds this design, and so many of its initial values are taken as 0
-pub record HoldsDesign (held : Contents) (load : Load) (n : Net) (assumed : ℕ) : Type 0 where
-  pub bytes : List ℕ
-  pub there : get held load.name ≡ Some bytes
-  pub short : length bytes ≤ load.limit
-  pub read : IsNetOf bytes load.limit n assumed
+-- the file holds this design, and these are its marks: true at each register whose initial value is 2, 3 or absent
+abbrev pub HoldsDesign : Contents → Load → Net → List Bool → Type 0
+HoldsDesign held load n free = Holds held load (λ bytes. IsFreeNetOf bytes load.limit n free)
 
--- the name holds no design, for this reason
-pub record HoldsNoDesign (held : Contents) (load : Load) (reason : List ℕ) : Type 0 where
-  pub bytes : List ℕ
-  pub there : get held load.name ≡ Some bytes
-  pub short : length bytes ≤ load.limit
-  pub unread : IsUnread load.limit bytes reason
+-- the file holds no design, for this reason
+abbrev pub HoldsNoDesign : Contents → Load → List ℕ → Type 0
+HoldsNoDesign held load reason = Holds held load (λ bytes. IsUnread load.limit bytes reason)

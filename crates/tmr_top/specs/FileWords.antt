@@ -1,6 +1,9 @@
 -- What the words of a command show of where they lie.
-use Rattle.std.specs.Prelude.{ℕ, List, map}
+use Rattle.std.specs.Prelude.{ℕ, List, map, Vec}
 use Rattle.std.specs.Borrow.{Bor}
+use Rattle.std.specs.declared.alloc.Global.{Global}
+use Rattle.tmr_top.specs.declared.file_words.LoadWords.{LoadWords}
+use Rattle.tmr_top.specs.Loads.{Load}
 use Rattle.tmr_top.specs.declared.line.PairWords.{PairWords}
 use Rattle.tmr_top.specs.declared.line.FlatWords.{FlatWords}
 use Rattle.tmr_top.specs.declared.line.CommandWords.{CommandWords}
@@ -20,3 +23,10 @@ command_in (words.Flatten flat) = Flatten (flattening_in flat)
 -- words without where they lie in memory
 abbrev pub read_words : List (Bor (List ℕ)) → List (List ℕ)
 read_words words = map (λ word. word.now) words
+
+abbrev pub load_in : LoadWords → Load
+load_in words = record { name = words.name.now; limit = words.limit; kind = words.kind }
+
+-- texts as lists of bytes
+abbrev pub texts_in : List (Vec ℕ Global) → List (List ℕ)
+texts_in texts = map (λ text. text.items) texts

@@ -65,3 +65,7 @@ line_of (command ∷ words) =
     if bytes_eq command (codes "validate") then of_plain pair_of (plain_words words)
     else if bytes_eq command (codes "flatten") then of_plain flattening_of (plain_words words)
     else None
+
+-- what the words of a command line mean
+abbrev pub meaning : List (String Global) → Option Command
+meaning words = line_of (texts words)

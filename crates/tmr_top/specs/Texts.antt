@@ -14,11 +14,15 @@ abbrev pub greatest : List ℕ → ℕ
 greatest [] = 0
 greatest (d ∷ ds) = max d (greatest ds)
 
--- how many partitions there are, the greatest certified depth, and the initial values that were taken as 0 in both designs
+-- in version 1 initial values that are left open are taken as 0, and in version 2 they are free
+abbrev pub open_word : ℕ → List ℕ
+open_word version = if nat_eq version 1 then codes " assumed " else codes " free "
+
+-- how many partitions there are, the greatest certified depth, and how many initial values are left open in both designs
 unfoldable pub accepted_line : PlainCert → ℕ → ℕ → List ℕ
-accepted_line k assumed hardened_assumed =
+accepted_line k count hardened_count =
     joined (codes "accepted partitions " ∷ decimal (length k.depth) ∷ codes " depth " ∷ decimal (greatest k.depth)
-    ∷ codes " assumed " ∷ decimal assumed ∷ codes " " ∷ decimal hardened_assumed ∷ codes "\n" ∷ [])
+    ∷ open_word k.version ∷ decimal count ∷ codes " " ∷ decimal hardened_count ∷ codes "\n" ∷ [])
 
 abbrev pub counted_text : List ℕ → ℕ → List ℕ
 counted_text what count = what ++ decimal count

@@ -1,4 +1,4 @@
-//! What a run comes to before its text is put.
+//! What a command comes to before its text is put.
 ghost use Rattle.std.specs.Prelude.{◌≡◌, IfOk};
 ghost use Rattle.tmr_top.specs.Loaded.{IsStopped};
 ghost use Rattle.tmr_top.specs.Texts.{refused_line};
@@ -8,6 +8,23 @@ use crate::loads::Stop;
 use crate::texts::{load_fault, refused};
 use std::alloc::Global;
 use tmr_base::OutOfMemory;
+
+/// What a command comes to by what its files hold.
+#[derive(Clone, Copy, Debug, PartialEq, Eq, Drop)]
+pub enum Verdict {
+    Done,
+    NotAccepted,
+    Refused,
+}
+
+/// What the work of a command gives, where its files are loaded: the verdict, the texts to be saved
+/// where it is Done, in the order of the names, and the text to be printed.
+#[derive(Drop)]
+pub struct Work {
+    pub verdict: Verdict,
+    pub saves: Vec<Vec<u8>>,
+    pub text: Vec<u8>,
+}
 
 /// The status of a run before its text is put, and that text.
 #[derive(Drop)]
@@ -28,19 +45,26 @@ pub fn stopped(alloc: Global, stop: Stop) -> Result<Decision, OutOfMemory>
                 text,
             })
         }
-        Stop::TooLong(name) => refusal(alloc, name, b"too long"),
+        Stop::TooLong(name) => {
+            let text = refused(alloc, name, b"too long")?;
+            Ok(Decision {
+                status: Status::Refused,
+                text,
+            })
+        }
         Stop::Memory => Err(OutOfMemory),
     }
 }
 
-/// The decision where a file is refused for this reason.
-pub fn refusal(alloc: Global, name: &str, reason: &[u8]) -> Result<Decision, OutOfMemory>
-    ensures status { IfOk result (λ d. d.status ≡ Status.Refused) }
-    ensures text { IfOk result (λ d. d.text.items ≡ refused_line name.now reason.now) }
+/// The work where a file is refused for this reason.
+pub fn refusal(alloc: Global, name: &str, reason: &[u8]) -> Result<Work, OutOfMemory>
+    ensures verdict { IfOk result (λ w. w.verdict ≡ Verdict.Refused) }
+    ensures text { IfOk result (λ w. w.text.items ≡ refused_line name.now reason.now) }
 {
     let text = refused(alloc, name, reason)?;
-    Ok(Decision {
-        status: Status::Refused,
+    Ok(Work {
+        verdict: Verdict::Refused,
+        saves: Vec::new(alloc),
         text,
     })
 }

@@ -3,13 +3,14 @@ ghost use Rattle.std.specs.Prelude.{◌≡◌, ◌≤◌, List, ℕ, IfOk, IfErr
 ghost use Rattle.blif_text.specs.Reading.{reading};
 ghost use Rattle.blif_text.specs.Stands.{Reads};
 ghost use Rattle.tmr_top.specs.declared.designs.Unread.{Unread};
-ghost use Rattle.blif_writer.specs.NetOf.{IsNetOf};
+ghost use Rattle.blif_writer.specs.NetOf.{IsFreeNetOf};
 ghost use Rattle.tmr_top.specs.Designs.{IsUnread};
 ghost use Rattle.tmr_top.specs.Unread.{OnRefused};
 
 use crate::reasons::{bad_line, flat_reason};
 use blif_text::{Library, TextFault};
-use hierarchy::{Flat, FlatFault, flatten};
+use flat_net::FreeNet;
+use hierarchy::{FlatFault, flatten_free};
 use std::alloc::Global;
 use tmr_base::OutOfMemory;
 
@@ -34,12 +35,12 @@ fn refused(reason: Result<Vec<u8>, OutOfMemory>) -> Unread
 
 /// The design of a library, where its flat text keeps the limit.
 #[tactic(auto, using(crate::proofs::DesignLaws::libraries))]
-fn design_of(alloc: Global, library: &Library, limit: u64) -> Result<Flat, Unread>
+fn design_of(alloc: Global, library: &Library, limit: u64) -> Result<FreeNet, Unread>
     requires { limit ≤ 1073741824 }
-    ensures read { (bytes : List ℕ) → reading bytes ≡ Ok library.now → IfOk result (λ flat. IsNetOf bytes limit flat.net.net flat.assumed) }
+    ensures read { (bytes : List ℕ) → reading bytes ≡ Ok library.now → IfOk result (λ flat. IsFreeNetOf bytes limit flat.design.net flat.free) }
     ensures unread { (bytes : List ℕ) → reading bytes ≡ Ok library.now → IfErr result (OnRefused (IsUnread limit bytes)) }
 {
-    match flatten(alloc, library, limit) {
+    match flatten_free(alloc, library, limit) {
         Ok(flat) => Ok(flat),
         Err(fault) => Err(refused(flat_reason(alloc, &fault))),
     }
@@ -51,9 +52,9 @@ pub fn read_design(
     alloc: Global,
     text: &Result<Library, TextFault>,
     limit: u64,
-) -> Result<Flat, Unread>
+) -> Result<FreeNet, Unread>
     requires { limit ≤ 1073741824 }
-    ensures read { (bytes : List ℕ) → Reads text.now (reading bytes) → IfOk result (λ flat. IsNetOf bytes limit flat.net.net flat.assumed) }
+    ensures read { (bytes : List ℕ) → Reads text.now (reading bytes) → IfOk result (λ flat. IsFreeNetOf bytes limit flat.design.net flat.free) }
     ensures unread { (bytes : List ℕ) → Reads text.now (reading bytes) → IfErr result (OnRefused (IsUnread limit bytes)) }
 {
     match text {

@@ -3,11 +3,14 @@
 
 mod decision;
 mod designs;
+mod file_words;
 mod flattening;
 mod line;
 mod loads;
+mod performing;
 mod program;
 mod reasons;
+mod saves;
 mod status;
 mod taker;
 mod texts;

@@ -3,15 +3,18 @@ ghost use Rattle.std.specs.Prelude.{◌≡◌, ◌≤◌, ◌∷◌, [], length,
 ghost use Rattle.blif_text.specs.Reader.{StandsFor, most_bytes};
 ghost use Rattle.tmr_outside.specs.Counts.{NoneFell, NoneRose};
 ghost use Rattle.tmr_outside.specs.Pieces.{TakesFile};
-ghost use Rattle.tmr_top.specs.Line.{Validate};
-ghost use Rattle.tmr_top.specs.FileWords.{pair_in};
-ghost use Rattle.tmr_top.specs.Loads.{Load, load_name, loads_of, seen, StayElsewhere};
-ghost use Rattle.tmr_top.specs.Loaded.{HoldsText, HoldsBytes, HoldsPairTexts, IsStop, IsSteadyStop};
+ghost use Rattle.tmr_outside.specs.Seen.{IsTold};
+ghost use Rattle.tmr_top.specs.FileWords.{command_in, load_in};
+ghost use Rattle.tmr_top.specs.Loads.{load_name, loads_of, original_file as original_load, hardened_file as hardened_load, certificate_file as certificate_load};
+ghost use Rattle.tmr_top.specs.Changes.{ChangesOnly};
+ghost use Rattle.tmr_top.specs.Loaded.{HoldsText, HoldsBytes, Loads, IsStop, IsSteadyStop};
 
-use crate::line::PairWords;
+use crate::file_words::{FileKind, LoadWords};
+use crate::line::CommandWords;
 use crate::taker::TextTaker;
 use blif_text::{Library, TextFault};
 use std::alloc::Global;
+use tmr_base::OutOfMemory;
 use tmr_outside::{Files, LoadFault};
 
 /// The most bytes of an original design, and of its flat text.
@@ -31,73 +34,123 @@ pub enum Stop<'a> {
     Memory,
 }
 
-/// What the three files of a pair hold: two netlists that are read, and the bytes of the certificate.
+/// What was loaded of a file.
 #[derive(Drop)]
-pub struct PairTexts {
-    pub original: Result<Library, TextFault>,
-    pub hardened: Result<Library, TextFault>,
-    pub certificate: Vec<u8>,
+pub enum Loaded {
+    Netlist(Result<Library, TextFault>),
+    Bytes(Vec<u8>),
 }
 
-/// Hands a file to a reader in pieces.
+/// An original design.
+fn original_file<'a>(name: &'a str) -> LoadWords<'a>
+    ensures { load_in result ≡ original_load name.now }
+{
+    LoadWords {
+        name,
+        limit: ORIGINAL_LIMIT,
+        kind: FileKind::Netlist,
+    }
+}
+
+/// A hardened design.
+fn hardened_file<'a>(name: &'a str) -> LoadWords<'a>
+    ensures { load_in result ≡ hardened_load name.now }
+{
+    LoadWords {
+        name,
+        limit: HARDENED_LIMIT,
+        kind: FileKind::Netlist,
+    }
+}
+
+/// A certificate.
+fn certificate_file<'a>(name: &'a str) -> LoadWords<'a>
+    ensures { load_in result ≡ certificate_load name.now }
+{
+    LoadWords {
+        name,
+        limit: CERTIFICATE_LIMIT,
+        kind: FileKind::Bytes,
+    }
+}
+
+/// The files that a command loads, in this order.
+pub fn list_loads<'a>(
+    alloc: Global,
+    words: &CommandWords<'a>,
+) -> Result<Vec<LoadWords<'a>>, OutOfMemory>
+    ensures { IfOk result (λ loads. map load_in loads.items ≡ loads_of (command_in words.now)) }
+{
+    let mut loads = Vec::new(alloc);
+    match words {
+        CommandWords::Validate(pair) => {
+            loads.push(original_file(pair.original))?;
+            loads.push(hardened_file(pair.hardened))?;
+            loads.push(certificate_file(pair.certificate))?;
+        }
+        CommandWords::Flatten(flat) => loads.push(original_file(flat.original))?,
+    }
+    Ok(loads)
+}
+
+/// Hands a netlist to a reader in pieces.
 #[tactic(auto, using(crate::proofs::LoadLaws::one_load))]
 fn take_text<'a, F: Files>(
     alloc: Global,
     files: &mut F,
-    name: &'a str,
-    limit: u64,
+    load: &LoadWords<'a>,
     taker: &mut TextTaker,
 ) -> Result<(), Stop<'a>>
-    requires { limit ≤ taker.old.reader.room }
-    ensures taken { TakesFile (StandsFor taker.old.reader) (StandsFor taker.new.reader) taker.old.reader.room taker.new.reader.room limit
-        (F.contents files.old) name.now (IsOk result) }
-    ensures stop { IfErr result (λ stop. IsStop ((record { name = name.now; limit = limit }) ∷ [])
-        (seen (F.contents files.old) (F.load_count files.old) (F.save_count files.old))
-        (seen (F.contents files.new) (F.load_count files.new) (F.save_count files.new)) stop) }
-    ensures quiet { OnOk result (IsSome (F.contents files.old) → NoneRose (F.load_count files.old) (F.load_count files.new)) }
-    ensures stays { F.contents files.new ≡ F.contents files.old }
-    ensures loads { NoneFell (F.load_count files.old) (F.load_count files.new) }
-    ensures loads_only { IsSome (F.contents files.old) → StayElsewhere (map load_name ((record { name = name.now; limit = limit }) ∷ [])) (F.load_count files.old) (F.load_count files.new) }
-    ensures saves { NoneFell (F.save_count files.old) (F.save_count files.new) }
-    ensures no_saves { IsSome (F.contents files.old) → NoneRose (F.save_count files.old) (F.save_count files.new) }
+    requires { load.now.limit ≤ taker.old.reader.room }
+    ensures taken { TakesFile (StandsFor taker.old.reader) (StandsFor taker.new.reader)
+        taker.old.reader.room taker.new.reader.room load.now.limit
+        (F.seen files.old).contents load.now.name.now (IsOk result) }
+    ensures quiet { OnOk result (IsTold (F.seen files.old)
+        → NoneRose (F.seen files.old).load_count (F.seen files.new).load_count) }
+    ensures stop { IfErr result (λ stop.
+        IsStop (load_in load.now ∷ []) (F.seen files.old) (F.seen files.new) stop) }
+    ensures stays { (F.seen files.new).contents ≡ (F.seen files.old).contents }
+    ensures changes { ChangesOnly (load.now.name.now ∷ []) []
+        (F.seen files.old) (F.seen files.new) }
     ensures steady { F.steady files.old → F.steady files.new }
-    ensures steady_stop { F.steady files.old → IfErr result (λ stop. IsSteadyStop ((record { name = name.now; limit = limit }) ∷ []) (F.contents files.old) stop) }
+    ensures steady_stop { F.steady files.old → IfErr result (λ stop.
+        IsSteadyStop (load_in load.now ∷ []) (F.seen files.old).contents stop) }
 {
-    match files.load_pieces(alloc, name, limit, taker) {
+    match files.load_pieces(alloc, load.name, load.limit, taker) {
         Ok(()) => Ok(()),
-        Err(LoadFault::Failed) => Err(Stop::Failed(name)),
-        Err(LoadFault::TooLong) => Err(Stop::TooLong(name)),
+        Err(LoadFault::Failed) => Err(Stop::Failed(load.name)),
+        Err(LoadFault::TooLong) => Err(Stop::TooLong(load.name)),
         Err(LoadFault::Memory) => Err(Stop::Memory),
     }
 }
 
-/// Loads a netlist in pieces, and reads it meanwhile. A netlist that is refused is loaded all the same.
+/// Loads a netlist in pieces, and reads it meanwhile. A netlist that is refused is loaded all the
+/// same.
 #[tactic(auto, using(crate::proofs::LoadLaws::one_load))]
-pub fn load_text<'a, F: Files>(
+fn load_text<'a, F: Files>(
     alloc: Global,
     files: &mut F,
-    name: &'a str,
-    limit: u64,
+    load: &LoadWords<'a>,
 ) -> Result<Result<Library, TextFault>, Stop<'a>>
-    requires { limit ≤ most_bytes }
-    ensures text { IfOk result (λ text. IfSome (F.contents files.old) (λ held. HoldsText held (record { name = name.now; limit = limit }) text)) }
-    ensures stop { IfErr result (λ stop. IsStop ((record { name = name.now; limit = limit }) ∷ [])
-        (seen (F.contents files.old) (F.load_count files.old) (F.save_count files.old))
-        (seen (F.contents files.new) (F.load_count files.new) (F.save_count files.new)) stop) }
-    ensures quiet { OnOk result (IsSome (F.contents files.old) → NoneRose (F.load_count files.old) (F.load_count files.new)) }
-    ensures stays { F.contents files.new ≡ F.contents files.old }
-    ensures loads { NoneFell (F.load_count files.old) (F.load_count files.new) }
-    ensures loads_only { IsSome (F.contents files.old) → StayElsewhere (map load_name ((record { name = name.now; limit = limit }) ∷ [])) (F.load_count files.old) (F.load_count files.new) }
-    ensures saves { NoneFell (F.save_count files.old) (F.save_count files.new) }
-    ensures no_saves { IsSome (F.contents files.old) → NoneRose (F.save_count files.old) (F.save_count files.new) }
+    requires { load.now.limit ≤ most_bytes }
+    ensures text { IfOk result (λ text. IfSome (F.seen files.old).contents (λ held.
+        HoldsText held (load_in load.now) text)) }
+    ensures quiet { OnOk result (IsTold (F.seen files.old)
+        → NoneRose (F.seen files.old).load_count (F.seen files.new).load_count) }
+    ensures stop { IfErr result (λ stop.
+        IsStop (load_in load.now ∷ []) (F.seen files.old) (F.seen files.new) stop) }
+    ensures stays { (F.seen files.new).contents ≡ (F.seen files.old).contents }
+    ensures changes { ChangesOnly (load.now.name.now ∷ []) []
+        (F.seen files.old) (F.seen files.new) }
     ensures steady { F.steady files.old → F.steady files.new }
-    ensures steady_stop { F.steady files.old → IfErr result (λ stop. IsSteadyStop ((record { name = name.now; limit = limit }) ∷ []) (F.contents files.old) stop) }
+    ensures steady_stop { F.steady files.old → IfErr result (λ stop.
+        IsSteadyStop (load_in load.now ∷ []) (F.seen files.old).contents stop) }
 {
     let mut taker = match TextTaker::new(alloc) {
         Ok(taker) => taker,
         Err(_) => return Err(Stop::Memory),
     };
-    match take_text(alloc, files, name, limit, &mut taker) {
+    match take_text(alloc, files, load, &mut taker) {
         Ok(()) => Ok(taker.finish()),
         Err(stop) => Err(stop),
     }
@@ -105,61 +158,87 @@ pub fn load_text<'a, F: Files>(
 
 /// Loads a file whole.
 #[tactic(auto, using(crate::proofs::LoadLaws::one_load))]
-pub fn load_bytes<'a, F: Files>(
+fn load_bytes<'a, F: Files>(
     alloc: Global,
     files: &mut F,
-    name: &'a str,
-    limit: u64,
+    load: &LoadWords<'a>,
 ) -> Result<Vec<u8>, Stop<'a>>
-    ensures bytes { IfOk result (λ bytes. IfSome (F.contents files.old) (λ held. HoldsBytes held (record { name = name.now; limit = limit }) bytes.items)) }
-    ensures short { IfOk result (λ bytes. length bytes.items ≤ limit) }
-    ensures stop { IfErr result (λ stop. IsStop ((record { name = name.now; limit = limit }) ∷ [])
-        (seen (F.contents files.old) (F.load_count files.old) (F.save_count files.old))
-        (seen (F.contents files.new) (F.load_count files.new) (F.save_count files.new)) stop) }
-    ensures quiet { OnOk result (IsSome (F.contents files.old) → NoneRose (F.load_count files.old) (F.load_count files.new)) }
-    ensures stays { F.contents files.new ≡ F.contents files.old }
-    ensures loads { NoneFell (F.load_count files.old) (F.load_count files.new) }
-    ensures loads_only { IsSome (F.contents files.old) → StayElsewhere (map load_name ((record { name = name.now; limit = limit }) ∷ [])) (F.load_count files.old) (F.load_count files.new) }
-    ensures saves { NoneFell (F.save_count files.old) (F.save_count files.new) }
-    ensures no_saves { IsSome (F.contents files.old) → NoneRose (F.save_count files.old) (F.save_count files.new) }
+    ensures bytes { IfOk result (λ bytes. IfSome (F.seen files.old).contents (λ held.
+        HoldsBytes held (load_in load.now) bytes.items)) }
+    ensures short { IfOk result (λ bytes. length bytes.items ≤ load.now.limit) }
+    ensures quiet { OnOk result (IsTold (F.seen files.old)
+        → NoneRose (F.seen files.old).load_count (F.seen files.new).load_count) }
+    ensures stop { IfErr result (λ stop.
+        IsStop (load_in load.now ∷ []) (F.seen files.old) (F.seen files.new) stop) }
+    ensures stays { (F.seen files.new).contents ≡ (F.seen files.old).contents }
+    ensures changes { ChangesOnly (load.now.name.now ∷ []) []
+        (F.seen files.old) (F.seen files.new) }
     ensures steady { F.steady files.old → F.steady files.new }
-    ensures steady_stop { F.steady files.old → IfErr result (λ stop. IsSteadyStop ((record { name = name.now; limit = limit }) ∷ []) (F.contents files.old) stop) }
+    ensures steady_stop { F.steady files.old → IfErr result (λ stop.
+        IsSteadyStop (load_in load.now ∷ []) (F.seen files.old).contents stop) }
 {
-    match files.load(alloc, name, limit) {
+    match files.load(alloc, load.name, load.limit) {
         Ok(bytes) => Ok(bytes),
-        Err(LoadFault::Failed) => Err(Stop::Failed(name)),
-        Err(LoadFault::TooLong) => Err(Stop::TooLong(name)),
+        Err(LoadFault::Failed) => Err(Stop::Failed(load.name)),
+        Err(LoadFault::TooLong) => Err(Stop::TooLong(load.name)),
         Err(LoadFault::Memory) => Err(Stop::Memory),
     }
 }
 
-/// Loads the three files of a pair in the order of the words.
-#[tactic(auto, using(crate::proofs::LoadLaws::more_loads))]
-pub fn load_pair<'a, F: Files>(
+/// Loads a file as its kind wants it.
+#[tactic(auto, using(crate::proofs::LoadLaws::of_kind))]
+fn load_one<'a, F: Files>(
     alloc: Global,
     files: &mut F,
-    words: &PairWords<'a>,
-) -> Result<PairTexts, Stop<'a>>
-    ensures texts { IfOk result (λ texts. IfSome (F.contents files.old) (λ held. HoldsPairTexts held (pair_in words.now) texts)) }
-    ensures short { IfOk result (λ texts. length texts.certificate.items ≤ 1073741824) }
-    ensures stop { IfErr result (λ stop. IsStop (loads_of (Validate (pair_in words.now)))
-        (seen (F.contents files.old) (F.load_count files.old) (F.save_count files.old))
-        (seen (F.contents files.new) (F.load_count files.new) (F.save_count files.new)) stop) }
-    ensures quiet { OnOk result (IsSome (F.contents files.old) → NoneRose (F.load_count files.old) (F.load_count files.new)) }
-    ensures stays { F.contents files.new ≡ F.contents files.old }
-    ensures loads { NoneFell (F.load_count files.old) (F.load_count files.new) }
-    ensures loads_only { IsSome (F.contents files.old) → StayElsewhere (map load_name (loads_of (Validate (pair_in words.now)))) (F.load_count files.old) (F.load_count files.new) }
-    ensures saves { NoneFell (F.save_count files.old) (F.save_count files.new) }
-    ensures no_saves { IsSome (F.contents files.old) → NoneRose (F.save_count files.old) (F.save_count files.new) }
+    load: &LoadWords<'a>,
+) -> Result<Loaded, Stop<'a>>
+    ensures loads { IfOk result (λ one.
+        Loads (load_in load.now ∷ []) (F.seen files.old) (F.seen files.new) (one ∷ [])) }
+    ensures stop { IfErr result (λ stop.
+        IsStop (load_in load.now ∷ []) (F.seen files.old) (F.seen files.new) stop) }
+    ensures stays { (F.seen files.new).contents ≡ (F.seen files.old).contents }
+    ensures changes { ChangesOnly (load.now.name.now ∷ []) []
+        (F.seen files.old) (F.seen files.new) }
     ensures steady { F.steady files.old → F.steady files.new }
-    ensures steady_stop { F.steady files.old → IfErr result (λ stop. IsSteadyStop (loads_of (Validate (pair_in words.now))) (F.contents files.old) stop) }
+    ensures steady_stop { F.steady files.old → IfErr result (λ stop.
+        IsSteadyStop (load_in load.now ∷ []) (F.seen files.old).contents stop) }
 {
-    let original = load_text(alloc, files, words.original, ORIGINAL_LIMIT)?;
-    let hardened = load_text(alloc, files, words.hardened, HARDENED_LIMIT)?;
-    let certificate = load_bytes(alloc, files, words.certificate, CERTIFICATE_LIMIT)?;
-    Ok(PairTexts {
-        original,
-        hardened,
-        certificate,
-    })
+    match load.kind {
+        FileKind::Netlist => match load_text(alloc, files, load) {
+            Ok(text) => Ok(Loaded::Netlist(text)),
+            Err(stop) => Err(stop),
+        },
+        FileKind::Bytes => match load_bytes(alloc, files, load) {
+            Ok(bytes) => Ok(Loaded::Bytes(bytes)),
+            Err(stop) => Err(stop),
+        },
+    }
+}
+
+/// Loads the files one after the other, in the order of the list.
+pub fn load_all<'a, F: Files>(
+    alloc: Global,
+    files: &mut F,
+    loads: &[LoadWords<'a>],
+) -> Result<Vec<Loaded>, Stop<'a>>
+    ensures loads { IfOk result (λ all.
+        Loads (map load_in loads.now) (F.seen files.old) (F.seen files.new) all.items) }
+    ensures stop { IfErr result (λ stop.
+        IsStop (map load_in loads.now) (F.seen files.old) (F.seen files.new) stop) }
+    ensures stays { (F.seen files.new).contents ≡ (F.seen files.old).contents }
+    ensures changes { ChangesOnly (map load_name (map load_in loads.now)) []
+        (F.seen files.old) (F.seen files.new) }
+    ensures steady { F.steady files.old → F.steady files.new }
+    ensures steady_stop { F.steady files.old → IfErr result (λ stop.
+        IsSteadyStop (map load_in loads.now) (F.seen files.old).contents stop) }
+{
+    let mut all = Vec::new(alloc);
+    for load in loads {
+        let one = load_one(alloc, files, load)?;
+        match all.push(one) {
+            Ok(()) => {}
+            Err(_) => return Err(Stop::Memory),
+        }
+    }
+    Ok(all)
 }

@@ -1,69 +1,44 @@
 //! One run of the program.
-ghost use Rattle.std.specs.Prelude.{◌≡◌, ◌≢◌, ◌≤◌, Some, None, IfOk, IfSome, IsSome, IsSomeAnd, MatchResult, ◌⊎◌};
-ghost use Rattle.tmr_outside.specs.Counts.{Rose, NoneFell, NoneRose};
-ghost use Rattle.tmr_top.specs.Line.{Pair, Flattening, Validate, Flatten, texts, line_of};
-ghost use Rattle.tmr_top.specs.FileWords.{command_in};
-ghost use Rattle.tmr_top.specs.Loads.{seen, loaded_names, saved_names, StayElsewhere, HeldElsewhere};
+ghost use Rattle.std.specs.Prelude.{◌≡◌, ◌≢◌, ◌≤◌, ◌⊎◌, Some, None, IfOk, IfSome, IsSomeAnd, MatchResult};
+ghost use Rattle.tmr_outside.specs.Counts.{Rose, NoneRose};
+ghost use Rattle.tmr_outside.specs.Seen.{IsTold};
+ghost use Rattle.tmr_top.specs.Line.{Pair, Validate, meaning};
+ghost use Rattle.tmr_top.specs.Loads.{loaded_names, saved_names};
+ghost use Rattle.tmr_top.specs.Changes.{ChangesOnly, NoneFailed};
+ghost use Rattle.tmr_top.specs.Saves.{Completes};
 ghost use Rattle.tmr_top.specs.Pairs.{Masked};
-ghost use Rattle.tmr_top.specs.Flattened.{IsFlattened};
-ghost use Rattle.tmr_top.specs.Runs.{Prints, Leaves, Ends, Ran, SomeMissing, SomeLoadRose, SomeSaveRose, IsRefusable, Disagrees, Succeeds};
+ghost use Rattle.tmr_top.specs.Causes.{Where, OrMemory, SomeMissing, SomeLoadRose, SomeSaveRose, IsRefusable, Disagrees, Succeeds};
+ghost use Rattle.tmr_top.specs.Works.{LeavesLine};
+ghost use Rattle.tmr_top.specs.Runs.{Acts, Ends, Ran, Untouched};
 
 use crate::Status;
 use crate::decision::Decision;
-use crate::flattening::flatten_file;
-use crate::line::{CommandWords, read_line};
+use crate::line::read_line;
+use crate::performing::perform;
 use crate::texts::{usage, want_of_memory};
-use crate::validation::validate;
 use std::alloc::Global;
 use tmr_base::OutOfMemory;
 use tmr_outside::{Files, PutFault, Sink};
 
-/// What a command comes to before anything is printed.
-#[tactic(auto, using(crate::proofs::RunLaws::commands))]
-fn perform<F: Files>(
-    alloc: Global,
-    words: &CommandWords,
-    files: &mut F,
-) -> Result<Decision, OutOfMemory>
-    ensures prints { IfOk result (λ d. Prints (Some (command_in words.now))
-        (seen (F.contents files.old) (F.load_count files.old) (F.save_count files.old))
-        (seen (F.contents files.new) (F.load_count files.new) (F.save_count files.new)) d.status d.text.items) }
-    ensures leaves { MatchResult result
-        (λ d. Leaves (Some (command_in words.now)) (seen (F.contents files.old) (F.load_count files.old) (F.save_count files.old)) (seen (F.contents files.new) (F.load_count files.new) (F.save_count files.new)) d.status)
-        (λ _. Leaves (Some (command_in words.now)) (seen (F.contents files.old) (F.load_count files.old) (F.save_count files.old)) (seen (F.contents files.new) (F.load_count files.new) (F.save_count files.new)) Status.Memory) }
-    ensures answered { IfOk result (λ d. IsSome (F.contents files.old) → d.status ≢ Status.Fault → NoneRose (F.load_count files.old) (F.load_count files.new)) }
-    ensures missing { IfOk result (λ d. F.steady files.old → d.status ≡ Status.Fault → IfSome (F.contents files.old) (λ held. SomeMissing held (command_in words.now))) }
-    ensures load_failed { IsSome (F.contents files.old) → (F.contents files.new ≡ F.contents files.old) ⊎ NoneRose (F.load_count files.old) (F.load_count files.new) }
-    ensures elsewhere { HeldElsewhere (saved_names (Some (command_in words.now))) (F.contents files.old) (F.contents files.new) }
-    ensures loads { NoneFell (F.load_count files.old) (F.load_count files.new) }
-    ensures loads_only { IsSome (F.contents files.old) → StayElsewhere (loaded_names (Some (command_in words.now))) (F.load_count files.old) (F.load_count files.new) }
-    ensures saves { NoneFell (F.save_count files.old) (F.save_count files.new) }
-    ensures saves_only { IsSome (F.contents files.old) → StayElsewhere (saved_names (Some (command_in words.now))) (F.save_count files.old) (F.save_count files.new) }
-{
-    match words {
-        CommandWords::Validate(pair) => validate(alloc, pair, files),
-        CommandWords::Flatten(flat) => flatten_file(alloc, flat, files),
-    }
-}
-
 /// What the words come to before anything is printed.
 #[tactic(auto, using(crate::proofs::RunLaws::lines))]
 fn decide<F: Files>(alloc: Global, words: &[String], files: &mut F) -> Result<Decision, OutOfMemory>
-    ensures prints { IfOk result (λ d. Prints (line_of (texts words.now))
-        (seen (F.contents files.old) (F.load_count files.old) (F.save_count files.old))
-        (seen (F.contents files.new) (F.load_count files.new) (F.save_count files.new)) d.status d.text.items) }
-    ensures leaves { MatchResult result
-        (λ d. Leaves (line_of (texts words.now)) (seen (F.contents files.old) (F.load_count files.old) (F.save_count files.old)) (seen (F.contents files.new) (F.load_count files.new) (F.save_count files.new)) d.status)
-        (λ _. Leaves (line_of (texts words.now)) (seen (F.contents files.old) (F.load_count files.old) (F.save_count files.old)) (seen (F.contents files.new) (F.load_count files.new) (F.save_count files.new)) Status.Memory) }
-    ensures answered { IfOk result (λ d. IsSome (F.contents files.old) → d.status ≢ Status.Fault → NoneRose (F.load_count files.old) (F.load_count files.new)) }
-    ensures missing { IfOk result (λ d. F.steady files.old → d.status ≡ Status.Fault
-        → IfSome (line_of (texts words.now)) (λ c. IfSome (F.contents files.old) (λ held. SomeMissing held c))) }
-    ensures load_failed { IsSome (F.contents files.old) → (F.contents files.new ≡ F.contents files.old) ⊎ NoneRose (F.load_count files.old) (F.load_count files.new) }
-    ensures elsewhere { HeldElsewhere (saved_names (line_of (texts words.now))) (F.contents files.old) (F.contents files.new) }
-    ensures loads { NoneFell (F.load_count files.old) (F.load_count files.new) }
-    ensures loads_only { IsSome (F.contents files.old) → StayElsewhere (loaded_names (line_of (texts words.now))) (F.load_count files.old) (F.load_count files.new) }
-    ensures saves { NoneFell (F.save_count files.old) (F.save_count files.new) }
-    ensures saves_only { IsSome (F.contents files.old) → StayElsewhere (saved_names (line_of (texts words.now))) (F.save_count files.old) (F.save_count files.new) }
+    ensures acts { MatchResult result
+        (λ d. Acts (meaning words.now) (F.seen files.old) (F.seen files.new) d.status d.text.items)
+        (λ _. LeavesLine (meaning words.now) (F.seen files.old) (F.seen files.new)) }
+    ensures unfailed { IfOk result (λ d. IsTold (F.seen files.old) → d.status ≢ Status.Fault
+        → NoneFailed (F.seen files.old) (F.seen files.new)) }
+    ensures missing { F.steady files.old → IfOk result (λ d. d.status ≡ Status.Fault
+        → Where (meaning words.now) (F.seen files.old) SomeMissing) }
+    ensures load_failed { IsTold (F.seen files.old)
+        → Untouched (F.seen files.old) (F.seen files.new)
+        ⊎ NoneRose (F.seen files.old).load_count (F.seen files.new).load_count }
+    ensures changes { ChangesOnly
+        (loaded_names (meaning words.now)) (saved_names (meaning words.now))
+        (F.seen files.old) (F.seen files.new) }
+    ensures masks { (p : Pair) → meaning words.now ≡ Some (Validate p)
+        → IfOk result (λ d. d.status ≡ Status.Done
+        → IfSome (F.seen files.old).contents (λ held. Masked held p)) }
 {
     match read_line(alloc, words) {
         Ok(Some(command)) => perform(alloc, &command, files),
@@ -80,10 +55,9 @@ fn decide<F: Files>(alloc: Global, words: &[String], files: &mut F) -> Result<De
 
 /// Puts the text of a status that was decided.
 fn finish<S: Sink>(status: Status, text: &[u8], out: &mut S) -> Status
-    ensures ends { Ends text.now (S.written out.old) (S.written out.new) (S.put_count out.old) (S.put_count out.new) status result }
-    ensures later { S.put_count out.old ≤ S.put_count out.new }
-    ensures steady { S.steady out.old → S.steady out.new }
-    ensures steady_same { S.steady out.old → (result ≡ status) ⊎ (result ≡ Status.Memory) }
+    ensures ends { Ends text.now (S.seen out.old) (S.seen out.new) status result }
+    ensures later { (S.seen out.old).put_count ≤ (S.seen out.new).put_count }
+    ensures steady { S.steady out.old → OrMemory result status }
 {
     match out.put(text) {
         Ok(()) => status,
@@ -106,20 +80,22 @@ fn decide_and_put<F: Files, S: Sink>(
     files: &mut F,
     out: &mut S,
 ) -> Status
-    ensures ran { Ran (line_of (texts words.now))
-        (seen (F.contents files.old) (F.load_count files.old) (F.save_count files.old))
-        (seen (F.contents files.new) (F.load_count files.new) (F.save_count files.new))
-        (S.written out.old) (S.written out.new) (S.put_count out.old) (S.put_count out.new) result }
-    ensures unfailed { IsSome (F.contents files.old) → result ≢ Status.Fault → result ≢ Status.Memory → NoneRose (F.load_count files.old) (F.load_count files.new) }
+    ensures ran { Ran (meaning words.now) (F.seen files.old) (F.seen files.new)
+        (S.seen out.old) (S.seen out.new) result }
+    ensures unfailed { IsTold (F.seen files.old)
+        → result ≢ Status.Fault → result ≢ Status.Memory
+        → NoneFailed (F.seen files.old) (F.seen files.new) }
     ensures missing { F.steady files.old → S.steady out.old → result ≡ Status.Fault
-        → IfSome (line_of (texts words.now)) (λ c. IfSome (F.contents files.old) (λ held. SomeMissing held c)) }
-    ensures load_failed { IsSome (F.contents files.old) → (F.contents files.new ≡ F.contents files.old) ⊎ NoneRose (F.load_count files.old) (F.load_count files.new) }
-    ensures elsewhere { HeldElsewhere (saved_names (line_of (texts words.now))) (F.contents files.old) (F.contents files.new) }
-    ensures loads { NoneFell (F.load_count files.old) (F.load_count files.new) }
-    ensures loads_only { IsSome (F.contents files.old) → StayElsewhere (loaded_names (line_of (texts words.now))) (F.load_count files.old) (F.load_count files.new) }
-    ensures saves { NoneFell (F.save_count files.old) (F.save_count files.new) }
-    ensures saves_only { IsSome (F.contents files.old) → StayElsewhere (saved_names (line_of (texts words.now))) (F.save_count files.old) (F.save_count files.new) }
-    ensures puts { S.put_count out.old ≤ S.put_count out.new }
+        → Where (meaning words.now) (F.seen files.old) SomeMissing }
+    ensures load_failed { IsTold (F.seen files.old)
+        → Untouched (F.seen files.old) (F.seen files.new)
+        ⊎ NoneRose (F.seen files.old).load_count (F.seen files.new).load_count }
+    ensures changes { ChangesOnly
+        (loaded_names (meaning words.now)) (saved_names (meaning words.now))
+        (F.seen files.old) (F.seen files.new) }
+    ensures masks { (p : Pair) → meaning words.now ≡ Some (Validate p)
+        → result ≡ Status.Done → IfSome (F.seen files.old).contents (λ held. Masked held p) }
+    ensures puts { (S.seen out.old).put_count ≤ (S.seen out.new).put_count }
 {
     match decide(alloc, words, files) {
         Ok(decision) => finish(decision.status, &decision.text, out),
@@ -127,75 +103,79 @@ fn decide_and_put<F: Files, S: Sink>(
     }
 }
 
-/// Runs the program once: reads the words (without the program's own name), loads the files, does the
-/// command, saves what it saves, and puts its text.
+/// Runs the program once: reads the words (without the program's own name), loads the files, does
+/// the command, saves its texts, and puts its text.
 ///
-/// The commands are `validate ORIG HARD CERT`, which saves nothing, and `flatten ORIG FLAT`, which saves
-/// FLAT. Where memory is short, the answer may be `Memory` in place of any other.
+/// The commands are `validate ORIG HARD CERT`, which saves nothing, and `flatten ORIG FLAT`, which
+/// saves FLAT. Where memory is short, the answer may be `Memory` in place of any other.
 pub fn run<F: Files, S: Sink>(alloc: Global, words: &[String], files: &mut F, out: &mut S) -> Status
-    // The headline. Where contents are told and the words are `validate ORIG HARD CERT`, the answer Done says that the three
-    // names hold two designs and a certificate, that the eight rules hold of them, and that every allowed schedule of upsets of
-    // the hardened design is masked, over all inputs.
-    ensures masks { (p : Pair) → (line_of (texts words.now)) ≡ Some (Validate p) → result ≡ Status.Done
-        → IfSome (F.contents files.old) (λ held. Masked held p) }
+    // The headline. Where contents are told and the words are `validate ORIG HARD CERT`, the answer
+    // Done says that the three names hold two designs and a certificate, that the eight rules hold
+    // of them, and that every allowed schedule of upsets of the hardened design is masked, over all
+    // inputs.
+    ensures masks { (p : Pair) → meaning words.now ≡ Some (Validate p)
+        → result ≡ Status.Done → IfSome (F.seen files.old).contents (λ held. Masked held p) }
 
-    // Where the words are `flatten ORIG FLAT`, Done says that ORIG held a design, that FLAT holds its flat text, and that all
-    // other names hold what they held.
-    ensures flattens { (f : Flattening) → (line_of (texts words.now)) ≡ Some (Flatten f) → result ≡ Status.Done
-        → IfSome (F.contents files.old) (λ held. IsFlattened held f (F.contents files.new)) }
+    // What is decided, saved and printed.
+    ensures ran { Ran (meaning words.now) (F.seen files.old) (F.seen files.new)
+        (S.seen out.old) (S.seen out.new) result }
 
-    ensures usage { result ≡ Status.Usage → (line_of (texts words.now)) ≡ None }
-    ensures usage_only { (line_of (texts words.now)) ≡ None → (result ≡ Status.Usage) ⊎ (result ≡ Status.Memory) }
+    ensures usage { result ≡ Status.Usage → meaning words.now ≡ None }
+    ensures usage_only { meaning words.now ≡ None → OrMemory result Status.Usage }
 
-    // A fault comes only where a load, a save or the put failed. Where a file is not there and those before it can be loaded, it comes.
-    ensures fault { result ≡ Status.Fault → IsSomeAnd (line_of (texts words.now)) (λ c.
-        SomeLoadRose c (seen (F.contents files.old) (F.load_count files.old) (F.save_count files.old)) (seen (F.contents files.new) (F.load_count files.new) (F.save_count files.new))
-        ⊎ SomeSaveRose c (seen (F.contents files.old) (F.load_count files.old) (F.save_count files.old)) (seen (F.contents files.new) (F.load_count files.new) (F.save_count files.new))
-        ⊎ Rose (S.put_count out.old) (S.put_count out.new)) }
+    // A fault comes only where a load, a save or the put failed, and no fault is passed over.
+    ensures fault { result ≡ Status.Fault → IsSomeAnd (meaning words.now) (λ c.
+        SomeLoadRose c (F.seen files.old) (F.seen files.new)
+        ⊎ SomeSaveRose c (F.seen files.old) (F.seen files.new)
+        ⊎ Rose (S.seen out.old).put_count (S.seen out.new).put_count) }
+    ensures unfailed { IsTold (F.seen files.old)
+        → result ≢ Status.Fault → result ≢ Status.Memory
+        → NoneFailed (F.seen files.old) (F.seen files.new) }
+
+    // Where nothing else fails, it comes exactly of the first file that is not there.
     ensures fault_steady { F.steady files.old → S.steady out.old → result ≡ Status.Fault
-        → IfSome (line_of (texts words.now)) (λ c. IfSome (F.contents files.old) (λ held. SomeMissing held c)) }
-    ensures missing_only { IfSome (F.contents files.old) (λ held. IfSome (line_of (texts words.now)) (λ c.
-        SomeMissing held c → (result ≡ Status.Fault) ⊎ (result ≡ Status.Memory))) }
+        → Where (meaning words.now) (F.seen files.old) SomeMissing }
+    ensures missing_only { Where (meaning words.now) (F.seen files.old) (λ c held.
+        SomeMissing c held → OrMemory result Status.Fault) }
 
-    // Where contents are told and no load failed, the three other answers come exactly by what the files hold.
-    ensures refused { result ≡ Status.Refused → IsSomeAnd (line_of (texts words.now)) (λ c. IfSome (F.contents files.old) (λ held.
-        ¬ (SomeLoadRose c (seen (F.contents files.old) (F.load_count files.old) (F.save_count files.old)) (seen (F.contents files.new) (F.load_count files.new) (F.save_count files.new)))
-        × IsRefusable held c)) }
-    ensures refused_only { IfSome (F.contents files.old) (λ held. IfSome (line_of (texts words.now)) (λ c.
-        ¬ (SomeLoadRose c (seen (F.contents files.old) (F.load_count files.old) (F.save_count files.old)) (seen (F.contents files.new) (F.load_count files.new) (F.save_count files.new)))
-        → IsRefusable held c → (result ≡ Status.Refused) ⊎ (result ≡ Status.Memory))) }
-    ensures not_accepted { result ≡ Status.NotAccepted → IsSomeAnd (line_of (texts words.now)) (λ c. IfSome (F.contents files.old) (λ held.
-        ¬ (SomeLoadRose c (seen (F.contents files.old) (F.load_count files.old) (F.save_count files.old)) (seen (F.contents files.new) (F.load_count files.new) (F.save_count files.new)))
-        × Disagrees held c)) }
-    ensures not_accepted_only { IfSome (F.contents files.old) (λ held. IfSome (line_of (texts words.now)) (λ c.
-        ¬ (SomeLoadRose c (seen (F.contents files.old) (F.load_count files.old) (F.save_count files.old)) (seen (F.contents files.new) (F.load_count files.new) (F.save_count files.new)))
-        → Disagrees held c → (result ≡ Status.NotAccepted) ⊎ (result ≡ Status.Memory))) }
-    ensures done { result ≡ Status.Done → IsSomeAnd (line_of (texts words.now)) (λ c. IfSome (F.contents files.old) (λ held.
-        ¬ (SomeLoadRose c (seen (F.contents files.old) (F.load_count files.old) (F.save_count files.old)) (seen (F.contents files.new) (F.load_count files.new) (F.save_count files.new)))
-        × Succeeds held c)) }
-    ensures complete { IfSome (F.contents files.old) (λ held. IfSome (line_of (texts words.now)) (λ c.
-        ¬ (SomeLoadRose c (seen (F.contents files.old) (F.load_count files.old) (F.save_count files.old)) (seen (F.contents files.new) (F.load_count files.new) (F.save_count files.new)))
-        → ¬ (SomeSaveRose c (seen (F.contents files.old) (F.load_count files.old) (F.save_count files.old)) (seen (F.contents files.new) (F.load_count files.new) (F.save_count files.new)))
-        → ¬ (Rose (S.put_count out.old) (S.put_count out.new))
-        → Succeeds held c → (result ≡ Status.Done) ⊎ (result ≡ Status.Memory))) }
-    ensures complete_steady { F.steady files.old → S.steady out.old → IfSome (F.contents files.old) (λ held. IfSome (line_of (texts words.now)) (λ c.
-        Succeeds held c → (result ≡ Status.Done) ⊎ (result ≡ Status.Memory))) }
+    // Where contents are told and no load failed, the three other answers come exactly by what the
+    // files hold.
+    ensures refused { result ≡ Status.Refused
+        → Where (meaning words.now) (F.seen files.old) IsRefusable }
+    ensures refused_only { Where (meaning words.now) (F.seen files.old) (λ c held.
+        ¬ (SomeLoadRose c (F.seen files.old) (F.seen files.new))
+        → IsRefusable c held → OrMemory result Status.Refused) }
+    ensures not_accepted { result ≡ Status.NotAccepted
+        → Where (meaning words.now) (F.seen files.old) Disagrees }
+    ensures not_accepted_only { Where (meaning words.now) (F.seen files.old) (λ c held.
+        ¬ (SomeLoadRose c (F.seen files.old) (F.seen files.new))
+        → Disagrees c held → OrMemory result Status.NotAccepted) }
+    ensures done { result ≡ Status.Done → Where (meaning words.now) (F.seen files.old)
+        (λ c held. Completes c held (F.seen files.new).contents) }
+    ensures complete { Where (meaning words.now) (F.seen files.old) (λ c held.
+        ¬ (SomeLoadRose c (F.seen files.old) (F.seen files.new))
+        → ¬ (SomeSaveRose c (F.seen files.old) (F.seen files.new))
+        → ¬ (Rose (S.seen out.old).put_count (S.seen out.new).put_count)
+        → Succeeds c held → OrMemory result Status.Done) }
+    ensures otherwise { Where (meaning words.now) (F.seen files.old) (λ c held.
+        ¬ (SomeLoadRose c (F.seen files.old) (F.seen files.new))
+        → ¬ (SomeSaveRose c (F.seen files.old) (F.seen files.new))
+        → ¬ (Rose (S.seen out.old).put_count (S.seen out.new).put_count)
+        → ¬ (IsRefusable c held) → ¬ (Disagrees c held) → OrMemory result Status.Done) }
+    ensures complete_steady { F.steady files.old → S.steady out.old
+        → Where (meaning words.now) (F.seen files.old) (λ c held.
+        Succeeds c held → OrMemory result Status.Done) }
 
-    // What is printed, and what the files then hold.
-    ensures ran { Ran (line_of (texts words.now))
-        (seen (F.contents files.old) (F.load_count files.old) (F.save_count files.old))
-        (seen (F.contents files.new) (F.load_count files.new) (F.save_count files.new))
-        (S.written out.old) (S.written out.new) (S.put_count out.old) (S.put_count out.new) result }
-    ensures untouched { (result ≡ Status.Usage) ⊎ (result ≡ Status.Refused) ⊎ (result ≡ Status.NotAccepted)
-        → F.contents files.new ≡ F.contents files.old }
-    ensures load_failed { IsSome (F.contents files.old) → IfSome (line_of (texts words.now)) (λ c.
-        SomeLoadRose c (seen (F.contents files.old) (F.load_count files.old) (F.save_count files.old)) (seen (F.contents files.new) (F.load_count files.new) (F.save_count files.new)) → F.contents files.new ≡ F.contents files.old) }
-    ensures elsewhere { HeldElsewhere (saved_names (line_of (texts words.now))) (F.contents files.old) (F.contents files.new) }
-    ensures loads { NoneFell (F.load_count files.old) (F.load_count files.new) }
-    ensures loads_only { IsSome (F.contents files.old) → StayElsewhere (loaded_names (line_of (texts words.now))) (F.load_count files.old) (F.load_count files.new) }
-    ensures saves { NoneFell (F.save_count files.old) (F.save_count files.new) }
-    ensures saves_only { IsSome (F.contents files.old) → StayElsewhere (saved_names (line_of (texts words.now))) (F.save_count files.old) (F.save_count files.new) }
-    ensures puts { S.put_count out.old ≤ S.put_count out.new }
+    // What changes.
+    ensures untouched { (result ≡ Status.Usage) ⊎ (result ≡ Status.Refused)
+        ⊎ (result ≡ Status.NotAccepted) → Untouched (F.seen files.old) (F.seen files.new) }
+    ensures load_failed { IsTold (F.seen files.old) → IfSome (meaning words.now) (λ c.
+        SomeLoadRose c (F.seen files.old) (F.seen files.new)
+        → Untouched (F.seen files.old) (F.seen files.new)) }
+    ensures changes { ChangesOnly
+        (loaded_names (meaning words.now)) (saved_names (meaning words.now))
+        (F.seen files.old) (F.seen files.new) }
+    ensures puts { (S.seen out.old).put_count ≤ (S.seen out.new).put_count }
 {
     decide_and_put(alloc, words, files, out)
 }

@@ -2,7 +2,7 @@
 ghost use Rattle.std.specs.Prelude.{◌≡◌, ◌+◌, ◌≤◌, ◌<◌, ◌∷◌, [], codes, length, max, IfOk};
 ghost use Rattle.std.specs.Fmt.{decimal};
 ghost use Rattle.tmr_top.specs.FileWords.{read_words as read_pieces};
-ghost use Rattle.tmr_top.specs.Texts.{joined, greatest, accepted_line, place_text, not_accepted_line, refused_line, load_fault_line, save_fault_line, counted_text, flattened_line, line_reason, usage_text, memory_text};
+ghost use Rattle.tmr_top.specs.Texts.{joined, greatest, open_word, accepted_line, place_text, not_accepted_line, refused_line, load_fault_line, save_fault_line, counted_text, flattened_line, line_reason, usage_text, memory_text};
 ghost use Rattle.flat_net.specs.Net.{net_count};
 ghost use Rattle.validator.specs.Place.{IsPlace};
 
@@ -52,20 +52,31 @@ fn greatest_depth(c: &Certificate) -> u32
     most
 }
 
-/// The line of an accepted pair.
+/// What is said of open initial values.
+fn open_word(c: &Certificate) -> &'static [u8]
+    ensures { result.now ≡ open_word c.now.version }
+{
+    if c.version() == 1 {
+        b" assumed ".as_slice()
+    } else {
+        b" free ".as_slice()
+    }
+}
+
+/// The line of an accepted pair, which has so many open initial values.
 #[tactic(auto, unfolding(crate::specs::Texts::accepted_line))]
 pub fn accepted(
     alloc: Global,
     c: &Certificate,
-    assumed: u32,
-    hardened_assumed: u32,
+    count: u32,
+    hardened_count: u32,
 ) -> Result<Vec<u8>, OutOfMemory>
-    ensures { IfOk result (λ text. text.items ≡ accepted_line c.now assumed hardened_assumed) }
+    ensures { IfOk result (λ text. text.items ≡ accepted_line c.now count hardened_count) }
 {
     let parts = c.parts().to_string(alloc)?;
     let depth = greatest_depth(c).to_string(alloc)?;
-    let first = assumed.to_string(alloc)?;
-    let second = hardened_assumed.to_string(alloc)?;
+    let first = count.to_string(alloc)?;
+    let second = hardened_count.to_string(alloc)?;
     join(
         alloc,
         &[
@@ -73,7 +84,7 @@ pub fn accepted(
             parts.as_bytes(),
             b" depth ".as_slice(),
             depth.as_bytes(),
-            b" assumed ".as_slice(),
+            open_word(c),
             first.as_bytes(),
             b" ".as_slice(),
             second.as_bytes(),

@@ -1,84 +1,84 @@
 //! `validate ORIG HARD CERT`.
-ghost use Rattle.std.specs.Prelude.{◌≡◌, ◌≢◌, ◌≤◌, length, map, IfOk, IfSome, IsSome, OnOk};
+ghost use Rattle.std.specs.Prelude.{◌≡◌, ◌≤◌, length, IfOk};
 ghost use Rattle.certificate.specs.Cert.{Fits};
 ghost use Rattle.tmr_outside.specs.Contents.{Contents};
-ghost use Rattle.tmr_outside.specs.Counts.{NoneFell, NoneRose};
 ghost use Rattle.tmr_top.specs.Line.{Validate};
 ghost use Rattle.tmr_top.specs.FileWords.{pair_in};
-ghost use Rattle.tmr_top.specs.Loads.{original_file, hardened_file, certificate_file, load_name, loads_of, seen, StayElsewhere};
-ghost use Rattle.tmr_top.specs.Loaded.{HoldsText, HoldsBytes, HoldsPairTexts};
+ghost use Rattle.tmr_top.specs.Loads.{original_file, hardened_file, certificate_file, loads_of};
+ghost use Rattle.tmr_top.specs.Loaded.{HoldsText, HoldsBytes, HoldsEach, FitsEach};
 ghost use Rattle.tmr_top.specs.Designs.{HoldsDesign};
 ghost use Rattle.tmr_top.specs.Pairs.{HoldsCertificate};
-ghost use Rattle.tmr_top.specs.Runs.{PrintsOf, SomeMissing};
-ghost use Rattle.tmr_top.specs.Judged.{Judged, IsVerdict};
+ghost use Rattle.tmr_top.specs.Works.{IsWork, HasTexts};
 
-use crate::Status;
-use crate::decision::{Decision, refusal, stopped};
+use crate::decision::{Verdict, Work, refusal};
 use crate::designs::{Unread, read_design};
 use crate::line::PairWords;
-use crate::loads::{HARDENED_LIMIT, ORIGINAL_LIMIT, PairTexts, load_pair};
+use crate::loads::{HARDENED_LIMIT, Loaded, ORIGINAL_LIMIT};
 use crate::reasons::cert_reason;
 use crate::texts::{accepted, not_accepted};
+use blif_text::{Library, TextFault};
 use certificate::{Certificate, read_cert};
-use hierarchy::Flat;
+use flat_net::FreeNet;
 use std::alloc::Global;
 use tmr_base::OutOfMemory;
-use tmr_outside::Files;
-use validator::check;
+use validator::check_free;
 
-/// The decision over a pair that is read.
+/// The work over a pair that is read.
 #[tactic(auto, using(crate::proofs::PairLaws::verdicts))]
 fn judge_pair(
     alloc: Global,
     words: &PairWords,
-    n: &Flat,
-    h: &Flat,
+    n: &FreeNet,
+    h: &FreeNet,
     c: &Certificate,
-) -> Result<Decision, OutOfMemory>
-    requires { Fits n.now.net.net h.now.net.net c.now }
-    ensures verdict { IfOk result (λ d. IsVerdict d.status) }
+) -> Result<Work, OutOfMemory>
+    requires { Fits n.now.design.net h.now.design.net c.now }
+    ensures texts { IfOk result (HasTexts (Validate (pair_in words.now))) }
     ensures judged { (held : Contents)
-        → HoldsDesign held (original_file words.now.original.now) n.now.net.net n.now.assumed
-        → HoldsDesign held (hardened_file words.now.hardened.now) h.now.net.net h.now.assumed
-        → HoldsCertificate held (certificate_file words.now.certificate.now) n.now.net.net h.now.net.net c.now
-        → IfOk result (λ d. Judged held (pair_in words.now) d.status d.text.items) }
+        → HoldsDesign held (original_file words.now.original.now) n.now.design.net n.now.free
+        → HoldsDesign held (hardened_file words.now.hardened.now) h.now.design.net h.now.free
+        → HoldsCertificate held (certificate_file words.now.certificate.now)
+        n.now.design.net h.now.design.net c.now
+        → IfOk result (IsWork (Validate (pair_in words.now)) held) }
 {
-    match check(&n.net, &h.net, c) {
+    match check_free(n, h, c) {
         Ok(()) => {
-            let text = accepted(alloc, c, n.assumed, h.assumed)?;
-            Ok(Decision {
-                status: Status::Done,
+            let text = accepted(alloc, c, n.free_count(), h.free_count())?;
+            Ok(Work {
+                verdict: Verdict::Done,
+                saves: Vec::new(alloc),
                 text,
             })
         }
         Err(refusal) => {
-            let text = not_accepted(alloc, &h.net, refusal)?;
-            Ok(Decision {
-                status: Status::NotAccepted,
+            let text = not_accepted(alloc, h.net(), refusal)?;
+            Ok(Work {
+                verdict: Verdict::NotAccepted,
+                saves: Vec::new(alloc),
                 text,
             })
         }
     }
 }
 
-/// The decision where both designs are read.
+/// The work where both designs are read.
 #[tactic(auto, using(crate::proofs::PairLaws::certificate_refusals))]
 fn judge_certificate(
     alloc: Global,
     words: &PairWords,
-    n: &Flat,
-    h: &Flat,
+    n: &FreeNet,
+    h: &FreeNet,
     certificate: &[u8],
-) -> Result<Decision, OutOfMemory>
+) -> Result<Work, OutOfMemory>
     requires { length certificate.now ≤ 1073741824 }
-    ensures verdict { IfOk result (λ d. IsVerdict d.status) }
+    ensures texts { IfOk result (HasTexts (Validate (pair_in words.now))) }
     ensures judged { (held : Contents)
-        → HoldsDesign held (original_file words.now.original.now) n.now.net.net n.now.assumed
-        → HoldsDesign held (hardened_file words.now.hardened.now) h.now.net.net h.now.assumed
+        → HoldsDesign held (original_file words.now.original.now) n.now.design.net n.now.free
+        → HoldsDesign held (hardened_file words.now.hardened.now) h.now.design.net h.now.free
         → HoldsBytes held (certificate_file words.now.certificate.now) certificate.now
-        → IfOk result (λ d. Judged held (pair_in words.now) d.status d.text.items) }
+        → IfOk result (IsWork (Validate (pair_in words.now)) held) }
 {
-    match read_cert(alloc, certificate, &n.net, &h.net) {
+    match read_cert(alloc, certificate, n.net(), h.net()) {
         Ok(read) => judge_pair(alloc, words, n, h, &read),
         Err(fault) => {
             let reason = cert_reason(alloc, fault)?;
@@ -87,64 +87,68 @@ fn judge_certificate(
     }
 }
 
-/// The decision where the original is read.
+/// The work where the original is read.
 #[tactic(auto, using(crate::proofs::PairLaws::hardened_refusals))]
 fn judge_hardened(
     alloc: Global,
     words: &PairWords,
-    n: &Flat,
-    texts: &PairTexts,
-) -> Result<Decision, OutOfMemory>
-    requires { length texts.now.certificate.items ≤ 1073741824 }
-    ensures verdict { IfOk result (λ d. IsVerdict d.status) }
+    n: &FreeNet,
+    hardened: &Result<Library, TextFault>,
+    certificate: &[u8],
+) -> Result<Work, OutOfMemory>
+    requires { length certificate.now ≤ 1073741824 }
+    ensures texts { IfOk result (HasTexts (Validate (pair_in words.now))) }
     ensures judged { (held : Contents)
-        → HoldsDesign held (original_file words.now.original.now) n.now.net.net n.now.assumed
-        → HoldsPairTexts held (pair_in words.now) texts.now
-        → IfOk result (λ d. Judged held (pair_in words.now) d.status d.text.items) }
+        → HoldsDesign held (original_file words.now.original.now) n.now.design.net n.now.free
+        → HoldsText held (hardened_file words.now.hardened.now) hardened.now
+        → HoldsBytes held (certificate_file words.now.certificate.now) certificate.now
+        → IfOk result (IsWork (Validate (pair_in words.now)) held) }
 {
-    match read_design(alloc, &texts.hardened, HARDENED_LIMIT) {
-        Ok(hardened) => judge_certificate(alloc, words, n, &hardened, &texts.certificate),
+    match read_design(alloc, hardened, HARDENED_LIMIT) {
+        Ok(h) => judge_certificate(alloc, words, n, &h, certificate),
         Err(Unread::Refused(reason)) => refusal(alloc, words.hardened, &reason),
         Err(Unread::Memory) => Err(OutOfMemory),
     }
 }
 
-/// What the three files come to, where they are loaded.
+/// What the three files come to.
 #[tactic(auto, using(crate::proofs::PairLaws::original_refusals))]
-fn judge(alloc: Global, words: &PairWords, texts: &PairTexts) -> Result<Decision, OutOfMemory>
-    requires { length texts.now.certificate.items ≤ 1073741824 }
-    ensures verdict { IfOk result (λ d. IsVerdict d.status) }
+fn judge(
+    alloc: Global,
+    words: &PairWords,
+    original: &Result<Library, TextFault>,
+    hardened: &Result<Library, TextFault>,
+    certificate: &[u8],
+) -> Result<Work, OutOfMemory>
+    requires { length certificate.now ≤ 1073741824 }
+    ensures texts { IfOk result (HasTexts (Validate (pair_in words.now))) }
     ensures judged { (held : Contents)
-        → HoldsPairTexts held (pair_in words.now) texts.now
-        → IfOk result (λ d. Judged held (pair_in words.now) d.status d.text.items) }
+        → HoldsText held (original_file words.now.original.now) original.now
+        → HoldsText held (hardened_file words.now.hardened.now) hardened.now
+        → HoldsBytes held (certificate_file words.now.certificate.now) certificate.now
+        → IfOk result (IsWork (Validate (pair_in words.now)) held) }
 {
-    match read_design(alloc, &texts.original, ORIGINAL_LIMIT) {
-        Ok(original) => judge_hardened(alloc, words, &original, texts),
+    match read_design(alloc, original, ORIGINAL_LIMIT) {
+        Ok(n) => judge_hardened(alloc, words, &n, hardened, certificate),
         Err(Unread::Refused(reason)) => refusal(alloc, words.original, &reason),
         Err(Unread::Memory) => Err(OutOfMemory),
     }
 }
 
-/// What `validate` comes to before anything is printed. Nothing is saved.
-#[tactic(auto, using(crate::proofs::RunLaws::decisions))]
-pub fn validate<F: Files>(
-    alloc: Global,
-    words: &PairWords,
-    files: &mut F,
-) -> Result<Decision, OutOfMemory>
-    ensures prints { IfOk result (λ d. PrintsOf (Validate (pair_in words.now))
-        (seen (F.contents files.old) (F.load_count files.old) (F.save_count files.old))
-        (seen (F.contents files.new) (F.load_count files.new) (F.save_count files.new)) d.status d.text.items) }
-    ensures answered { IfOk result (λ d. IsSome (F.contents files.old) → d.status ≢ Status.Fault → NoneRose (F.load_count files.old) (F.load_count files.new)) }
-    ensures missing { IfOk result (λ d. F.steady files.old → d.status ≡ Status.Fault → IfSome (F.contents files.old) (λ held. SomeMissing held (Validate (pair_in words.now)))) }
-    ensures stays { F.contents files.new ≡ F.contents files.old }
-    ensures loads { NoneFell (F.load_count files.old) (F.load_count files.new) }
-    ensures loads_only { IsSome (F.contents files.old) → StayElsewhere (map load_name (loads_of (Validate (pair_in words.now)))) (F.load_count files.old) (F.load_count files.new) }
-    ensures saves { NoneFell (F.save_count files.old) (F.save_count files.new) }
-    ensures no_saves { IsSome (F.contents files.old) → NoneRose (F.save_count files.old) (F.save_count files.new) }
+/// The work of `validate`, where its files are loaded.
+pub fn validate(alloc: Global, words: &PairWords, loaded: &[Loaded]) -> Result<Work, OutOfMemory>
+    requires { FitsEach (loads_of (Validate (pair_in words.now))) loaded.now }
+    ensures texts { IfOk result (HasTexts (Validate (pair_in words.now))) }
+    ensures work { (held : Contents)
+        → HoldsEach held (loads_of (Validate (pair_in words.now))) loaded.now
+        → IfOk result (IsWork (Validate (pair_in words.now)) held) }
 {
-    match load_pair(alloc, files, words) {
-        Ok(texts) => judge(alloc, words, &texts),
-        Err(stop) => stopped(alloc, stop),
+    match loaded {
+        [
+            Loaded::Netlist(original),
+            Loaded::Netlist(hardened),
+            Loaded::Bytes(certificate),
+        ] => { judge(alloc, words, original, hardened, certificate) }
+        _ => unreachable!(),
     }
 }

@@ -34,7 +34,7 @@ fn length_of<F: Files>(
     name: &str,
     limit: u64,
 ) -> Result<u64, LoadFault>
-    ensures { IfOk result (λ count. IfSome (F.contents files.old) (λ held.
+    ensures { IfOk result (λ count. IfSome (F.seen files.old).contents (λ held.
         IsSomeAnd (get held name.now) (λ bytes. length bytes ≡ count))) }
 {
     let mut taken = ByteCount {

@@ -1,51 +1,44 @@
-use Rattle.tmr_top.specs.Loads.{seen}
-use Rattle.tmr_top.proofs.RunClauses.{masks, flattens, usage, usage_only, fault, refused, refused_only, not_accepted, not_accepted_only, done, complete, complete_steady, missing_only, untouched, load_failed}
+use Rattle.tmr_top.proofs.RunClauses.{usage, usage_only, fault, refused, refused_only, not_accepted, not_accepted_only, done, otherwise, complete, complete_steady, missing_only, untouched, load_failed}
 use Rattle.tmr_top.proofs.program.run.Goals as goal
 
-pub returns-clause-masks : goal.returns-clause-masks
-returns-clause-masks g c = λ p is done. masks _ _ _ _ _ _ _ _ c.decide_and_put.ensures.ran p is done
-
-pub returns-clause-flattens : goal.returns-clause-flattens
-returns-clause-flattens g c = λ f is done. flattens _ _ _ _ _ _ _ _ c.decide_and_put.ensures.ran f is done
-
 pub returns-clause-usage : goal.returns-clause-usage
-returns-clause-usage g c = usage _ _ _ _ _ _ _ _ c.decide_and_put.ensures.ran
+returns-clause-usage g c = usage _ _ _ _ _ _ c.decide_and_put.ensures.ran
 
 pub returns-clause-usage_only : goal.returns-clause-usage_only
-returns-clause-usage_only g c = usage_only _ _ _ _ _ _ _ _ c.decide_and_put.ensures.ran
+returns-clause-usage_only g c = usage_only _ _ _ _ _ _ c.decide_and_put.ensures.ran
 
 pub returns-clause-fault : goal.returns-clause-fault
-returns-clause-fault g c = fault _ _ _ _ _ _ _ _ c.decide_and_put.ensures.ran
+returns-clause-fault g c = fault _ _ _ _ _ _ c.decide_and_put.ensures.ran
 
 pub returns-clause-missing_only : goal.returns-clause-missing_only
-returns-clause-missing_only g c = missing_only _ _ _ _ _ _ _ _ c.decide_and_put.ensures.ran
+returns-clause-missing_only g c = missing_only _ _ _ _ _ _ c.decide_and_put.ensures.ran
 
 pub returns-clause-refused : goal.returns-clause-refused
-returns-clause-refused g c = refused _ _ _ _ _ _ _ _ c.decide_and_put.ensures.ran c.decide_and_put.ensures.unfailed
+returns-clause-refused g c = refused _ _ _ _ _ _ c.decide_and_put.ensures.ran
 
 pub returns-clause-refused_only : goal.returns-clause-refused_only
-returns-clause-refused_only g c = refused_only _ _ _ _ _ _ _ _ c.decide_and_put.ensures.ran
+returns-clause-refused_only g c = refused_only _ _ _ _ _ _ c.decide_and_put.ensures.ran
 
 pub returns-clause-not_accepted : goal.returns-clause-not_accepted
-returns-clause-not_accepted g c = not_accepted _ _ _ _ _ _ _ _ c.decide_and_put.ensures.ran c.decide_and_put.ensures.unfailed
+returns-clause-not_accepted g c = not_accepted _ _ _ _ _ _ c.decide_and_put.ensures.ran
 
 pub returns-clause-not_accepted_only : goal.returns-clause-not_accepted_only
-returns-clause-not_accepted_only g c = not_accepted_only _ _ _ _ _ _ _ _ c.decide_and_put.ensures.ran
+returns-clause-not_accepted_only g c = not_accepted_only _ _ _ _ _ _ c.decide_and_put.ensures.ran
 
 pub returns-clause-done : goal.returns-clause-done
-returns-clause-done g c = done _ _ _ _ _ _ _ _ c.decide_and_put.ensures.ran c.decide_and_put.ensures.unfailed
+returns-clause-done g c = done _ _ _ _ _ _ c.decide_and_put.ensures.ran
 
 pub returns-clause-complete : goal.returns-clause-complete
-returns-clause-complete g c = complete _ _ _ _ _ _ _ _ c.decide_and_put.ensures.ran
+returns-clause-complete g c = complete _ _ _ _ _ _ c.decide_and_put.ensures.ran
 
 pub returns-clause-complete_steady : goal.returns-clause-complete_steady
-returns-clause-complete_steady g c = λ files out. complete_steady _ _ _ _ _ _ _ _ c.decide_and_put.ensures.ran (c.decide_and_put.ensures.missing files out)
+returns-clause-complete_steady g c = λ files out. complete_steady _ _ _ _ _ _ c.decide_and_put.ensures.ran (c.decide_and_put.ensures.missing files out)
 
 pub returns-clause-untouched : goal.returns-clause-untouched
-returns-clause-untouched g c = untouched _ _ _ _ _ _ _ _ c.decide_and_put.ensures.ran
+returns-clause-untouched g c = untouched _ _ _ _ _ _ c.decide_and_put.ensures.ran
 
 pub returns-clause-load_failed : goal.returns-clause-load_failed
-returns-clause-load_failed g c = load_failed _
-    (seen (g.F.Files.contents c.args.files.now) (g.F.Files.load_count c.args.files.now) (g.F.Files.save_count c.args.files.now))
-    (seen (g.F.Files.contents c.decide_and_put.new.files) (g.F.Files.load_count c.decide_and_put.new.files) (g.F.Files.save_count c.decide_and_put.new.files))
-    c.decide_and_put.ensures.load_failed
+returns-clause-load_failed g c = load_failed _ (g.F.Files.seen c.args.files.now) (g.F.Files.seen c.decide_and_put.new.files) c.decide_and_put.ensures.load_failed
+
+pub returns-clause-otherwise : goal.returns-clause-otherwise
+returns-clause-otherwise g c = otherwise _ _ _ _ _ _ c.decide_and_put.ensures.ran

@@ -1,0 +1,37 @@
+-- What the work of a command answers. Private functions alone speak of this.
+use Rattle.std.specs.Prelude.{◌≡◌, ◌⊎◌, length, Option, Some, None, IfSome}
+use Rattle.tmr_outside.specs.Contents.{Contents}
+use Rattle.tmr_outside.specs.Seen.{FilesSeen}
+use Rattle.tmr_top.specs.declared.decision.Work.{Work}
+use Rattle.tmr_top.specs.declared.decision.Verdict.TheVariants.{Done}
+use Rattle.tmr_top.specs.Line.{Command, Pair, Validate}
+use Rattle.tmr_top.specs.Pairs.{Masked}
+use Rattle.tmr_top.specs.FileWords.{texts_in}
+use Rattle.tmr_top.specs.Loads.{loads_of, saves_of}
+use Rattle.tmr_top.specs.Files.{OfEach, IsFine}
+use Rattle.tmr_top.specs.Outcomes.{Outcome}
+use Rattle.tmr_top.specs.Runs.{Untouched}
+use Rattle.tmr_top.specs.Saves.{IsBroken}
+
+-- the work is an outcome of the command, and where `validate` is done the pair masks
+pub record IsWork (c : Command) (held : Contents) (work : Work) : Type 0 where
+  pub outcome : Outcome c held work.verdict (texts_in work.saves.items) work.text.items
+  pub masks : (p : Pair) → c ≡ Validate p → work.verdict ≡ Done → Masked held p
+
+-- where the command is done there are as many texts to be saved as names
+abbrev pub HasTexts : Command → Work → Type 0
+HasTexts c work = work.verdict ≡ Done → length work.saves.items ≡ length (saves_of c)
+
+-- all is loaded, and the work is an outcome of the command
+pub record Comes (c : Command) (held : Contents) (work : Work) : Type 0 where
+  pub fine : OfEach (IsFine held) (loads_of c)
+  pub is_work : IsWork c held work
+
+-- what the files hold where a command wants memory
+abbrev pub Leaves : Command → FilesSeen → FilesSeen → Type 0
+Leaves c old new = Untouched old new ⊎ IfSome old.contents (λ held. IsBroken c held old new)
+
+-- the same, whatever the words mean
+abbrev pub LeavesLine : Option Command → FilesSeen → FilesSeen → Type 0
+LeavesLine None old new = Untouched old new
+LeavesLine (Some c) old new = Leaves c old new
