@@ -1,3 +1,4 @@
 pub mod Cover
 pub mod Rows
 pub mod Pushing
+pub mod Words

@@ -2,6 +2,6 @@
 use Rattle.std.specs.Prelude.{ℕ, zero, suc, List, [], ◌∷◌, take, drop}
 
 -- so many rows of this width
-abbrev pub cut_rows : ℕ → ℕ → List ℕ → List (List ℕ)
+abbrev pub cut_rows : {A : Type 0} → ℕ → ℕ → List A → List (List A)
 cut_rows width zero marks = []
 cut_rows width (suc count) marks = take width marks ∷ cut_rows width count (drop width marks)

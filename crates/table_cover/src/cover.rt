@@ -2,11 +2,12 @@
 ghost use Rattle.std.specs.Prelude.{◌≡◌, ◌≢◌, ◌↔◌, ◌<◌, ◌^◌, ℕ, Some, None, [], ◌∷◌, ◌++◌, true, length, slice_get, IfOk, OnOk, OnErr, IfErr, IsTrue, ◌*◌, ◌+◌};
 ghost use Rattle.std.specs.List.{list_all};
 ghost use Rattle.table_cover.specs.Cover.{PlainCover, IsCover, IsMajority, IsRow, cover_value, majority_of, is_mark};
+ghost use Rattle.table_cover.specs.Words.{word_bit, bits_of};
 ghost use Rattle.table_cover.specs.Pushing.{is_output, row_fault, with_row};
 ghost use Rattle.table_cover.specs.declared.cover.RowFault.{RowFault};
 
 use crate::majority;
-use crate::rows::{row_at, same_rows, some_row_fits};
+use crate::rows::{row_at, same_rows, some_row_fits, wide_some_row};
 use std::alloc::Global;
 use std::marker::Model;
 use tmr_base::OutOfMemory;
@@ -121,6 +122,16 @@ impl Cover {
     {
         let some = some_row_fits(&self.marks, self.width as usize, self.count, bits);
         if self.is_on { some } else { !some }
+    }
+
+    /// The values of 64 runs at once: bit j is the value on the bits j of the words, as many as the cover is wide.
+    #[tactic(auto, using(crate::proofs::WordLaws::word_bits), unfolding(crate::specs::Cover::cover_value))]
+    pub fn wide_value(&self, bits: &[u64]) -> u64
+        requires { length bits.now ≡ self.now.width }
+        ensures { (j : ℕ) → j < 64 → word_bit j result ≡ cover_value self.now (bits_of j bits.now) }
+    {
+        let any = wide_some_row(&self.marks, self.width as usize, self.count, bits);
+        if self.is_on { any } else { !any }
     }
 
     /// The width is 3, and the value is the majority on all eight rows of bits.

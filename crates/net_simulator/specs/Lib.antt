@@ -1,0 +1,4 @@
+pub mod Bench
+pub mod Cycle
+pub mod Forced
+pub mod Settled

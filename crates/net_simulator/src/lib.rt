@@ -1,0 +1,13 @@
+//! Runs of a design, cycle by cycle.
+//!
+//! The layers above may rely on this: after a step the values of all nets are those of one cycle, in which
+//! each net meets its equation but for those that are forced; a step takes no memory.
+#![tactic(auto)]
+
+mod bench;
+mod cycle;
+mod sim;
+mod wide;
+
+pub use sim::Sim;
+pub use wide::WideSim;
