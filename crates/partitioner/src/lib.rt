@@ -26,5 +26,8 @@ mod wide;
 
 pub use minimal::is_minimal;
 pub use pairs::cost;
+pub use packed::{Packed, packed_rows};
 pub use plain_cut::plain;
+pub use reading::note;
 pub use refining::refine;
+pub use rows::Rows;

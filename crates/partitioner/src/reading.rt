@@ -23,7 +23,7 @@ fn ends_in(row: &[u32], k: u32) -> bool
 }
 
 /// Puts k behind row x, unless it stands there.
-fn note(rows: &mut Rows, x: u32, k: u32) -> Result<(), OutOfMemory>
+pub fn note(rows: &mut Rows, x: u32, k: u32) -> Result<(), OutOfMemory>
     requires { x < length rows.old }
     ensures { OnOk result (rows.new ≡ noted rows.old x k) }
 {

@@ -1,0 +1,222 @@
+-- One role more of the hardened design.
+use Rattle.std.proofs.Common.{◌≡◌, ◌≢◌, ℕ, zero, suc, ◌+◌, ◌-◌, ◌*◌, ◌<◌, ◌≤◌, ◌⊎◌, inl, inr, List, [], ◌∷◌, ◌++◌, length, map, take, drop, get_or, Option, Some, None, slice_get, refl, sym, ap, ◌∙◌, subst, arith, append_assoc, append-nil, Bool, true, false, All, if◌then◌else◌}
+use Rattle.std.specs.Prelude.{slice_index, sum_by, count_by}
+use Rattle.std.specs.List.{range_with_len, flat_map}
+use Rattle.std.specs.Str.{bytes_eq}
+use Rattle.std.proofs.lemmas.List.{length-append, length-map, map-append, get_or_append_left, get_or-append-add, get_or-map}
+use Rattle.std.proofs.lemmas.List.FromFn.{get_or-map-range_with_len, length-map-range_with_len}
+use Rattle.std.proofs.lemmas.List.Sums.{sum_by-append, sum_by-cons, count_by-le-length}
+use Rattle.tmr_base.specs.declared.copies.CopyNo.{CopyNo}
+use Rattle.tmr_base.specs.declared.copies.CopyNo.TheVariants.{First, Second, Third}
+use Rattle.tmr_base.specs.Copies.{copy_number}
+use Rattle.tmr_base.specs.Names.{copy_text, voter_text}
+use Rattle.tmr_base.specs.Parts.{PlainParts}
+use Rattle.table_cover.specs.Cover.{PlainCover}
+use Rattle.flat_net.specs.Net.{Net, Node, Table, Register, net_count, node_of, node_name, name_of, pins_of, pins_at, pin_total, is_register, IsValid, IsTable, IsRegister, IsCoverOf, IsInitOf}
+use Rattle.flat_net.specs.Kinds.{kind_of}
+use Rattle.flat_net.specs.declared.kind.Kind.TheVariants as kind
+use Rattle.flat_net.specs.declared.nodes.PackedNodes.{PackedNodes}
+use Rattle.flat_net.specs.Nodes.{number_of}
+use Rattle.flat_net.specs.Packs.{Packs}
+use Rattle.flat_net.specs.Faults.{is_among}
+use Rattle.flat_net.proofs.Slots.{slot_there}
+use Rattle.indexmap.specs.IndexSet.{insert_key}
+use Rattle.flat_net.proofs.Names.{not_among, insert_new}
+use Rattle.flat_net.proofs.PackedLaws.{total-nodes_from}
+use Rattle.feedback_cut.specs.Inner.{node_pins}
+use Rattle.certificate.specs.declared.role.Role.{Role}
+use Rattle.certificate.specs.declared.role.Role.TheVariants.{Copy, Voter}
+use Rattle.triplicate.specs.declared.tripling.Made.{Made}
+use Rattle.triplicate.specs.Blocks.{block, hardened_roles, hardened_inputs, role_name}
+use Rattle.triplicate.specs.Form.{majority_cover}
+use Rattle.std.proofs.lemmas.List.Concat.{flat_map-append}
+use Rattle.triplicate.specs.Numbers.{copy_net, voter_net}
+use Rattle.triplicate.specs.Construction.{pin_net, first_pins_to, role_node, node_copy, hardened_net}
+use Rattle.triplicate.specs.Made.{IsMade, HasRoom, IsNext, shifted_node}
+use Rattle.flat_net.specs.Draft.{AreDistinct}
+use Rattle.partitioner.proofs.Numbers.{numbers_more}
+use Rattle.triplicate.proofs.Lists.{blocks_cut}
+use Rattle.triplicate.proofs.VoterRows.{pin_in_range}
+use Rattle.triplicate.proofs.Tripled.{needs_from_pin}
+use Rattle.triplicate.proofs.Places.{copy_net_more, voter_net_more, copy_few, voter_few}
+use Rattle.triplicate.proofs.Formed.{name_of_node, map_map}
+
+pub table_copied : (o : Option Node) (c : CopyNo) (ps nets : List ℕ) (k : PlainCover) → IsTable o → IsCoverOf o k → nets ≡ map (λ p. p + copy_number c) ps → Table (node_name (shifted_node c ps o)) k nets ≡ shifted_node c ps o
+table_copied None c ps nets k is cover e = absurd is
+table_copied (Some (Table name cover pins)) c ps nets k is same e = rw (← same, e) refl
+table_copied (Some (Register name init pin)) c ps nets k is cover e = absurd is
+
+pub register_copied : (o : Option Node) (c : CopyNo) (ps : List ℕ) (b : Bool) (v : ℕ) → IsRegister o → IsInitOf o b → v ≡ slice_index ps 0 + copy_number c → Register (node_name (shifted_node c ps o)) b v ≡ shifted_node c ps o
+register_copied None c ps b v is init e = absurd is
+register_copied (Some (Table name cover pins)) c ps b v is init e = absurd is
+register_copied (Some (Register name init pin)) c ps b v is same e = rw (← same, e) refl
+
+pub node_is_no_input : (n : Net) (x : ℕ) → length n.inputs ≤ x → x < net_count n → kind.Input ≡ kind_of (node_of n x) → ⊥
+node_is_no_input n x low high e = go (slot_there (length n.inputs) n.nodes x low high)
+  where
+    differs : (node : Node) → kind.Input ≡ kind_of (Some node) → ⊥
+    differs (Table name cover pins) f = cc
+    differs (Register name init pin) f = cc
+
+    go : (node : Node) × (node_of n x ≡ Some node) → ⊥
+    go (node, at) = differs node (e ∙ ap kind_of at)
+
+-- ---- the roles that come next
+
+pub next_head : (n : Net) (parts : PlainParts) (voted : ℕ → ℕ → Bool) (done : List Role) (r : Role) (rs : List Role) → IsNext n parts voted done (r ∷ rs) → IsNext n parts voted done (r ∷ [])
+next_head n parts voted done r rs i = record { rest = rs ++ i.rest; split = i.split }
+
+pub next_tail : (n : Net) (parts : PlainParts) (voted : ℕ → ℕ → Bool) (done new : List Role) (r : Role) (rs : List Role) → IsNext n parts voted done (r ∷ rs) → new ≡ done ++ r ∷ [] → IsNext n parts voted new rs
+next_tail n parts voted done new r rs i e = record { rest = i.rest; split = i.split ∙ (sym (append_assoc done (r ∷ []) (rs ++ i.rest)) ∙ ap (λ (xs : List Role). xs ++ (rs ++ i.rest)) (sym e)) }
+
+pub next_first : (n : Net) (parts : PlainParts) (voted : ℕ → ℕ → Bool) (done some rs : List Role) → IsNext n parts voted done (some ++ rs) → IsNext n parts voted done some
+next_first n parts voted done some rs i = record { rest = rs ++ i.rest; split = i.split ∙ ap (λ (xs : List Role). done ++ xs) (append_assoc some rs i.rest) }
+
+pub next_behind : (n : Net) (parts : PlainParts) (voted : ℕ → ℕ → Bool) (done new some rs : List Role) → IsNext n parts voted done (some ++ rs) → new ≡ done ++ some → IsNext n parts voted new rs
+next_behind n parts voted done new some rs i e = record { rest = i.rest; split = i.split ∙ (ap (λ (xs : List Role). done ++ xs) (append_assoc some rs i.rest) ∙ (sym (append_assoc done some (rs ++ i.rest)) ∙ ap (λ (xs : List Role). xs ++ (rs ++ i.rest)) (sym e))) }
+
+-- ---- names that are new
+
+pub fresh_role : (n : Net) (parts : PlainParts) (voted : ℕ → ℕ → Bool) (done : List Role) (r : Role) → HasRoom n parts voted → IsNext n parts voted done (r ∷ []) → is_among (hardened_inputs n ++ map (role_name n) done) (role_name n r) ≡ false
+fresh_role n parts voted done r room next = not_among (hardened_inputs n ++ map (role_name n) done) (role_name n r) (λ k h e. room.names k (length (hardened_inputs n ++ map (role_name n) done)) h within (ap (λ (xs : List (List ℕ)). get_or xs k []) whole ∙ (get_or_append_left (hardened_inputs n ++ map (role_name n) done) (role_name n r ∷ map (role_name n) next.rest) [] k h ∙ (e ∙ sym here))))
+  where
+    whole : hardened_inputs n ++ map (role_name n) (hardened_roles n parts voted) ≡ (hardened_inputs n ++ map (role_name n) done) ++ role_name n r ∷ map (role_name n) next.rest
+    whole = ap (λ (rs : List Role). hardened_inputs n ++ map (role_name n) rs) next.split ∙ (ap (λ (xs : List (List ℕ)). hardened_inputs n ++ xs) (map-append (role_name n) done (r ∷ next.rest)) ∙ sym (append_assoc (hardened_inputs n) (map (role_name n) done) (role_name n r ∷ map (role_name n) next.rest)))
+
+    within : length (hardened_inputs n ++ map (role_name n) done) < length (hardened_inputs n ++ map (role_name n) (hardened_roles n parts voted))
+    within = omega (arith, ap length whole, length-append (hardened_inputs n ++ map (role_name n) done) (role_name n r ∷ map (role_name n) next.rest))
+
+    here : get_or (hardened_inputs n ++ map (role_name n) (hardened_roles n parts voted)) (length (hardened_inputs n ++ map (role_name n) done)) [] ≡ role_name n r
+    here =
+        let z : length (hardened_inputs n ++ map (role_name n) done) ≡ length (hardened_inputs n ++ map (role_name n) done) + 0 = omega arith in
+        ap (λ (xs : List (List ℕ)). get_or xs (length (hardened_inputs n ++ map (role_name n) done)) []) whole ∙ (ap (λ k. get_or ((hardened_inputs n ++ map (role_name n) done) ++ role_name n r ∷ map (role_name n) next.rest) k []) z ∙ get_or-append-add (hardened_inputs n ++ map (role_name n) done) (role_name n r ∷ map (role_name n) next.rest) 0 [])
+
+-- one role more
+pub made_more : (n : Net) (parts : PlainParts) (voted : ℕ → ℕ → Bool) (old new : Made) (r : Role) (node : Node) → HasRoom n parts voted → IsMade n parts voted old → IsNext n parts voted old.roles.items (r ∷ []) → new.names.keys ≡ insert_key bytes_eq old.names.keys (role_name n r) → new.roles.items ≡ old.roles.items ++ r ∷ [] → node ≡ role_node n parts voted r → node_name node ≡ role_name n r →
+    ((names : List (List ℕ)) (done : List Node) → Packs names old.nodes done → Packs (names ++ node_name node ∷ []) new.nodes (done ++ node ∷ [])) → IsMade n parts voted new
+made_more n parts voted old new r node room made next names roles same name packs = record {
+  named =
+      let fresh : is_among old.names.keys (role_name n r) ≡ false = ap (λ (xs : List (List ℕ)). is_among xs (role_name n r)) made.named ∙ fresh_role n parts voted old.roles.items r room next in
+      names ∙ (insert_new old.names.keys (role_name n r) fresh ∙ (ap (λ (xs : List (List ℕ)). xs ++ role_name n r ∷ []) made.named ∙ (append_assoc (hardened_inputs n) (map (role_name n) old.roles.items) (role_name n r ∷ []) ∙ ap (λ (xs : List (List ℕ)). hardened_inputs n ++ xs) (sym (ap (map (role_name n)) roles ∙ map-append (role_name n) old.roles.items (r ∷ []))))));
+  packed =
+      let nodes : map (role_node n parts voted) new.roles.items ≡ map (role_node n parts voted) old.roles.items ++ node ∷ [] = ap (map (role_node n parts voted)) roles ∙ (map-append (role_node n parts voted) old.roles.items (r ∷ []) ∙ ap (λ (m : Node). map (role_node n parts voted) old.roles.items ++ m ∷ []) (sym same)) in
+      let names' : map (role_name n) new.roles.items ≡ map (role_name n) old.roles.items ++ node_name node ∷ [] = ap (map (role_name n)) roles ∙ (map-append (role_name n) old.roles.items (r ∷ []) ∙ ap (λ (m : List ℕ). map (role_name n) old.roles.items ++ m ∷ []) (sym name)) in
+      rw (nodes, names') (packs (map (role_name n) old.roles.items) (map (role_node n parts voted) old.roles.items) made.packed);
+}
+
+-- ---- room
+
+packs_total : (names : List (List ℕ)) (packed : PackedNodes) (nodes : List Node) → Packs names packed nodes → sum_by (λ node. length (pins_of node)) nodes ≡ length packed.pins.items
+packs_total names packed nodes k =
+    let long = length-map packed.pins.items number_of in
+    ap (sum_by (λ node. length (pins_of node))) (sym k.is) ∙ (total-nodes_from names packed.bodies.items packed.ends.items (map number_of packed.pins.items) k.named (rw long k.cut) ∙ long)
+
+pub room_for_pins : (n : Net) (parts : PlainParts) (voted : ℕ → ℕ → Bool) (made : Made) (r : Role) → HasRoom n parts voted → IsMade n parts voted made → IsNext n parts voted made.roles.items (r ∷ []) → length made.nodes.pins.items + length (pins_of (role_node n parts voted r)) < 4294967296
+unfolding hardened_net
+room_for_pins n parts voted made r room is next =
+    let f : Node → ℕ = λ node. length (pins_of node) in
+    let whole : map (role_node n parts voted) (hardened_roles n parts voted) ≡ map (role_node n parts voted) made.roles.items ++ role_node n parts voted r ∷ map (role_node n parts voted) next.rest = ap (map (role_node n parts voted)) next.split ∙ map-append (role_node n parts voted) made.roles.items (r ∷ next.rest) in
+    omega (arith, room.pins, ap (sum_by f) whole, sum_by-append f (map (role_node n parts voted) made.roles.items) (role_node n parts voted r ∷ map (role_node n parts voted) next.rest), sum_by-cons f (role_node n parts voted r) (map (role_node n parts voted) next.rest), packs_total (map (role_name n) made.roles.items) made.nodes (map (role_node n parts voted) made.roles.items) is.packed)
+
+pub room_for_registers : (n : Net) (parts : PlainParts) (voted : ℕ → ℕ → Bool) (made : Made) (r : Role) → HasRoom n parts voted → IsMade n parts voted made → IsNext n parts voted made.roles.items (r ∷ []) → made.nodes.registers + 1 < 4294967296
+room_for_registers n parts voted made r room is next =
+    omega (arith, room.nets, ap length next.split, length-append made.roles.items (r ∷ next.rest), is.packed.registers, count_by-le-length is_register (map (role_node n parts voted) made.roles.items), length-map made.roles.items (role_node n parts voted))
+
+-- ---- the copy of a node
+
+pin_net_more : (n : Net) (parts : PlainParts) (voted : ℕ → ℕ → Bool) (y : ℕ) (c : CopyNo) (j x : ℕ) → pin_net n parts voted y First j x + copy_number c ≡ pin_net n parts voted y c j x
+pin_net_more n parts voted y c j x = go (voted y j)
+  where
+    go : (b : Bool) → (if b then voter_net n parts voted x (slice_index parts.of y) First else copy_net n parts voted x First) + copy_number c ≡ (if b then voter_net n parts voted x (slice_index parts.of y) c else copy_net n parts voted x c)
+    go true = sym (voter_net_more n parts voted x (slice_index parts.of y) c)
+    go false = sym (copy_net_more n parts voted x c)
+
+pub shifted_is : (n : Net) (parts : PlainParts) (voted : ℕ → ℕ → Bool) (x : ℕ) (c : CopyNo) (ps : List ℕ) → length n.inputs ≤ x → ps ≡ first_pins_to n parts voted (x - length n.inputs) (length (node_pins n (x - length n.inputs))) → shifted_node c ps (node_of n x) ≡ node_copy n parts voted (x - length n.inputs) c (node_of n x)
+shifted_is n parts voted x c ps low e = go (node_of n x) refl
+  where
+    back : length n.inputs + (x - length n.inputs) ≡ x
+    back = omega arith
+
+    own : (pins : List ℕ) → pins_at (node_of n x) ≡ pins → node_pins n (x - length n.inputs) ≡ pins
+    own pins at = ap (λ z. pins_at (node_of n z)) back ∙ at
+
+    first : (pins : List ℕ) → pins_at (node_of n x) ≡ pins → ps ≡ map (λ j. pin_net n parts voted (x - length n.inputs) First j (slice_index pins j)) (range_with_len 0 (length pins))
+    first pins at = e ∙ ap (λ (ks : List ℕ). map (λ j. pin_net n parts voted (x - length n.inputs) First j (slice_index ks j)) (range_with_len 0 (length ks))) (own pins at)
+
+    go : (o : Option Node) → node_of n x ≡ o → shifted_node c ps (node_of n x) ≡ node_copy n parts voted (x - length n.inputs) c (node_of n x)
+    go None f = rw f refl
+    go (Some (Table name cover pins)) f =
+        rw f (ap (Table (copy_text name c) cover) (ap (map (λ p. p + copy_number c)) (first pins (ap pins_at f)) ∙ (map_map (λ p. p + copy_number c) (λ j. pin_net n parts voted (x - length n.inputs) First j (slice_index pins j)) (range_with_len 0 (length pins)) ∙ ap (λ (g : ℕ → ℕ). map g (range_with_len 0 (length pins))) (λ i j. pin_net_more n parts voted (x - length n.inputs) c j (slice_index pins j) i))))
+    go (Some (Register name init pin)) f =
+        rw f (ap (Register (copy_text name c) init) (ap (λ (ks : List ℕ). slice_index ks 0 + copy_number c) (first (pin ∷ []) (ap pins_at f)) ∙ pin_net_more n parts voted (x - length n.inputs) c 0 pin))
+
+pub copy_named : (n : Net) (parts : PlainParts) (voted : ℕ → ℕ → Bool) (x : ℕ) (c : CopyNo) → length n.inputs ≤ x → x < net_count n → node_name (role_node n parts voted (Copy (record { 0 = x }) c)) ≡ role_name n (Copy (record { 0 = x }) c)
+copy_named n parts voted x c low high = go (slot_there (length n.inputs) n.nodes x low high)
+  where
+    named : (node : Node) → node_name (node_copy n parts voted (x - length n.inputs) c (Some node)) ≡ copy_text (node_name node) c
+    named (Table name cover pins) = refl
+    named (Register name init pin) = refl
+
+    go : (node : Node) × (node_of n x ≡ Some node) → node_name (role_node n parts voted (Copy (record { 0 = x }) c)) ≡ role_name n (Copy (record { 0 = x }) c)
+    go (node, e) = ap (λ (o : Option Node). node_name (node_copy n parts voted (x - length n.inputs) c o)) e ∙ (named node ∙ ap (λ (name : List ℕ). copy_text name c) (sym (name_of_node n x node e)))
+
+-- as many pins as its node
+pub copy_pins : (n : Net) (parts : PlainParts) (voted : ℕ → ℕ → Bool) (x : ℕ) (c : CopyNo) → length n.inputs ≤ x → x < net_count n → length (pins_of (role_node n parts voted (Copy (record { 0 = x }) c))) ≡ length (pins_at (node_of n x))
+copy_pins n parts voted x c low high = go (slot_there (length n.inputs) n.nodes x low high)
+  where
+    as_many : (node : Node) → length (pins_of (node_copy n parts voted (x - length n.inputs) c (Some node))) ≡ length (pins_of node)
+    as_many (Table name cover pins) = length-map-range_with_len (λ j. pin_net n parts voted (x - length n.inputs) c j (slice_index pins j)) 0 (length pins)
+    as_many (Register name init pin) = refl
+
+    go : (node : Node) × (node_of n x ≡ Some node) → length (pins_of (role_node n parts voted (Copy (record { 0 = x }) c))) ≡ length (pins_at (node_of n x))
+    go (node, e) = ap (λ (o : Option Node). length (pins_of (node_copy n parts voted (x - length n.inputs) c o))) e ∙ (as_many node ∙ sym (ap (λ (o : Option Node). length (pins_at o)) e))
+
+-- ---- voters
+
+row_split : (xs : List ℕ) (i : ℕ) → i < length xs → xs ≡ take i xs ++ get_or xs i 0 ∷ drop (suc i) xs
+row_split [] i h = absurd (omega arith)
+row_split (x ∷ xs) zero h = refl
+row_split (x ∷ xs) (suc i) h = ap (λ (ys : List ℕ). x ∷ ys) (row_split xs i (omega arith))
+
+pub next_in_row : (n : Net) (parts : PlainParts) (voted : ℕ → ℕ → Bool) (f : ℕ → List Role) (done now : List Role) (row : List ℕ) (i : ℕ) → IsNext n parts voted done (flat_map f row) → i < length row → now ≡ done ++ flat_map f (take i row) → IsNext n parts voted now (f (get_or row i 0))
+next_in_row n parts voted f done now row i next h e =
+    let split : flat_map f row ≡ flat_map f (take i row) ++ (f (get_or row i 0) ++ flat_map f (drop (suc i) row)) = ap (flat_map f) (row_split row i h) ∙ flat_map-append f (take i row) (get_or row i 0 ∷ drop (suc i) row) in
+    next_first n parts voted now (f (get_or row i 0)) (flat_map f (drop (suc i) row)) (next_behind n parts voted done now (flat_map f (take i row)) (f (get_or row i 0) ++ flat_map f (drop (suc i) row)) (subst (λ (rs : List Role). IsNext n parts voted done rs) split next) e)
+
+pub voter_is : (n : Net) (parts : PlainParts) (voted : ℕ → ℕ → Bool) (x p : ℕ) (c : CopyNo) (k : PlainCover) (v : ℕ) (nets : List ℕ) → k ≡ majority_cover → v ≡ copy_net n parts voted x First → nets ≡ v ∷ (v + 1) ∷ (v + 2) ∷ [] → Table (voter_text (name_of n x) p c) k nets ≡ role_node n parts voted (Voter (record { 0 = x }) (record { 0 = p }) c)
+voter_is n parts voted x p c k v nets e f g =
+    let b : v + 1 ≡ copy_net n parts voted x Second = omega (arith, f, copy_net_more n parts voted x Second) in
+    let d : v + 2 ≡ copy_net n parts voted x Third = omega (arith, f, copy_net_more n parts voted x Third) in
+    rw (e, g, b, d, f) refl
+
+-- ---- whole blocks
+
+pub distinct_front : (xs ys : List (List ℕ)) → AreDistinct (xs ++ ys) → AreDistinct xs
+distinct_front xs ys d j k h l e = d j k h (omega (arith, length-append xs ys)) (get_or_append_left xs ys [] j (omega arith) ∙ (e ∙ sym (get_or_append_left xs ys [] k l)))
+
+pub next_block : (n : Net) (parts : PlainParts) (voted : ℕ → ℕ → Bool) (done : List Role) (x : ℕ) → done ≡ flat_map (block n parts voted) (range_with_len 0 x) → x < net_count n → IsNext n parts voted done (block n parts voted x)
+unfolding hardened_roles
+next_block n parts voted done x e h = record { rest = flat_map (block n parts voted) (range_with_len (x + 1) (net_count n - (x + 1))); split = blocks_cut (block n parts voted) x (net_count n) h ∙ ap (λ (rs : List Role). rs ++ (block n parts voted x ++ flat_map (block n parts voted) (range_with_len (x + 1) (net_count n - (x + 1))))) (sym e) }
+
+pub block_more : (n : Net) (parts : PlainParts) (voted : ℕ → ℕ → Bool) (done new : List Role) (x : ℕ) → done ≡ flat_map (block n parts voted) (range_with_len 0 x) → new ≡ done ++ block n parts voted x → new ≡ flat_map (block n parts voted) (range_with_len 0 (x + 1))
+block_more n parts voted done new x e more =
+    let f : x + 1 ≡ suc x = omega arith in
+    more ∙ (ap (λ (rs : List Role). rs ++ block n parts voted x) e ∙ sym (ap (λ k. flat_map (block n parts voted) (range_with_len 0 k)) f ∙ (ap (flat_map (block n parts voted)) (numbers_more x) ∙ (flat_map-append (block n parts voted) (range_with_len 0 x) (x ∷ []) ∙ ap (λ (rs : List Role). flat_map (block n parts voted) (range_with_len 0 x) ++ rs) (append-nil (block n parts voted x))))))
+
+pub all_blocks : (n : Net) (parts : PlainParts) (voted : ℕ → ℕ → Bool) (done : List Role) (x : ℕ) → done ≡ flat_map (block n parts voted) (range_with_len 0 x) → x ≡ net_count n → done ≡ hardened_roles n parts voted
+unfolding hardened_roles
+all_blocks n parts voted done x e f = e ∙ ap (λ k. flat_map (block n parts voted) (range_with_len 0 k)) f
+
+-- what the first copies read has numbers that leave room for the other copies
+pub pins_few : (n : Net) (parts : PlainParts) (voted : ℕ → ℕ → Bool) (y : ℕ) → IsValid n → y < length n.nodes → slice_index parts.of y < parts.count → 3 * length n.inputs + length (hardened_roles n parts voted) < 4294967295 → All (λ p. p + 3 < 4294967296) (first_pins_to n parts voted y (length (node_pins n y)))
+pins_few n parts voted y valid h own few k d l = rw (get_or-map-range_with_len (λ j. pin_net n parts voted y First j (slice_index (node_pins n y) j)) 0 (length (node_pins n y)) k k d l' (omega arith)) (go (voted y k) refl)
+  where
+    l' : k < length (node_pins n y)
+    l' = omega (arith, l, length-map-range_with_len (λ j. pin_net n parts voted y First j (slice_index (node_pins n y) j)) 0 (length (node_pins n y)))
+
+    net : slice_index (node_pins n y) k < net_count n
+    net = pin_in_range n valid y k l'
+
+    go : (b : Bool) → voted y k ≡ b → pin_net n parts voted y First k (slice_index (node_pins n y) k) + 3 < 4294967296
+    go true v = omega (arith, few, voter_few n parts voted (slice_index (node_pins n y) k) (slice_index parts.of y) net own (needs_from_pin n parts voted y k (slice_index (node_pins n y) k) h (record { pin = l'; is = refl }) v), ap (λ (b : Bool). if b then voter_net n parts voted (slice_index (node_pins n y) k) (slice_index parts.of y) First else copy_net n parts voted (slice_index (node_pins n y) k) First) v)
+    go false v = omega (arith, few, copy_few n parts voted (slice_index (node_pins n y) k) net, ap (λ (b : Bool). if b then voter_net n parts voted (slice_index (node_pins n y) k) (slice_index parts.of y) First else copy_net n parts voted (slice_index (node_pins n y) k) First) v)

@@ -1,0 +1,26 @@
+use Rattle.std.proofs.Common.{◌≡◌, ◌+◌, ◌<◌, ◌++◌, [], ◌∷◌, ℕ, List, map, length, sym, ap, ◌∙◌, arith}
+use Rattle.std.specs.List.{range_with_len}
+use Rattle.std.proofs.lemmas.List.{map-append}
+use Rattle.std.proofs.lemmas.List.FromFn.{map-range_with_len_more}
+use Rattle.tmr_base.specs.Copies.{Three}
+use Rattle.flat_net.specs.Net.{net_count}
+use Rattle.certificate.specs.Threes.{three_ids}
+use Rattle.triplicate.specs.Pins.{pin_is_voted}
+use Rattle.triplicate.specs.Construction.{three_copies}
+use Rattle.triplicate.proofs.Places.{copy_few, three_is}
+use Rattle.triplicate.proofs.certifying.copies_of.Goals as goal
+
+pub overflow_add-copy : goal.overflow_add-copy
+overflow_add-copy c = omega (arith, c.first_copy-copy.ensures, c.requires.few, copy_few c.args.n.now.net c.args.parts.now (pin_is_voted c.args.n.now.net c.args.parts.now c.args.votes.now) (c.input_count-inputs.result + c.loop-y.y) (omega (arith, c.input_count-inputs.ensures.count, c.nodes_of-count.ensures.count, c.loop-y-test.true)))
+
+pub overflow_add-copy-in-loop-y : goal.overflow_add-copy-in-loop-y
+overflow_add-copy-in-loop-y c = omega (arith, c.first_copy-copy.ensures, c.requires.few, copy_few c.args.n.now.net c.args.parts.now (pin_is_voted c.args.n.now.net c.args.parts.now c.args.votes.now) (c.input_count-inputs.result + c.loop-y.y) (omega (arith, c.input_count-inputs.ensures.count, c.nodes_of-count.ensures.count, c.loop-y-test.true)))
+
+pub loop-y-preserved : goal.loop-y-preserved
+loop-y-preserved c =
+    let f = three_copies c.args.n.now.net c.args.parts.now (pin_is_voted c.args.n.now.net c.args.parts.now c.args.votes.now) in
+    let three = three_is c.args.n.now.net c.args.parts.now (pin_is_voted c.args.n.now.net c.args.parts.now c.args.votes.now) (c.input_count-inputs.result + c.loop-y.y) c.first_copy-copy.result c.first_copy-copy.ensures in
+    ap (map three_ids) c.in_ok-push.ensures.items ∙ (map-append three_ids c.loop-y.copies.items _
+    ∙ (ap (λ (ts : List Three). ts ++ record { first = c.first_copy-copy.result; second = c.first_copy-copy.result + 1; third = c.first_copy-copy.result + 2 } ∷ []) c.loop-y.invariant
+    ∙ (ap (λ (three : Three). map f (range_with_len (length c.args.n.now.net.inputs) c.loop-y.y) ++ three ∷ []) three
+    ∙ sym (map-range_with_len_more f (length c.args.n.now.net.inputs) c.loop-y.y (c.input_count-inputs.result + c.loop-y.y) (omega (arith, c.input_count-inputs.ensures.count))))))

@@ -1,0 +1,16 @@
+use Rattle.std.proofs.Common.{◌≡◌, ◌+◌, ◌*◌, ◌<◌, ◌≤◌, ℕ, length, sym, ◌∙◌, arith}
+use Rattle.tmr_base.specs.declared.copies.CopyNo.TheVariants.{First}
+use Rattle.flat_net.specs.Net.{net_count}
+use Rattle.triplicate.specs.Pins.{pin_is_voted}
+use Rattle.triplicate.proofs.Numbering.{copy_net_input}
+use Rattle.triplicate.proofs.Places.{first_is_start}
+use Rattle.triplicate.proofs.pins.first_copy.Goals as goal
+
+pub overflow_mul-result : goal.overflow_mul-result
+overflow_mul-result c = omega (arith, c.requires.few, c.if-x-input_count.true, c.input_count.ensures.count)
+
+pub returns-then-x-input_count : goal.returns-then-x-input_count
+returns-then-x-input_count c = omega (arith, copy_net_input c.args.n.now.net c.args.parts.now (pin_is_voted c.args.n.now.net c.args.parts.now c.args.votes.now) c.args.x First (omega (arith, c.if-x-input_count.true, c.input_count.ensures.count)))
+
+pub returns-else-x-input_count : goal.returns-else-x-input_count
+returns-else-x-input_count c = c.requires.starts.each c.args.x (omega (arith, c.requires.net)) ∙ sym (first_is_start c.args.n.now.net c.args.parts.now (pin_is_voted c.args.n.now.net c.args.parts.now c.args.votes.now) c.args.x (omega (arith, c.if-x-input_count.false, c.input_count.ensures.count)))

@@ -1,0 +1,35 @@
+use Rattle.std.proofs.Common.{◌≡◌, ◌+◌, ◌-◌, ◌<◌, ℕ, List, length, ap, sym, ◌∙◌, arith}
+use Rattle.std.specs.Prelude.{slice_index}
+use Rattle.std.specs.Str.{bytes_eq}
+use Rattle.std.proofs.lemmas.List.FromFn.{length-map-range_with_len}
+use Rattle.indexmap.specs.IndexSet.{insert_key}
+use Rattle.tmr_base.specs.declared.copies.CopyNo.TheVariants.{First}
+use Rattle.tmr_base.specs.Names.{copy_text}
+use Rattle.flat_net.specs.Net.{node_of, node_name, pins_at}
+use Rattle.feedback_cut.specs.Inner.{node_pins}
+use Rattle.certificate.specs.declared.role.Role.TheVariants.{Copy}
+use Rattle.triplicate.specs.Pins.{pin_is_voted}
+use Rattle.triplicate.specs.Construction.{pin_net}
+use Rattle.triplicate.specs.Made.{shifted_node}
+use Rattle.triplicate.proofs.RoleSteps.{made_more, room_for_pins, copy_pins, copy_named, shifted_is}
+use Rattle.triplicate.proofs.tripling.push_copy.Goals as goal
+
+pub push_node_copy-requires-clause-pins : goal.push_node_copy-requires-clause-pins
+push_node_copy-requires-clause-pins c =
+    let y = c.args.x.0 - length c.args.n.now.net.inputs in
+    let back : length c.args.n.now.net.inputs + y ≡ c.args.x.0 = omega (arith, c.requires.node) in
+    ap length c.requires.pins ∙ (length-map-range_with_len (λ j. pin_net c.args.n.now.net c.args.parts.now (pin_is_voted c.args.n.now.net c.args.parts.now c.args.votes.now) y First j (slice_index (node_pins c.args.n.now.net y) j)) 0 (length (node_pins c.args.n.now.net y)) ∙ ap (λ z. length (pins_at (node_of c.args.n.now.net z))) back)
+
+pub push_node_copy-requires-clause-room : goal.push_node_copy-requires-clause-room
+push_node_copy-requires-clause-room c =
+    let y = c.args.x.0 - length c.args.n.now.net.inputs in
+    let back : length c.args.n.now.net.inputs + y ≡ c.args.x.0 = omega (arith, c.requires.node) in
+    let long : length c.args.pins.now ≡ length (pins_at (node_of c.args.n.now.net c.args.x.0)) = ap length c.requires.pins ∙ (length-map-range_with_len (λ j. pin_net c.args.n.now.net c.args.parts.now (pin_is_voted c.args.n.now.net c.args.parts.now c.args.votes.now) y First j (slice_index (node_pins c.args.n.now.net y) j)) 0 (length (node_pins c.args.n.now.net y)) ∙ ap (λ z. length (pins_at (node_of c.args.n.now.net z))) back) in
+    omega (arith, long, room_for_pins c.args.n.now.net c.args.parts.now (pin_is_voted c.args.n.now.net c.args.parts.now c.args.votes.now) c.args.made.now (Copy c.args.x c.args.c) c.requires.room c.requires.made c.requires.next, copy_pins c.args.n.now.net c.args.parts.now (pin_is_voted c.args.n.now.net c.args.parts.now c.args.votes.now) c.args.x.0 c.args.c c.requires.node c.requires.range)
+
+pub returns-clause-made : goal.returns-clause-made
+returns-clause-made c =
+    let same = shifted_is c.args.n.now.net c.args.parts.now (pin_is_voted c.args.n.now.net c.args.parts.now c.args.votes.now) c.args.x.0 c.args.c c.args.pins.now c.requires.node c.requires.pins in
+    let name = c.in_ok-name.ensures ∙ ap (λ (a : List ℕ). copy_text a c.args.c) c.name.ensures in
+    made_more c.args.n.now.net c.args.parts.now (pin_is_voted c.args.n.now.net c.args.parts.now c.args.votes.now) c.args.made.now _ (Copy c.args.x c.args.c) (shifted_node c.args.c c.args.pins.now (node_of c.args.n.now.net c.args.x.0)) c.requires.room c.requires.made c.requires.next
+    (c.in_ok-insert.ensures.keys ∙ ap (insert_key bytes_eq c.args.made.now.names.keys) name) c.in_ok-push.ensures.items same (ap node_name same ∙ copy_named c.args.n.now.net c.args.parts.now (pin_is_voted c.args.n.now.net c.args.parts.now c.args.votes.now) c.args.x.0 c.args.c c.requires.node c.requires.range) c.in_ok-push_node_copy.ensures

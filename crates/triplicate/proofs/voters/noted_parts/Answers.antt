@@ -1,0 +1,37 @@
+use Rattle.std.proofs.Common.{◌≡◌, ◌+◌, ◌<◌, ℕ, List, [], length, replicate, sym, subst, ap, ◌∙◌, arith, All, refl, rules}
+use Rattle.std.specs.Prelude.{slice_index_or}
+use Rattle.std.proofs.lemmas.List.{length-replicate}
+use Rattle.flat_net.specs.Net.{net_count}
+use Rattle.partitioner.specs.Noting.{Lists}
+use Rattle.triplicate.specs.Pins.{pin_is_voted}
+use Rattle.triplicate.specs.Noted.{needs, members, nodes_noted, parts_noted}
+use Rattle.triplicate.proofs.VoterRows.{length-parts_noted, parts_none, parts_step, members_below, rows_listed, none_listed, pin_in_range}
+use Rattle.triplicate.proofs.voters.noted_parts.Goals as goal
+
+pub loop-p-init : goal.loop-p-init
+loop-p-init c =
+    let nets : c.input_count.result + c.nodes_of.result ≡ net_count c.args.n.now.net = omega (arith, c.input_count.ensures.count, c.nodes_of.ensures.count) in
+    c.in_ok-rows.ensures ∙ (ap (λ k. replicate k []) nets ∙ sym (parts_none c.args.n.now.net c.args.parts.now (pin_is_voted c.args.n.now.net c.args.parts.now c.args.votes.now) (replicate (net_count c.args.n.now.net) [])))
+
+pub note_members-requires-clause-nodes : goal.note_members-requires-clause-nodes
+note_members-requires-clause-nodes c =
+    let row : c.row.result.now ≡ members c.args.n.now.net c.args.parts.now c.loop-p.p = c.row.ensures ∙ c.in_ok-members.ensures.row c.loop-p.p (omega (arith, c.loop-p-test.true, c.count-count.ensures)) in
+    subst (λ (ys : List ℕ). All (λ y. y < length c.args.n.now.net.nodes) ys) (sym row) (members_below c.args.n.now.net c.args.parts.now c.loop-p.p)
+
+pub note_members-requires-clause-rows : goal.note_members-requires-clause-rows
+note_members-requires-clause-rows c = ap length c.loop-p.invariant ∙ (length-parts_noted c.args.n.now.net c.args.parts.now (pin_is_voted c.args.n.now.net c.args.parts.now c.args.votes.now) c.loop-p.p (replicate (net_count c.args.n.now.net) []) ∙ length-replicate (net_count c.args.n.now.net) [])
+
+pub loop-p-preserved : goal.loop-p-preserved
+loop-p-preserved c =
+    let row : c.row.result.now ≡ members c.args.n.now.net c.args.parts.now c.loop-p.p = c.row.ensures ∙ c.in_ok-members.ensures.row c.loop-p.p (omega (arith, c.loop-p-test.true, c.count-count.ensures)) in
+    c.in_ok-note_members.ensures
+    ∙ (ap (λ ys. nodes_noted c.args.n.now.net c.args.parts.now (pin_is_voted c.args.n.now.net c.args.parts.now c.args.votes.now) ys c.loop-p.rows) row
+    ∙ (ap (nodes_noted c.args.n.now.net c.args.parts.now (pin_is_voted c.args.n.now.net c.args.parts.now c.args.votes.now) (members c.args.n.now.net c.args.parts.now c.loop-p.p)) c.loop-p.invariant
+    ∙ sym (parts_step c.args.n.now.net c.args.parts.now (pin_is_voted c.args.n.now.net c.args.parts.now c.args.votes.now) c.loop-p.p (replicate (net_count c.args.n.now.net) []))))
+
+pub returns : goal.returns
+returns c =
+    let end : c.loop-p.p ≡ c.args.parts.now.count = omega (arith, c.loop-p-test.false, c.count-count.ensures) in
+    let rows : c.loop-p.rows ≡ parts_noted c.args.n.now.net c.args.parts.now (pin_is_voted c.args.n.now.net c.args.parts.now c.args.votes.now) c.args.parts.now.count (replicate (net_count c.args.n.now.net) []) = c.loop-p.invariant ∙ ap (λ p. parts_noted c.args.n.now.net c.args.parts.now (pin_is_voted c.args.n.now.net c.args.parts.now c.args.votes.now) p (replicate (net_count c.args.n.now.net) [])) end in
+    subst (λ (rs : List (List ℕ)). Lists (needs c.args.n.now.net c.args.parts.now (pin_is_voted c.args.n.now.net c.args.parts.now c.args.votes.now)) c.args.parts.now.count (net_count c.args.n.now.net) rs) (sym rows)
+    (rows_listed c.args.n.now.net c.args.parts.now (pin_is_voted c.args.n.now.net c.args.parts.now c.args.votes.now) c.args.parts.now.count (replicate (net_count c.args.n.now.net) []) (pin_in_range c.args.n.now.net c.nodes_of.ensures.design.valid) (none_listed c.args.n.now.net c.args.parts.now (pin_is_voted c.args.n.now.net c.args.parts.now c.args.votes.now)))

@@ -1,0 +1,39 @@
+-- How the partitions that need voters are noted: partition by partition, node by node, pin by pin.
+use Rattle.std.specs.Prelude.{ℕ, zero, suc, ◌==◌, Bool, List, [], ◌∷◌, length, filter, slice_index, if◌then◌else◌}
+use Rattle.std.specs.List.{range_with_len}
+use Rattle.tmr_base.specs.Parts.{PlainParts}
+use Rattle.flat_net.specs.Net.{Net}
+use Rattle.feedback_cut.specs.Inner.{node_pins}
+use Rattle.partitioner.specs.Noting.{noted}
+use Rattle.triplicate.specs.Voting.{needs_voter}
+
+-- node y stands in partition p
+abbrev pub is_in : PlainParts → ℕ → ℕ → Bool
+is_in parts y p = slice_index parts.of y == p
+
+-- partition p needs a voter of net x
+abbrev pub needs : Net → PlainParts → (ℕ → ℕ → Bool) → ℕ → ℕ → Bool
+needs n parts voted p x = needs_voter n parts voted x p
+
+-- pin j of node y
+unfoldable pub pin_noted : Net → PlainParts → (ℕ → ℕ → Bool) → ℕ → ℕ → List (List ℕ) → List (List ℕ)
+pin_noted n parts voted y j rows = if voted y j then noted rows (slice_index (node_pins n y) j) (slice_index parts.of y) else rows
+
+-- the first j pins of node y
+unfoldable pub pins_noted : Net → PlainParts → (ℕ → ℕ → Bool) → ℕ → ℕ → List (List ℕ) → List (List ℕ)
+pins_noted n parts voted y zero rows = rows
+pins_noted n parts voted y (suc j) rows = pin_noted n parts voted y j (pins_noted n parts voted y j rows)
+
+-- all pins of these nodes
+unfoldable pub nodes_noted : Net → PlainParts → (ℕ → ℕ → Bool) → List ℕ → List (List ℕ) → List (List ℕ)
+nodes_noted n parts voted [] rows = rows
+nodes_noted n parts voted (y ∷ ys) rows = nodes_noted n parts voted ys (pins_noted n parts voted y (length (node_pins n y)) rows)
+
+-- the nodes of partition p
+abbrev pub members : Net → PlainParts → ℕ → List ℕ
+members n parts p = filter (λ y. is_in parts y p) (range_with_len 0 (length n.nodes))
+
+-- all pins of the nodes of the first k partitions
+unfoldable pub parts_noted : Net → PlainParts → (ℕ → ℕ → Bool) → ℕ → List (List ℕ) → List (List ℕ)
+parts_noted n parts voted zero rows = rows
+parts_noted n parts voted (suc p) rows = nodes_noted n parts voted (members n parts p) (parts_noted n parts voted p rows)

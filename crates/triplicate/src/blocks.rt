@@ -1,0 +1,45 @@
+//! Where in the hardened design each net's copies and voters stand.
+ghost use Rattle.std.specs.Prelude.{◌≡◌, ◌+◌, ◌*◌, ◌<◌, length, IfOk};
+ghost use Rattle.flat_net.specs.Net.{net_count};
+ghost use Rattle.triplicate.specs.Pins.{pin_is_voted};
+ghost use Rattle.triplicate.specs.Blocks.{copies_of, hardened_roles};
+ghost use Rattle.triplicate.specs.Starts.{AreVoterRows, AreStarts};
+
+use crate::voting::{VotedPins, nodes_of};
+use flat_net::FlatNet;
+use partitioner::Packed;
+use std::alloc::Global;
+use tmr_base::{OutOfMemory, Parts};
+
+/// How many copies of net x are nodes.
+pub fn copies(n: &FlatNet, x: u32) -> u32
+    ensures { result ≡ length (copies_of n.now.net x) }
+{
+    if x < n.input_count() { 0 } else { 3 }
+}
+
+/// For each net the number of the first hardened node that stands for it, and last the number behind all.
+pub fn block_starts(
+    alloc: Global,
+    n: &FlatNet,
+    parts: &Parts,
+    votes: &VotedPins,
+    voters: &Packed,
+) -> Result<Vec<u32>, OutOfMemory>
+    requires voters { AreVoterRows n.now.net parts.now (pin_is_voted n.now.net parts.now votes.now) voters.now }
+    requires few { 3 * length n.now.net.inputs + length (hardened_roles n.now.net parts.now (pin_is_voted n.now.net parts.now votes.now)) < 4294967295 }
+    ensures { IfOk result (λ starts. AreStarts n.now.net parts.now (pin_is_voted n.now.net parts.now votes.now) starts.items) }
+{
+    let mut starts = Vec::new(alloc);
+    let inputs = n.input_count();
+    let nets = inputs + nodes_of(n);
+    let mut next = 3 * inputs;
+    for x in 0..nets {
+        starts.push(next)?;
+        let copied = copies(n, x);
+        let voting = voters.row(x).len() as u32;
+        next += copied + 3 * voting;
+    }
+    starts.push(next)?;
+    Ok(starts)
+}

@@ -1,0 +1,127 @@
+//! Hardening.
+ghost use Rattle.std.specs.Prelude.{◌≡◌, ◌+◌, ◌<◌, ◌≤◌, length, IfOk};
+ghost use Rattle.flat_net.specs.Net.{net_count, pin_total};
+ghost use Rattle.feedback_cut.specs.Cut.{CutMeets};
+ghost use Rattle.certificate.specs.Starts.{spread_start};
+ghost use Rattle.triplicate.specs.Pins.{pin_is_voted};
+ghost use Rattle.triplicate.specs.Construction.{hardened_net, hardened_cert};
+ghost use Rattle.triplicate.specs.Given.{IsGiven};
+ghost use Rattle.triplicate.specs.Labels.{labeling};
+ghost use Rattle.triplicate.specs.Built.{IsBuilt};
+ghost use Rattle.triplicate.specs.Result.{IsHardened, IsFreeHardened};
+
+use crate::assembling::{assembled, certified};
+use crate::blocks::block_starts;
+use crate::marking::hardened_marks;
+use crate::tripling::make_tripled;
+use crate::voters::voting_parts;
+use crate::voting::{VotedPins, nodes_of};
+use crate::{FreeHardened, Hardened};
+use certificate::Certificate;
+use feedback_cut::cut;
+use flat_net::{FlatNet, FreeNet};
+use partitioner::{cost, is_minimal, plain, refine};
+use recovery_depth::{Extra, bound};
+use std::alloc::Global;
+use tmr_base::{OutOfMemory, Parts};
+
+/// The hardened design and its certificate, for these partitions, these voted pins and these labels.
+fn triplicate(
+    alloc: Global,
+    n: &FlatNet,
+    parts: &Parts,
+    votes: &VotedPins,
+    extra: &Extra,
+) -> Result<(FlatNet, Certificate), OutOfMemory>
+    requires parts { length parts.now.of ≡ length n.now.net.nodes }
+    requires cut { CutMeets n.now.net parts.now votes.now.cut }
+    requires marks { length votes.now.marks ≡ length n.now.net.nodes }
+    requires given { IsGiven n.now.net parts.now (pin_is_voted n.now.net parts.now votes.now) (labeling votes.now.inputs extra.now.table) }
+    ensures net { IfOk result (λ r. r.0.net ≡ hardened_net n.now.net parts.now (pin_is_voted n.now.net parts.now votes.now)) }
+    ensures cert { IfOk result (λ r. r.1 ≡ hardened_cert n.now.net parts.now (pin_is_voted n.now.net parts.now votes.now) (labeling votes.now.inputs extra.now.table)) }
+{
+    let _nodes = nodes_of(n);
+    let voters = voting_parts(alloc, n, parts, votes)?;
+    let starts = block_starts(alloc, n, parts, votes, &voters)?;
+    let made = make_tripled(alloc, n, parts, votes, &voters, &starts)?;
+    let net = assembled(alloc, n, parts, votes, &starts, made.names, made.nodes)?;
+    let cert = certified(alloc, n, parts, votes, extra, &starts, made.roles)?;
+    Ok((net, cert))
+}
+
+/// The pair, whatever its version; no label is above `most`. The one refusal is want of memory.
+fn build(
+    alloc: Global,
+    n: &FlatNet,
+    size: u32,
+    inputs: bool,
+    most: u32,
+) -> Result<Hardened, OutOfMemory>
+    requires size { 0 < size }
+    requires most { 0 < most }
+    requires few { net_count n.now.net + pin_total n.now.net ≤ 16777216 }
+    ensures { IfOk result (λ r. IsBuilt n.now.net size inputs most r) }
+{
+    let _nodes = nodes_of(n);
+    let start = plain(alloc, n, size)?;
+    let plain_pairs = cost(alloc, n, &start)?;
+    let parts = refine(alloc, n, start, size, 8)?;
+    let pairs = cost(alloc, n, &parts)?;
+    let minimal = is_minimal(alloc, n, &parts, size)?;
+    let _count = parts.count();
+    let cut = cut(alloc, n, &parts)?;
+    let extra = bound(alloc, n, &parts, &cut, most)?;
+    let votes = VotedPins {
+        inputs,
+        cut: &cut,
+        extra: &extra,
+    };
+    let (net, cert) = triplicate(alloc, n, &parts, &votes, &extra)?;
+    let voters = net.node_count() - 3 * n.node_count();
+    Ok(Hardened {
+        net,
+        cert,
+        cost: pairs,
+        plain: plain_pairs,
+        minimal,
+        voters,
+    })
+}
+
+/// The design made threefold, with a voter of each net for each partition in which a voted pin reads it, and its
+/// certificate, of version 1. `size` is the size of partitions. The one refusal is want of memory.
+pub fn harden(alloc: Global, n: &FlatNet, size: u32) -> Result<Hardened, OutOfMemory>
+    requires size { 0 < size }
+    requires few { net_count n.now.net + pin_total n.now.net ≤ 16777216 }
+    ensures { IfOk result (λ r. IsHardened n.now.net size r) }
+{
+    let hardened = build(alloc, n, size, false, 4294967295)?;
+    Ok(hardened)
+}
+
+/// The same with a certificate of version 2: pins that read inputs are voted too, and copies are marked as their
+/// nodes are. No label is above `most`, since the pins of registers that would bring a greater one are voted too; a
+/// bound above the number of nodes adds none.
+pub fn harden_free(
+    alloc: Global,
+    n: &FreeNet,
+    size: u32,
+    most: u32,
+) -> Result<FreeHardened, OutOfMemory>
+    requires size { 0 < size }
+    requires most { 0 < most }
+    requires few { net_count n.now.design.net + pin_total n.now.design.net ≤ 16777216 }
+    ensures { IfOk result (λ r. IsFreeHardened n.now size most r) }
+{
+    let original = n.net();
+    let hardened = build(alloc, original, size, true, most)?;
+    let marks = hardened_marks(alloc, n, &hardened.net, &hardened.cert)?;
+    Ok(FreeHardened {
+        net: FreeNet::make(hardened.net, marks),
+        cert: hardened.cert,
+        cost: hardened.cost,
+        plain: hardened.plain,
+        minimal: hardened.minimal,
+        voters: hardened.voters,
+    })
+}

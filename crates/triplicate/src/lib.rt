@@ -1,0 +1,21 @@
+//! Hardening: a design made threefold, with voters where upsets would spread, and its certificate.
+//!
+//! The layers above may rely on this: `harden` answers a pair in the hardened form, or want of memory;
+//! `harden_free` does so with a certificate of version 2 and a bound on labels.
+#![tactic(auto)]
+
+mod assembling;
+mod blocks;
+mod certifying;
+mod hardened;
+mod hardening;
+mod marking;
+mod naming;
+mod ordering;
+mod pins;
+mod tripling;
+mod voters;
+mod voting;
+
+pub use hardened::{FreeHardened, Hardened};
+pub use hardening::{harden, harden_free};

@@ -1,0 +1,44 @@
+//! The marks of a hardened design.
+ghost use Rattle.std.specs.Prelude.{◌≡◌, ◌+◌, ◌<◌, ◌≤◌, Some, length, IfOk};
+ghost use Rattle.certificate.specs.declared.role.Role.{Role};
+ghost use Rattle.certificate.specs.Cert.{Fits, role_of};
+ghost use Rattle.certificate.specs.Starts.{role_start, spread_start};
+
+use crate::voting::nodes_of;
+use certificate::{Certificate, Role};
+use flat_net::{FlatNet, FreeNet};
+use std::alloc::Global;
+use tmr_base::{NetId, OutOfMemory};
+
+/// The mark of hardened node h: a copy has its node's, and a voter none.
+fn mark_of(n: &FreeNet, c: &Certificate, h: NetId) -> bool
+    requires low { c.now.hardened_inputs ≤ h.0 }
+    requires high { h.0 < c.now.hardened_inputs + length c.now.roles }
+    requires inputs { c.now.original_inputs ≡ length n.now.design.net.inputs }
+    requires nodes { length c.now.part ≡ length n.now.design.net.nodes }
+    ensures { (r : Role) → role_of c.now h.0 ≡ Some r → result ≡ role_start c.now n.now.free r }
+{
+    match c.role(h) {
+        Role::Copy { node, .. } => n.is_free(node),
+        Role::Voter { .. } => false,
+    }
+}
+
+/// The marks of hardened nodes.
+pub fn hardened_marks(
+    alloc: Global,
+    n: &FreeNet,
+    h: &FlatNet,
+    c: &Certificate,
+) -> Result<Vec<bool>, OutOfMemory>
+    requires fits { Fits n.now.design.net h.now.net c.now }
+    ensures { IfOk result (λ marks. marks.items ≡ spread_start c.now n.now.free) }
+{
+    let mut marks = Vec::new(alloc);
+    let inputs = c.hardened_inputs();
+    let count = nodes_of(h);
+    for i in 0..count {
+        marks.push(mark_of(n, c, NetId(inputs + i)))?;
+    }
+    Ok(marks)
+}
