@@ -1,0 +1,9 @@
+pub mod Apart
+pub mod Quiet
+pub mod SeenLaws
+pub mod Taking
+pub mod Counting
+pub mod Documents
+pub mod Kept
+pub mod MaskedLaws
+pub mod Places

@@ -1,0 +1,17 @@
+use Rattle.std.proofs.Common.{◌≡◌, ◌<◌, ◌-◌, ℕ, List, length, slice_get, get_or, sym, ap, subst, false}
+use Rattle.std.specs.Prelude.{IfSome}
+use Rattle.tmr_base.specs.declared.ids.Upset.{Upset}
+use Rattle.schedule_replay.specs.Entries.{upset_of_entry}
+use Rattle.schedule_replay.specs.Schedule.{PlainSchedule, IsBefore}
+use Rattle.schedule_replay.proofs.Places.{cycle_in_range, entry_in_order}
+use Rattle.schedule_replay.proofs.reading.push_upsets.Goals as goal
+
+pub push_upset-requires-clause-order : goal.push_upset-requires-clause-order
+push_upset-requires-clause-order c =
+    subst (λ (s : PlainSchedule). IfSome (slice_get s.upsets (length s.upsets - 1)) (λ v. IsBefore v (upset_of_entry (get_or c.args.entries.now c.loop-j.j ((0, 0), false))))) (sym c.loop-j.invariant)
+    (entry_in_order c.args.entries.now c.loop-j.j ((0, 0), false) c.requires.ordered c.loop-j-test.true)
+
+pub push_upset-requires-clause-range : goal.push_upset-requires-clause-range
+push_upset-requires-clause-range c =
+    subst (λ (s : PlainSchedule). (get_or c.args.entries.now c.loop-j.j ((0, 0), false)).0.0 < length s.rows) (sym c.loop-j.invariant)
+    (cycle_in_range c.args.entries.now c.loop-j.j (length c.args.s.now.rows) ((0, 0), false) c.requires.range c.loop-j-test.true)

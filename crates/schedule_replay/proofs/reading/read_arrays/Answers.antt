@@ -1,0 +1,32 @@
+use Rattle.std.proofs.Common.{◌≡◌, ◌≤◌, ◌∙◌, ℕ, Bool, List, [], Ok, subst, length, map, sym, ap, arith}
+use Rattle.std.proofs.lemmas.List.{length-map}
+use Rattle.toml.specs.View.{view}
+use Rattle.schedule_replay.specs.Schedule.{PlainSchedule}
+use Rattle.schedule_replay.specs.Document.{rows_from}
+use Rattle.schedule_replay.specs.Reading.{ListsUpsets, IsNodeOf}
+use Rattle.std.specs.Prelude.{All}
+use Rattle.std.specs.Map.{keys_of}
+use Rattle.schedule_replay.proofs.Places.{all_read, upsets_nodes}
+use Rattle.schedule_replay.proofs.reading.read_arrays.Goals as goal
+
+pub push_upsets-requires-clause-few : goal.push_upsets-requires-clause-few
+push_upsets-requires-clause-few c =
+    let same = ap length (c.deref.ensures.value ∙ c.in-Ok-entries_of.ensures) in
+    let long = c.in-Ok-read_upsets.ensures.ok.long in
+    omega (arith, same, long, length-map c.args.upsets.now view)
+
+pub returns-in-Ok-push_upsets-clause-ok : goal.returns-in-Ok-push_upsets-clause-ok
+returns-in-Ok-push_upsets-clause-ok c =
+    let s : PlainSchedule = c.read_rows.new.s in
+    all_read c.args.n.now.net c.args.h.now.net (map view c.args.rows.now) (map view c.args.upsets.now) c.in-Ok-read_upsets.map c.deref.result.now s c.push_upsets.new.s
+    (omega (arith, length-map c.args.rows.now view)) (omega (arith, length-map c.args.upsets.now view))
+    (subst (λ (w : ℕ). rows_from w 0 [] (map view c.args.rows.now) ≡ Ok s.rows) c.input_count-inputs.ensures.count c.in-Ok.ensures.rows)
+    (subst (λ (k : ℕ). ListsUpsets c.args.h.now.net k (map view c.args.upsets.now) c.in-Ok-read_upsets.map) c.cycles.ensures.count c.in-Ok-read_upsets.ensures.ok)
+    (c.deref.ensures.value ∙ c.in-Ok-entries_of.ensures) (c.in-Ok.ensures.inputs ∙ c.input_count-inputs.ensures.count) c.in-Ok-push_upsets.ensures
+
+pub returns-in-Ok-push_upsets-clause-nodes : goal.returns-in-Ok-push_upsets-clause-nodes
+returns-in-Ok-push_upsets-clause-nodes c =
+    let es = c.deref.result.now in
+    let same = c.deref.ensures.value ∙ c.in-Ok-entries_of.ensures in
+    let nodes = subst (λ (xs : List ((ℕ × ℕ) × Bool)). All (λ k. IsNodeOf c.args.h.now.net k.1) (keys_of xs)) (sym same) c.in-Ok-read_upsets.ensures.ok.nodes in
+    subst (λ (s : PlainSchedule). All (λ u. IsNodeOf c.args.h.now.net u.net.0) s.upsets) (sym c.in-Ok-push_upsets.ensures) (upsets_nodes c.args.h.now.net es nodes)

@@ -1,0 +1,11 @@
+use Rattle.std.proofs.Common.{◌≡◌, ◌<◌, [], List, length, map, drop}
+use Rattle.std.specs.Prelude.{All}
+use Rattle.std.specs.BTreeMap as tree
+use Rattle.toml.specs.View.{view}
+use Rattle.schedule_replay.specs.Document.{upsets_from}
+use Rattle.schedule_replay.specs.Entries.{Holds, place_cmp}
+use Rattle.schedule_replay.specs.Reading.{HasListed}
+use Rattle.schedule_replay.proofs.reading.read_upsets.Given as goal
+
+abbrev pub invariant-loop-j : goal.invariant-loop-j
+invariant-loop-j l = HasListed l.h.net l.cycles (map view l.entries) (map view (drop l.j l.entries)) l.j l.seen

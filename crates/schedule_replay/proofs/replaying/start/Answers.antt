@@ -1,0 +1,15 @@
+use Rattle.std.proofs.Common.{◌≡◌, ◌*◌, ◌∙◌, length, arith}
+use Rattle.schedule_replay.proofs.Quiet.{none_struck, none_taken}
+use Rattle.schedule_replay.proofs.replaying.start.Goals as goal
+
+pub returns-clause-ready : goal.returns-clause-ready
+returns-clause-ready c = record {
+  original = c.in_ok-original.ensures.net;
+  hardened = c.in_ok-hardened.ensures.net;
+  row = let e = c.in_ok-row.ensures in omega arith;
+  spread = let e = c.in_ok-spread.ensures in omega arith;
+  lasts = c.in_ok-lasts.ensures.len;
+  next = omega arith;
+  taken = none_taken c.args.us.now.upsets;
+  latest = none_struck c.args.c.now c.args.us.now.upsets c.in_ok-lasts.lasts.items c.in_ok-lasts.ensures.items;
+}

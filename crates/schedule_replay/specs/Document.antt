@@ -1,0 +1,156 @@
+-- The document of a schedule file: what it says, or its first fault.
+use Rattle.std.specs.Prelude.{◌≡◌, ℕ, ◌+◌, ◌==◌, ℤ, pos, negsuc, Bool, true, false, not, ◌&&◌, ◌||◌, nat_eq, nat_le, nat_lt, List, [], ◌∷◌, ◌++◌, map, length, Option, Some, None, Result, Ok, Err, option_and_then, codes, if◌then◌else◌}
+use Rattle.std.specs.List.{list_all, list_any}
+use Rattle.std.specs.Str.{is_utf8, bytes_eq}
+use Rattle.toml.specs.Data.{Data, integer, Items, no_items, item, Members, no_members, member, get_member, as_array, as_str, as_table, as_integer}
+use Rattle.toml.specs.Parse.{parse_document}
+use Rattle.tmr_base.specs.declared.ids.Upset.{Upset}
+use Rattle.flat_net.specs.Net.{Net, net_named}
+use Rattle.schedule_replay.specs.declared.fault.ScheduleFault.{ScheduleFault}
+use Rattle.schedule_replay.specs.declared.fault.ScheduleFault.TheVariants as fault
+
+-- the members of the document that the bytes are, if they are one
+abbrev pub document : List ℕ → Option Members
+document bytes = if is_utf8 bytes then parse_document bytes else None
+
+-- there are no other keys than those that pass
+abbrev pub only_keys : (List ℕ → Bool) → Members → Bool
+only_keys known no_members = true
+only_keys known (member key value rest) = known key && only_keys known rest
+
+-- the keys that a schedule file may have
+abbrev pub is_file_key : List ℕ → Bool
+is_file_key key = bytes_eq key (codes "inputs") || bytes_eq key (codes "upset")
+
+-- the keys of an upset
+abbrev pub is_upset_key : List ℕ → Bool
+is_upset_key key = bytes_eq key (codes "cycle") || (bytes_eq key (codes "net") || bytes_eq key (codes "value"))
+
+abbrev pub list_of : Items → List Data
+list_of no_items = []
+list_of (item d rest) = d ∷ list_of rest
+
+-- the rows of inputs, where the key is there and holds an array
+abbrev pub inputs_of : Members → Option Items
+inputs_of top = option_and_then as_array (get_member (codes "inputs") top)
+
+abbrev pub array_or_none : Option Data → Option Items
+array_or_none None = Some no_items
+array_or_none (Some d) = as_array d
+
+-- the upsets, where the key holds an array; without the key there are none
+abbrev pub upsets_of : Members → Option Items
+upsets_of top = array_or_none (get_member (codes "upset") top)
+
+-- `0` or `1`
+abbrev pub is_bit : ℕ → Bool
+is_bit b = nat_eq b 48 || nat_eq b 49
+
+-- the bits of a text of one `0` or `1` per input
+abbrev pub bits_of_text : ℕ → List ℕ → Option (List Bool)
+bits_of_text width text = if nat_eq (length text) width && list_all is_bit text then Some (map (λ b. nat_eq b 49) text) else None
+
+abbrev pub row_of : ℕ → Data → Option (List Bool)
+row_of width d = option_and_then (bits_of_text width) (as_str d)
+
+-- a number from 0
+abbrev pub natural : ℤ → Option ℕ
+natural (pos n) = Some n
+natural (negsuc n) = None
+
+-- 0 or 1
+abbrev pub bit_of_number : ℕ → Option Bool
+bit_of_number n = if nat_le n 1 then Some (nat_eq n 1) else None
+
+abbrev pub natural_at : List ℕ → Members → Option ℕ
+natural_at key ms = option_and_then natural (option_and_then as_integer (get_member key ms))
+
+-- an upset as it is written
+pub record Entry : Type 0 where
+  pub cycle : ℕ
+  pub net : List ℕ
+  pub value : Bool
+
+abbrev pub entry_from : Option ℕ → Option (List ℕ) → Option Bool → Option Entry
+entry_from None net value = None
+entry_from (Some cycle) None value = None
+entry_from (Some cycle) (Some net) None = None
+entry_from (Some cycle) (Some net) (Some value) = Some (record { cycle = cycle; net = net; value = value })
+
+-- a table with exactly these keys
+abbrev pub entry_in : Members → Option Entry
+entry_in ms =
+    if only_keys is_upset_key ms
+    then entry_from (natural_at (codes "cycle") ms) (option_and_then as_str (get_member (codes "net") ms)) (option_and_then bit_of_number (natural_at (codes "value") ms))
+    else None
+
+abbrev pub entry_of : Data → Option Entry
+entry_of d = option_and_then entry_in (as_table d)
+
+-- a net that is no input
+abbrev pub node_at : ℕ → ℕ → Option ℕ
+node_at inputs x = if nat_le inputs x then Some x else None
+
+-- the node with this name
+abbrev pub node_named : Net → List ℕ → Option ℕ
+node_named h name = option_and_then (node_at (length h.inputs)) (net_named h name)
+
+-- some upset has this cycle and net
+abbrev pub is_listed : List Upset → ℕ → ℕ → Bool
+is_listed us cycle net = list_any (λ u. nat_eq u.cycle cycle && nat_eq u.net.0 net) us
+
+abbrev pub placed : ℕ → ℕ → List Upset → ℕ → Bool → ℕ → Result Upset ScheduleFault
+placed cycles j earlier cycle value net =
+    if not (nat_lt cycle cycles) then Err (fault.Range j)
+    else if is_listed earlier cycle net then Err (fault.Doubled j)
+    else Ok (record { cycle = cycle; net = record { 0 = net }; value = value })
+
+abbrev pub known : ℕ → ℕ → List Upset → Entry → Option ℕ → Result Upset ScheduleFault
+known cycles j earlier e None = Err (fault.UnknownNet j)
+known cycles j earlier e (Some net) = placed cycles j earlier e.cycle e.value net
+
+-- upset j, after the earlier ones
+abbrev pub upset_of : Net → ℕ → ℕ → List Upset → Option Entry → Result Upset ScheduleFault
+upset_of h cycles j earlier None = Err (fault.Entry j)
+upset_of h cycles j earlier (Some e) = known cycles j earlier e (node_named h e.net)
+
+abbrev pub and_then : {A B : Type 0} → Result A ScheduleFault → (A → Result B ScheduleFault) → Result B ScheduleFault
+and_then (Ok a) f = f a
+and_then (Err e) f = Err e
+
+-- the earlier upsets and those that the entries are, counted from j
+abbrev pub upsets_from : Net → ℕ → ℕ → List Upset → List Data → Result (List Upset) ScheduleFault
+upsets_from h cycles j earlier [] = Ok earlier
+upsets_from h cycles j earlier (d ∷ ds) = and_then (upset_of h cycles j earlier (entry_of d)) (λ u. upsets_from h cycles (j + 1) (earlier ++ u ∷ []) ds)
+
+abbrev pub row_or_fault : ℕ → Option (List Bool) → Result (List Bool) ScheduleFault
+row_or_fault t None = Err (fault.Row t)
+row_or_fault t (Some row) = Ok row
+
+-- the earlier rows and those that the entries are, counted from t
+abbrev pub rows_from : ℕ → ℕ → List (List Bool) → List Data → Result (List (List Bool)) ScheduleFault
+rows_from width t earlier [] = Ok earlier
+rows_from width t earlier (d ∷ ds) = and_then (row_or_fault t (row_of width d)) (λ row. rows_from width (t + 1) (earlier ++ row ∷ []) ds)
+
+-- the rows, and the upsets in the order of the file
+pub record Listed : Type 0 where
+  pub rows : List (List Bool)
+  pub upsets : List Upset
+
+abbrev pub listed : Net → Net → List Data → List Data → Result Listed ScheduleFault
+listed n h rows ups =
+    if nat_lt 1048576 (length rows) || nat_lt 1048576 (length ups) then Err fault.TooMany
+    else and_then (rows_from (length n.inputs) 0 [] rows) (λ rs. and_then (upsets_from h (length rs) 0 [] ups) (λ us. Ok (record { rows = rs; upsets = us })))
+
+abbrev pub arrays_listed : Net → Net → Option Items → Option Items → Result Listed ScheduleFault
+arrays_listed n h None ups = Err fault.Top
+arrays_listed n h (Some rows) None = Err fault.Top
+arrays_listed n h (Some rows) (Some ups) = listed n h (list_of rows) (list_of ups)
+
+abbrev pub document_listed : Net → Net → Option Members → Result Listed ScheduleFault
+document_listed n h None = Err fault.NotToml
+document_listed n h (Some top) = if only_keys is_file_key top then arrays_listed n h (inputs_of top) (upsets_of top) else Err fault.Top
+
+-- what a schedule file says of these designs, or its first fault
+unfoldable pub sched_of : List ℕ → Net → Net → Result Listed ScheduleFault
+sched_of bytes n h = document_listed n h (document bytes)

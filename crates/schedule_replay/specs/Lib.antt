@@ -1,0 +1,11 @@
+pub mod Allowing
+pub mod Document
+pub mod Entries
+pub mod Gives
+pub mod Outcome
+pub mod OutcomeView
+pub mod Reading
+pub mod Running
+pub mod Schedule
+pub mod Striking
+pub mod View

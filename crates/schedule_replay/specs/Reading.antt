@@ -1,0 +1,48 @@
+-- Steps of reading.
+use Rattle.std.specs.Prelude.{◌≡◌, ℕ, ◌<◌, ◌≤◌, Bool, List, [], ◌∷◌, ◌++◌, Some, Ok, Err, Result, All, length}
+use Rattle.std.specs.BTreeMap as tree
+use Rattle.std.specs.BTreeMap.{BTreeMap}
+use Rattle.tmr_base.specs.declared.ids.Upset.{Upset}
+use Rattle.flat_net.specs.Net.{Net, net_count}
+use Rattle.schedule_replay.specs.Entries.{Holds, place_cmp, IsScheduleOf}
+use Rattle.toml.specs.Data.{Data}
+use Rattle.schedule_replay.specs.Document.{row_of, upsets_from, Listed}
+use Rattle.schedule_replay.specs.declared.fault.ScheduleFault.{ScheduleFault}
+use Rattle.schedule_replay.specs.Schedule.{PlainSchedule}
+
+-- the row that the value is stands behind the others
+pub record PushesRow (width : ℕ) (d : Data) (old new : PlainSchedule) : Type 0 where
+  pub row : List Bool
+  pub is_row : row_of width d ≡ Some row
+  pub pushed : new ≡ record old { rows = old.rows ++ row ∷ [] }
+
+-- a node of the design
+abbrev pub IsNodeOf : Net → ℕ → Type 0
+IsNodeOf h x = (length h.inputs ≤ x) × (x < net_count h)
+
+-- the upsets that the entries write, and nothing else; each is of a node of h and of some cycle
+pub record ListsUpsets (h : Net) (cycles : ℕ) (ds : List Data) (m : BTreeMap (ℕ × ℕ) Bool) : Type 0 where
+  pub upsets : List Upset
+  pub listed : upsets_from h cycles 0 [] ds ≡ Ok upsets
+  pub holds : Holds m upsets
+  pub count : length m.entries ≡ length upsets
+  pub long : length m.entries ≡ length ds
+  pub ordered : tree.IsOrdered place_cmp m
+  pub range : All (λ k. k.0 < cycles) (tree.keys m)
+  pub nodes : All (λ k. IsNodeOf h k.1) (tree.keys m)
+
+-- the upsets of the first entries, so that reading goes on with the rest
+pub record HasListed (h : Net) (cycles : ℕ) (ds rest : List Data) (j : ℕ) (m : BTreeMap (ℕ × ℕ) Bool) : Type 0 where
+  pub upsets : List Upset
+  pub listed : upsets_from h cycles j upsets rest ≡ upsets_from h cycles 0 [] ds
+  pub holds : Holds m upsets
+  pub count : length m.entries ≡ length upsets
+  pub long : length m.entries ≡ j
+  pub ordered : tree.IsOrdered place_cmp m
+  pub range : All (λ k. k.0 < cycles) (tree.keys m)
+  pub nodes : All (λ k. IsNodeOf h k.1) (tree.keys m)
+
+-- reading gives what the schedule has
+abbrev pub IsReadAs : ℕ → Result Listed ScheduleFault → PlainSchedule → Type 0
+IsReadAs inputs (Ok l) s = IsScheduleOf inputs l s
+IsReadAs inputs (Err f) s = ⊥

@@ -1,0 +1,35 @@
+-- A replay between two cycles.
+use Rattle.std.specs.Prelude.{◌≡◌, ℕ, ◌+◌, ◌*◌, ◌<◌, ◌≤◌, Bool, List, length}
+use Rattle.tmr_base.specs.declared.ids.Upset.{Upset}
+use Rattle.flat_net.specs.Net.{Net}
+use Rattle.certificate.specs.Cert.{PlainCert}
+use Rattle.net_simulator.proofs.OneCycle.{before_cycle}
+use Rattle.schedule_replay.specs.declared.replaying.Running.{Running}
+use Rattle.schedule_replay.specs.declared.outcome.Outcome.{Outcome}
+use Rattle.schedule_replay.specs.Outcome.{Counts, outputs_until, late_until}
+use Rattle.schedule_replay.specs.Schedule.{PlainSchedule}
+use Rattle.schedule_replay.specs.Striking.{IsTaken, AreLatest}
+
+-- the two simulators are of these designs, and the upsets before cycle t were taken
+pub record IsReady (n h : Net) (k : PlainCert) (us : List Upset) (t : ℕ) (r : Running) : Type 0 where
+  pub original : r.original.net ≡ n
+  pub hardened : r.hardened.net ≡ h
+  pub row : length r.row.items ≡ length n.inputs
+  pub spread : length r.spread.items ≡ 3 * length n.inputs
+  pub lasts : length r.lasts.items ≡ length k.depth
+  pub next : r.next ≤ length us
+  pub taken : IsTaken us t r.next
+  pub latest : AreLatest k us r.next r.lasts.items
+
+-- what was counted in the first t cycles
+pub record HasCounted (n h : Net) (k : PlainCert) (us : List Upset) (tr ft : List (List Bool)) (t : ℕ) (r : Running) (o : Outcome) : Type 0 where
+  pub original : r.original.last ≡ before_cycle tr t
+  pub hardened : r.hardened.last ≡ before_cycle ft t
+  pub counts : Counts (outputs_until n h tr ft t) o.first.items o.differences o.wrong
+  pub late : o.late ≡ late_until n k us tr ft t
+
+-- numbers that fit
+pub record IsBounded (t : ℕ) (o : Outcome) : Type 0 where
+  pub differences : o.differences ≤ t * 4294967295
+  pub wrong : o.wrong ≤ t * 4294967295
+  pub late : o.late ≤ t * 12884901885

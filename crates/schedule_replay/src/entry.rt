@@ -1,0 +1,66 @@
+//! The entries of a schedule's upsets.
+ghost use Rattle.std.specs.Prelude.{◌≡◌, ◌<◌, ◌≤◌, IfOk, IfSome, length, map, option_map};
+ghost use Rattle.toml.specs.View.{view, table_view};
+ghost use Rattle.flat_net.specs.Net.{net_count};
+ghost use Rattle.flat_net.specs.Nodes.{number_of};
+ghost use Rattle.schedule_replay.specs.Document.{entry_of, entry_in as entry_in_of, node_named};
+ghost use Rattle.schedule_replay.specs.Entries.{plain_entry};
+
+use crate::document::{bit_at, has_upset_keys, number_at, text_at};
+use flat_net::FlatNet;
+use std::alloc::Global;
+use tmr_base::{Name, NameFault, NetId, OutOfMemory};
+use toml::{Table, Value};
+
+/// An upset as it is written.
+#[derive(Clone, Copy, Drop)]
+pub struct Written<'a> {
+    pub cycle: u64,
+    pub net: &'a str,
+    pub value: bool,
+}
+
+/// The upset that a table writes.
+fn entry_in(ms: &Table) -> Option<Written<'_>>
+    ensures { option_map plain_entry result ≡ entry_in_of (table_view ms.now) }
+{
+    if !has_upset_keys(ms) {
+        return None;
+    }
+    match (
+        number_at(ms, "cycle"),
+        text_at(ms, "net"),
+        bit_at(ms, "value"),
+    ) {
+        (Some(cycle), Some(net), Some(value)) => Some(Written { cycle, net, value }),
+        _ => None,
+    }
+}
+
+/// The upset that an entry writes.
+pub fn read_entry(value: &Value) -> Option<Written<'_>>
+    ensures { option_map plain_entry result ≡ entry_of (view value.now) }
+{
+    match value.as_table() {
+        None => None,
+        Some(ms) => entry_in(ms),
+    }
+}
+
+/// The node with this name.
+#[tactic(auto, using(certificate::proofs::Names::names))]
+pub fn find_node(alloc: Global, h: &FlatNet, name: &str) -> Result<Option<NetId>, OutOfMemory>
+    ensures node { IfOk result (λ x. option_map number_of x ≡ node_named h.now.net name.now) }
+    ensures low { IfOk result (λ x. IfSome x (λ x. length h.now.net.inputs ≤ x.0)) }
+    ensures high { IfOk result (λ x. IfSome x (λ x. x.0 < net_count h.now.net)) }
+{
+    let inputs = h.input_count();
+    match Name::read(alloc, name.as_bytes()) {
+        Err(NameFault::Memory) => Err(OutOfMemory),
+        Err(NameFault::Bad) => Ok(None),
+        Ok(name) => match h.find(&name) {
+            None => Ok(None),
+            Some(x) => { if x.0 < inputs { Ok(None) } else { Ok(Some(x)) } }
+        },
+    }
+}

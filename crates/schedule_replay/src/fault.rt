@@ -1,0 +1,24 @@
+//! Why a schedule file is refused.
+
+/// The first fault of a schedule file.
+#[derive(Clone, Copy, Debug, PartialEq, Eq, Drop)]
+pub enum ScheduleFault {
+    /// The bytes are no TOML document.
+    NotToml,
+    /// There is another key, or `inputs` is missing, or the value of a key is no array.
+    Top,
+    /// There are too many rows or upsets.
+    TooMany,
+    /// This row of inputs is no text of one `0` or `1` per input.
+    Row(u32),
+    /// This upset is no table with exactly the three keys and their values.
+    Entry(u32),
+    /// This upset names no node of the hardened design.
+    UnknownNet(u32),
+    /// This upset's cycle has no row.
+    Range(u32),
+    /// An earlier upset has the cycle and net of this one.
+    Doubled(u32),
+    /// There was no memory.
+    Memory,
+}

@@ -1,0 +1,23 @@
+//! Schedules of upsets: their files, whether a certificate allows them, and what they do to a hardened design.
+//!
+//! The layers above may rely on this: a `Schedule` is rows of inputs and upsets in strictly ascending order;
+//! reading is exact; `is_allowed` compares all pairs; a replay's numbers are those of the one trace.
+#![tactic(auto)]
+
+mod allowing;
+mod comparing;
+mod document;
+mod entry;
+mod fault;
+mod outcome;
+mod reading;
+mod replaying;
+mod rows;
+mod schedule;
+
+pub use allowing::is_allowed;
+pub use fault::ScheduleFault;
+pub use outcome::{Difference, Outcome};
+pub use reading::read_schedule;
+pub use replaying::replay;
+pub use schedule::Schedule;
