@@ -97,7 +97,10 @@ impl<R: rt::Files> Files for DiskFiles<'_, R> {
     ghost use Rattle.std.specs.Prelude.{None};
 
     ghost seen = { λ count. record {
-        contents = None; load_count = λ name. count; save_count = λ name. count } };
+      contents = None;
+      load_count = λ name. count;
+      save_count = λ name. count;
+    } };
 
     ghost steady = { λ files. ⊥ };
 
@@ -125,33 +128,5 @@ impl<R: rt::Files> Files for DiskFiles<'_, R> {
         let outcome = write_anew(self.rt, name, bytes);
         self.faults.raise_if(outcome.is_err());
         outcome
-    }
-}
-
-#[cfg(test)]
-mod tests {
-    use super::*;
-    use std::test::Fail;
-    use std::{env, process};
-
-    #[test]
-    fn real_files_are_saved_and_loaded(rt: HostRuntime) -> Result<(), Fail> {
-        let alloc = rt.alloc();
-        let file = format!(in alloc; "tmr_outside-{}", process::id(rt.process()))?;
-        let path = env::temp_dir(&rt)?.join(alloc, file.as_str())?;
-        let long = vec![in alloc; 7u8; 140_000]?;
-        let mut files = DiskFiles::new(&rt);
-        files.save(path.as_str(), long.as_slice())?;
-        let bytes = files.load(alloc, path.as_str(), 140_000)?;
-        assert_eq!(rt; bytes.as_slice(), long.as_slice());
-        let short = files.load(alloc, path.as_str(), 139_999);
-        assert_eq!(rt; short.err(), Some(LoadFault::TooLong));
-        let mut gathered = Gathered::new(alloc, 140_000);
-        files.load_pieces(alloc, path.as_str(), 140_000, &mut gathered)?;
-        assert_eq!(rt; gathered.bytes.as_slice(), long.as_slice());
-        fs::remove_file(&rt, path.as_str())?;
-        let missing = files.load(alloc, path.as_str(), 140_000);
-        assert_eq!(rt; missing.err(), Some(LoadFault::Failed));
-        Ok(())
     }
 }

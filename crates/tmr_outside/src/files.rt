@@ -117,6 +117,3 @@ pub trait Files {
     /// A steady object tells what its files hold.
     ghost steady_tells: { (files : Self) → steady files → IsTold (seen files) };
 }
-
-#[cfg(test)]
-mod tests;

@@ -28,6 +28,7 @@ pub use faults::{LoadFault, PutFault, SaveFault};
 pub use files::Files;
 pub use memory_files::MemFiles;
 pub use memory_sink::MemSink;
+pub use reading::hand_out_within;
 pub use sink::Sink;
 pub use standard_sink::StdSink;
 pub use taker::{LONGEST_PIECE, Taker};

@@ -179,7 +179,10 @@ impl Files for MemFiles {
     ghost use Rattle.tmr_outside.specs.MemoryFiles.{failed_loads, failed_saves};
 
     ghost seen = { λ files. record {
-        contents = Some files.held; load_count = failed_loads files; save_count = failed_saves files } };
+      contents = Some files.held;
+      load_count = failed_loads files;
+      save_count = failed_saves files;
+    } };
 
     ghost steady = { λ files. files.plan.failing ≡ empty };
 
@@ -315,103 +318,5 @@ impl Files for MemFiles {
                 front(bytes, keep),
             )),
         }
-    }
-}
-
-#[cfg(test)]
-mod tests {
-    use super::*;
-    use std::str;
-    use std::test::Fail;
-
-    /// What a load gives, or its fault.
-    fn loaded(alloc: Global, files: &mut MemFiles, name: &str, limit: u64) -> Result<String, Fail> {
-        let text = match files.load(alloc, name, limit) {
-            Ok(bytes) => return Ok(String::from_str(alloc, str::from_utf8(&bytes)?)?),
-            Err(LoadFault::Failed) => "failed",
-            Err(LoadFault::TooLong) => "too long",
-            Err(LoadFault::Memory) => "memory",
-        };
-        Ok(String::from_str(alloc, text)?)
-    }
-
-    /// What a save answers.
-    fn saved(files: &mut MemFiles, name: &str, text: &str) -> &'static str {
-        match files.save(name, text.as_bytes()) {
-            Ok(()) => "saved",
-            Err(SaveFault::Failed) => "failed",
-            Err(SaveFault::Memory) => "memory",
-        }
-    }
-
-    /// What stands under a name.
-    fn held<'a>(files: &'a MemFiles, name: &str) -> Result<&'a str, Fail> {
-        match files.held(name) {
-            Some(bytes) => Ok(str::from_utf8(bytes)?),
-            None => Ok("nothing"),
-        }
-    }
-
-    fn hold(files: &mut MemFiles, name: &str, text: &str) -> Result<(), Fail> {
-        files.hold(name, text.as_bytes())?;
-        Ok(())
-    }
-
-    fn fail_at(files: &mut MemFiles, call: u64, keep: u64) -> Result<(), Fail> {
-        files.fail_at(call, keep)?;
-        Ok(())
-    }
-
-    /// Two files, of which one was saved.
-    fn two_files(alloc: Global) -> Result<MemFiles, Fail> {
-        let mut files = MemFiles::new(alloc);
-        hold(&mut files, "a", "one")?;
-        let _answer = saved(&mut files, "b", "three");
-        Ok(files)
-    }
-
-    #[test]
-    fn files_are_held_and_saved(rt: HostRuntime) -> Result<(), Fail> {
-        let files = two_files(rt.alloc())?;
-        assert_eq!(rt; held(&files, "a")?, "one");
-        assert_eq!(rt; held(&files, "b")?, "three");
-        assert_eq!(rt; held(&files, "./a")?, "nothing");
-        Ok(())
-    }
-
-    #[test]
-    fn files_are_loaded(rt: HostRuntime) -> Result<(), Fail> {
-        let alloc = rt.alloc();
-        let mut files = two_files(alloc)?;
-        assert_eq!(rt; loaded(alloc, &mut files, "b", 5)?.as_str(), "three");
-        assert_eq!(rt; loaded(alloc, &mut files, "b", 4)?.as_str(), "too long");
-        assert_eq!(rt; loaded(alloc, &mut files, "c", 5)?.as_str(), "failed");
-        Ok(())
-    }
-
-    /// A file. The calls 1, 2 and 4 fail; the first of them leaves five bytes.
-    fn failing_files(alloc: Global) -> Result<MemFiles, Fail> {
-        let mut files = MemFiles::new(alloc);
-        fail_at(&mut files, 1, 9)?;
-        fail_at(&mut files, 1, 5)?;
-        fail_at(&mut files, 2, 9)?;
-        fail_at(&mut files, 4, 9)?;
-        hold(&mut files, "h", "old")?;
-        Ok(files)
-    }
-
-    #[test]
-    fn calls_fail_by_their_number(rt: HostRuntime) -> Result<(), Fail> {
-        let alloc = rt.alloc();
-        let mut files = failing_files(alloc)?;
-        assert_eq!(rt; loaded(alloc, &mut files, "h", 9)?.as_str(), "old");
-        assert_eq!(rt; saved(&mut files, "h", ".model and2"), "failed");
-        assert_eq!(rt; held(&files, "h")?, ".mode");
-        assert_eq!(rt; saved(&mut files, "h", "new"), "failed");
-        assert_eq!(rt; held(&files, "h")?, "new");
-        assert_eq!(rt; saved(&mut files, "h", "newer"), "saved");
-        assert_eq!(rt; loaded(alloc, &mut files, "h", 9)?.as_str(), "failed");
-        assert_eq!(rt; loaded(alloc, &mut files, "h", 9)?.as_str(), "newer");
-        Ok(())
     }
 }
