@@ -110,10 +110,15 @@ fn free_text(alloc: Global, text: &str) -> Result<Vec<u8>, AllocError> {
 #[test]
 fn free_values_are_written_as_3(rt: HostRuntime) -> Result<(), Fail> {
     let alloc = rt.alloc();
-    let text = ".model f|.inputs i|.outputs a b|.latch i a 2|.names a t|1 1|.latch i b 1|.latch i c 0|.latch t d|.end";
-    let wanted = ".model f|.inputs i|.outputs a b|.latch i a 3|.names a t|1 1|.latch i b 1|.latch i c 0|.latch t d 3|.end|";
+    let text =
+        ".model f|.inputs i|.outputs a b|.latch i a 2|.names a t|1 1|.latch i b 1|.latch i c 0|.latch t d|.end";
+    let wanted =
+        ".model f|.inputs i|.outputs a b|.latch i a 3|.names a t|1 1|.latch i b 1|.latch i c 0|.latch t d 3|.end|";
     let written = free_text(alloc, text)?;
     let wanted = bytes_of(alloc, wanted)?;
-    assert_eq!(rt; str::from_utf8(written.as_slice())?, str::from_utf8(wanted.as_slice())?);
+    assert_eq!(rt;
+        str::from_utf8(written.as_slice())?,
+        str::from_utf8(wanted.as_slice())?
+    );
     Ok(())
 }

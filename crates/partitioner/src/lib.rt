@@ -25,8 +25,8 @@ mod tracking;
 mod wide;
 
 pub use minimal::is_minimal;
-pub use pairs::cost;
 pub use packed::{Packed, packed_rows};
+pub use pairs::cost;
 pub use plain_cut::plain;
 pub use reading::note;
 pub use refining::refine;

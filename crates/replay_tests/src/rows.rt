@@ -19,8 +19,7 @@ const SHIFT_HARD: &str =
 const SHIFT_CERT: &str =
     "tmr-cert 1\nparts 1\npart 0 depth 3\nnode b 0 b~0 b~1 b~2 0 0 0\nnode q1 0 q1~0 q1~1 q1~2 1 1 1\nnode q2 0 q2~0 q2~1 q2~2 2 2 2\nnode q3 0 q3~0 q3~1 q3~2 3 3 3\nend\n";
 
-const TWO: &str =
-    ".model two\n.inputs a\n.outputs y\n.names a x\n1 1\n.names x y\n1 1\n.end\n";
+const TWO: &str = ".model two\n.inputs a\n.outputs y\n.names a x\n1 1\n.names x y\n1 1\n.end\n";
 
 const TWO_HARD: &str =
     ".model two\n.inputs a~0 a~1 a~2\n.outputs y~0 y~1 y~2\n.names a~0 x~0\n1 1\n.names a~1 x~1\n1 1\n.names a~2 x~2\n1 1\n.names x~0 x~1 x~2 x~1~a\n11- 1\n1-1 1\n-11 1\n.names x~0 x~1 x~2 x~1~b\n11- 1\n1-1 1\n-11 1\n.names x~0 x~1 x~2 x~1~c\n11- 1\n1-1 1\n-11 1\n.names x~1~a y~0\n1 1\n.names x~1~b y~1\n1 1\n.names x~1~c y~2\n1 1\n.end\n";
@@ -86,7 +85,9 @@ fn described(alloc: Global, o: &Outcome) -> Result<String, Fail> {
         text.push_str(line.as_str())?;
     }
     let (allowed, differences, wrong, late) = (o.allowed, o.differences, o.wrong, o.late);
-    let line = format!(in alloc; "allowed {allowed} differences {differences} wrong {wrong} late {late}")?;
+    let line = format!(in alloc;
+        "allowed {allowed} differences {differences} wrong {wrong} late {late}"
+    )?;
     text.push_str(line.as_str())?;
     Ok(text)
 }
@@ -121,7 +122,13 @@ fn outcome_of(
 }
 
 /// The outcome of a schedule on a pair, or why there is none.
-fn replayed(alloc: Global, orig: &str, hard: &str, cert: &str, schedule: &str) -> Result<String, Fail> {
+fn replayed(
+    alloc: Global,
+    orig: &str,
+    hard: &str,
+    cert: &str,
+    schedule: &str,
+) -> Result<String, Fail> {
     match (design_of(alloc, orig), design_of(alloc, hard)) {
         (Some(n), Some(h)) => outcome_of(alloc, &n.net, &h.net, cert, schedule),
         _ => Ok(String::from_str(alloc, "bad design")?),
@@ -130,26 +137,71 @@ fn replayed(alloc: Global, orig: &str, hard: &str, cert: &str, schedule: &str) -
 
 #[test]
 fn upsets_at_the_distance_of_the_depth(rt: HostRuntime) -> Result<(), Fail> {
-    let near = replayed(rt.alloc(), "SHIFT", "SHIFT_HARD", "SHIFT_CERT", "inputs = [\"0\",\"0\",\"0\",\"0\",\"0\",\"0\"]\nupset = [{ cycle = 0, net = \"b~0\", value = 1 }, { cycle = 3, net = \"q3~1\", value = 1 }]\n")?;
-    assert_eq!(rt; near.as_str(), "differ 3 0 0 1 1 0 / allowed false differences 1 wrong 1 late 0");
-    let far = replayed(rt.alloc(), "SHIFT", "SHIFT_HARD", "SHIFT_CERT", "inputs = [\"0\",\"0\",\"0\",\"0\",\"0\",\"0\"]\nupset = [{ cycle = 4, net = \"q3~1\", value = 1 }, { cycle = 0, net = \"b~0\", value = 1 }]\n")?;
-    assert_eq!(rt; far.as_str(), "differ 3 0 0 1 0 0 / differ 4 0 0 0 1 0 / allowed true differences 2 wrong 0 late 0");
+    let near = replayed(
+        rt.alloc(),
+        "SHIFT",
+        "SHIFT_HARD",
+        "SHIFT_CERT",
+        "inputs = [\"0\",\"0\",\"0\",\"0\",\"0\",\"0\"]\nupset = [{ cycle = 0, net = \"b~0\", value = 1 }, { cycle = 3, net = \"q3~1\", value = 1 }]\n",
+    )?;
+    assert_eq!(rt;
+        near.as_str(),
+        "differ 3 0 0 1 1 0 / allowed false differences 1 wrong 1 late 0"
+    );
+    let far = replayed(
+        rt.alloc(),
+        "SHIFT",
+        "SHIFT_HARD",
+        "SHIFT_CERT",
+        "inputs = [\"0\",\"0\",\"0\",\"0\",\"0\",\"0\"]\nupset = [{ cycle = 4, net = \"q3~1\", value = 1 }, { cycle = 0, net = \"b~0\", value = 1 }]\n",
+    )?;
+    assert_eq!(rt;
+        far.as_str(),
+        "differ 3 0 0 1 0 0 / differ 4 0 0 0 1 0 / allowed true differences 2 wrong 0 late 0"
+    );
     Ok(())
 }
 
 #[test]
 fn upsets_of_two_partitions(rt: HostRuntime) -> Result<(), Fail> {
-    let both = replayed(rt.alloc(), "TWO", "TWO_HARD", "TWO_CERT", "inputs = [\"0\"]\nupset = [{ cycle = 0, net = \"x~0\", value = 1 }, { cycle = 0, net = \"y~1\", value = 1 }]\n")?;
-    assert_eq!(rt; both.as_str(), "differ 0 0 0 0 1 0 / allowed true differences 1 wrong 0 late 0");
-    let voter = replayed(rt.alloc(), "TWO", "TWO_HARD", "TWO_CERT", "inputs = [\"0\"]\nupset = [{ cycle = 0, net = \"x~1~a\", value = 1 }]\n")?;
-    assert_eq!(rt; voter.as_str(), "differ 0 0 0 1 0 0 / allowed true differences 1 wrong 0 late 0");
+    let both = replayed(
+        rt.alloc(),
+        "TWO",
+        "TWO_HARD",
+        "TWO_CERT",
+        "inputs = [\"0\"]\nupset = [{ cycle = 0, net = \"x~0\", value = 1 }, { cycle = 0, net = \"y~1\", value = 1 }]\n",
+    )?;
+    assert_eq!(rt;
+        both.as_str(),
+        "differ 0 0 0 0 1 0 / allowed true differences 1 wrong 0 late 0"
+    );
+    let voter = replayed(
+        rt.alloc(),
+        "TWO",
+        "TWO_HARD",
+        "TWO_CERT",
+        "inputs = [\"0\"]\nupset = [{ cycle = 0, net = \"x~1~a\", value = 1 }]\n",
+    )?;
+    assert_eq!(rt;
+        voter.as_str(),
+        "differ 0 0 0 1 0 0 / allowed true differences 1 wrong 0 late 0"
+    );
     Ok(())
 }
 
 #[test]
 fn a_register_behind_voters(rt: HostRuntime) -> Result<(), Fail> {
-    let text = replayed(rt.alloc(), "TOP", "TOP_HARD", "TOP_CERT", "inputs = [\"1\",\"1\",\"0\"]\nupset = [{ cycle = 1, net = \"q~0\", value = 0 }]\n")?;
-    assert_eq!(rt; text.as_str(), "differ 1 0 1 0 1 1 / allowed true differences 1 wrong 0 late 0");
+    let text = replayed(
+        rt.alloc(),
+        "TOP",
+        "TOP_HARD",
+        "TOP_CERT",
+        "inputs = [\"1\",\"1\",\"0\"]\nupset = [{ cycle = 1, net = \"q~0\", value = 0 }]\n",
+    )?;
+    assert_eq!(rt;
+        text.as_str(),
+        "differ 1 0 1 0 1 1 / allowed true differences 1 wrong 0 late 0"
+    );
     Ok(())
 }
 
@@ -166,15 +218,36 @@ fn schedules_that_are_refused(rt: HostRuntime) -> Result<(), Fail> {
         ("", "Top"),
         ("inputs = [\"0\", \"01\"]", "Row(1)"),
         ("inputs = [\"2\"]", "Row(0)"),
-        ("inputs = [\"0\"]\nupset = [{ cycle = 0, net = \"x~0\" }]", "Entry(0)"),
-        ("inputs = [\"0\"]\nupset = [{ cycle = 0, net = \"x~0\", value = 2 }]", "Entry(0)"),
-        ("inputs = [\"0\"]\nupset = [{ cycle = 0, net = \"a~0\", value = 1 }]", "UnknownNet(0)"),
-        ("inputs = [\"0\"]\nupset = [{ cycle = 1, net = \"x~0\", value = 1 }]", "Range(0)"),
-        ("inputs = [\"0\"]\nupset = [{ cycle = 0, net = \"x~0\", value = 1 }, { cycle = 0, net = \"x~0\", value = 0 }]", "Doubled(1)"),
+        (
+            "inputs = [\"0\"]\nupset = [{ cycle = 0, net = \"x~0\" }]",
+            "Entry(0)",
+        ),
+        (
+            "inputs = [\"0\"]\nupset = [{ cycle = 0, net = \"x~0\", value = 2 }]",
+            "Entry(0)",
+        ),
+        (
+            "inputs = [\"0\"]\nupset = [{ cycle = 0, net = \"a~0\", value = 1 }]",
+            "UnknownNet(0)",
+        ),
+        (
+            "inputs = [\"0\"]\nupset = [{ cycle = 1, net = \"x~0\", value = 1 }]",
+            "Range(0)",
+        ),
+        (
+            "inputs = [\"0\"]\nupset = [{ cycle = 0, net = \"x~0\", value = 1 }, { cycle = 0, net = \"x~0\", value = 0 }]",
+            "Doubled(1)",
+        ),
         ("inputs = []", "allowed true differences 0 wrong 0 late 0"),
         ("inputs = []\nupset = 1", "Top"),
-        ("inputs = [\"0\"]\nupset = [{ cycle = 0, net = \"x~0\", value = 1, more = 1 }]", "Entry(0)"),
-        ("inputs = [\"0\"]\nupset = [{ cycle = -1, net = \"x~0\", value = 1 }]", "Entry(0)"),
+        (
+            "inputs = [\"0\"]\nupset = [{ cycle = 0, net = \"x~0\", value = 1, more = 1 }]",
+            "Entry(0)",
+        ),
+        (
+            "inputs = [\"0\"]\nupset = [{ cycle = -1, net = \"x~0\", value = 1 }]",
+            "Entry(0)",
+        ),
     ];
     for (text, wanted) in cases {
         let got = on_two(rt.alloc(), text)?;
@@ -198,8 +271,7 @@ fn words_of_covers(rt: HostRuntime) -> Result<(), Fail> {
     Ok(())
 }
 
-const CONSTANTS: &str =
-    ".model c\n.outputs x y z\n.names x\n.names y\n1\n.names z\n0\n.end\n";
+const CONSTANTS: &str = ".model c\n.outputs x y z\n.names x\n.names y\n1\n.names z\n0\n.end\n";
 
 #[test]
 fn one_step_of_constants(rt: HostRuntime) -> Result<(), Fail> {

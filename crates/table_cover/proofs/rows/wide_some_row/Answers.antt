@@ -21,7 +21,7 @@ pub loop-next-preserved : goal.loop-next-preserved
 loop-next-preserved c = record {
   same = λ j l.
       let next : some_row_matches (cut_rows c.args.width (c.args.count - c.loop-next._next) c.loop-next.rest.now) (bits_of j c.args.words.now) ≡ (row_matches c.split_at.result.0.now (bits_of j c.args.words.now) || some_row_matches (cut_rows c.args.width (c.args.count - (c.loop-next._next + 1)) c.split_at.result.1.now) (bits_of j c.args.words.now)) =
-          rw (c.split_at.ensures.front, c.split_at.ensures.back) (ap (λ (rs : List (List ℕ)). some_row_matches rs (bits_of j c.args.words.now)) (cut_rows-next c.args.width c.args.count c.loop-next._next c.loop-next.rest.now c.loop-next-test.true)) in
+      rw (c.split_at.ensures.front, c.split_at.ensures.back) (ap (λ (rs : List (List ℕ)). some_row_matches rs (bits_of j c.args.words.now)) (cut_rows-next c.args.width c.args.count c.loop-next._next c.loop-next.rest.now c.loop-next-test.true)) in
       any_next j c.loop-next.any c.wide_row-any.result _ _ (some_row_matches (cut_rows c.args.width (c.args.count - (c.loop-next._next + 1)) c.split_at.result.1.now) (bits_of j c.args.words.now)) _ (c.loop-next.invariant.same j l) (c.wide_row-any.ensures j l) next;
   long = ap length c.split_at.ensures.back ∙ rest_long c.args.width c.args.count c.loop-next._next c.loop-next.rest.now c.loop-next-test.true c.loop-next.invariant.long;
 }
