@@ -1,20 +1,20 @@
--- The hardened design and its certificate, made of lists.
-use Rattle.std.specs.Prelude.{ℕ, ◌+◌, ◌-◌, ◌*◌, Bool, true, not, nat_lt, List, [], ◌∷◌, ◌++◌, length, map, filter, slice_index, Option, Some, None, if◌then◌else◌, false}
+-- Only private functions cite this: the hardened design and its certificate, made of lists.
+use Rattle.std.specs.Prelude.{ℕ, ◌-◌, ◌*◌, Bool, true, not, List, [], ◌++◌, length, map, filter, slice_index, Option, Some, None, if◌then◌else◌, false}
 use Rattle.std.specs.List.{flat_map, range_with_len}
 use Rattle.tmr_base.specs.declared.copies.CopyNo.{CopyNo}
 use Rattle.tmr_base.specs.declared.copies.CopyNo.TheVariants.{First, Second, Third}
-use Rattle.tmr_base.specs.Copies.{Three, copy_number}
+use Rattle.tmr_base.specs.Copies.{Three}
 use Rattle.tmr_base.specs.Names.{copy_text, voter_text}
 use Rattle.tmr_base.specs.Parts.{PlainParts}
-use Rattle.flat_net.specs.Net.{Net, Node, Table, Register, Design, node_of, name_of, is_register}
+use Rattle.flat_net.specs.Net.{Net, Node, Table, Register, node_of, name_of}
 use Rattle.certificate.specs.declared.role.Role.{Role}
 use Rattle.certificate.specs.declared.role.Role.TheVariants.{Copy, Voter}
 use Rattle.certificate.specs.Cert.{PlainCert}
 use Rattle.feedback_cut.specs.Inner.{node_pins}
 use Rattle.recovery_depth.specs.Depths.{is_some_register}
-use Rattle.triplicate.specs.Labels.{Labeling, version_of}
+use Rattle.triplicate.specs.Labels.{Labeling}
 use Rattle.triplicate.specs.Blocks.{threefold, block, hardened_roles, hardened_inputs, hardened_clock}
-use Rattle.triplicate.specs.Form.{majority_cover}
+use Rattle.triplicate.specs.Form.{majority_cover, version_of}
 use Rattle.triplicate.specs.Numbers.{block_start, copy_net, voter_net}
 
 -- what copy c of node y reads at pin j, where node y reads net x there
