@@ -29,7 +29,8 @@ first_pins_to n parts voted y count = map (λ j. pin_net n parts voted y First j
 -- copy c of node y
 abbrev pub node_copy : Net → PlainParts → (ℕ → ℕ → Bool) → ℕ → CopyNo → Option Node → Node
 node_copy n parts voted y c None = Register [] false 0
-node_copy n parts voted y c (Some (Table name cover pins)) = Table (copy_text name c) cover (map (λ j. pin_net n parts voted y c j (slice_index pins j)) (range_with_len 0 (length pins)))
+node_copy n parts voted y c (Some (Table name cover pins)) =
+    Table (copy_text name c) cover (map (λ j. pin_net n parts voted y c j (slice_index pins j)) (range_with_len 0 (length pins)))
 node_copy n parts voted y c (Some (Register name init pin)) = Register (copy_text name c) init (pin_net n parts voted y c 0 pin)
 
 -- the node of a role
@@ -47,7 +48,11 @@ hardened_net n parts voted = record {
 }
 
 abbrev pub three_copies : Net → PlainParts → (ℕ → ℕ → Bool) → ℕ → Three
-three_copies n parts voted x = record { first = copy_net n parts voted x First; second = copy_net n parts voted x Second; third = copy_net n parts voted x Third }
+three_copies n parts voted x = record {
+  first = copy_net n parts voted x First;
+  second = copy_net n parts voted x Second;
+  third = copy_net n parts voted x Third;
+}
 
 -- the same label for each copy
 abbrev pub three_labels : ℕ → Three

@@ -35,7 +35,8 @@ pub record IsFreeHardened (n : FreeDesign) (size : ℕ) (r : HardenedFree) : Typ
 -- the same in either version, with no depth above `most`; a bound above the number of nodes adds no voters
 pub record IsBounded (n : FreeDesign) (size version most : ℕ) (r : HardenedFree) : Type 0 where
   pub form : BoundedForm n.design.net n.free size version most r.net.design.net r.net.free r.cert
-  pub unbounded : length n.design.net.nodes < most → HasForm n.design.net (counted r.cert n.free) size r.net.design.net (counted r.cert r.net.free) r.cert (nat_eq version 2) none_extra
+  pub unbounded : length n.design.net.nodes < most →
+      HasForm n.design.net (counted r.cert n.free) size r.net.design.net (counted r.cert r.net.free) r.cert (nat_eq version 2) none_extra
   pub pairs : r.cost ≡ cost n.design.net (parts_of r.cert)
   pub plain_pairs : r.plain ≡ cost n.design.net (plain_parts n.design.net size)
   pub minimal : IsTrue r.minimal ↔ IsMinimal n.design.net size (parts_of r.cert)

@@ -18,7 +18,8 @@ votes_for n voted x y j = voted y j && slice_index (node_pins n y) j == x
 -- a voted pin of a node of partition p reads net x
 unfoldable pub needs_voter : Net → PlainParts → (ℕ → ℕ → Bool) → ℕ → ℕ → Bool
 needs_voter n parts voted x p =
-    list_any (λ y. slice_index parts.of y == p && list_any (votes_for n voted x y) (range_with_len 0 (length (node_pins n y)))) (range_with_len 0 (length n.nodes))
+    list_any (λ y. slice_index parts.of y == p && list_any (votes_for n voted x y) (range_with_len 0 (length (node_pins n y))))
+    (range_with_len 0 (length n.nodes))
 
 -- the partitions that need a voter of net x, ascending
 abbrev pub voting_parts : Net → PlainParts → (ℕ → ℕ → Bool) → ℕ → List ℕ
