@@ -19,7 +19,7 @@ use crate::{Hardened, HardenedFree};
 use certificate::Certificate;
 use feedback_cut::cut;
 use flat_net::{FlatNet, FreeNet};
-use partitioner::{cost, is_minimal, plain, refine};
+use partitioner::{plain, refine_counted};
 use recovery_depth::{Extra, bound};
 use std::alloc::Global;
 use tmr_base::{OutOfMemory, Parts};
@@ -63,10 +63,8 @@ fn build(
 {
     let _nodes = nodes_of(n);
     let start = plain(alloc, n, size)?;
-    let plain_pairs = cost(alloc, n, &start)?;
-    let parts = refine(alloc, n, start, size, 8)?;
-    let pairs = cost(alloc, n, &parts)?;
-    let minimal = is_minimal(alloc, n, &parts, size)?;
+    let refined = refine_counted(alloc, n, &start, size, 8)?;
+    let parts = refined.parts;
     let _count = parts.count();
     let cut = cut(alloc, n, &parts)?;
     let extra = bound(alloc, n, &parts, &cut, most)?;
@@ -80,9 +78,9 @@ fn build(
     Ok(Hardened {
         net,
         cert,
-        cost: pairs,
-        plain: plain_pairs,
-        minimal,
+        cost: refined.cost,
+        plain: refined.before,
+        minimal: refined.minimal,
         voters,
     })
 }

@@ -48,9 +48,9 @@ pub fn hardened_marks(
     requires fits { Fits n.now.design.net h.now.net c.now }
     ensures { IfOk result (λ marks. marks.items ≡ spread_start c.now (counted c.now n.now.free)) }
 {
-    let mut marks = Vec::new(alloc);
     let inputs = c.hardened_inputs();
     let count = nodes_of(h);
+    let mut marks = Vec::with_capacity(alloc, count as usize)?;
     for i in 0..count {
         marks.push(mark_of(n, c, NetId(inputs + i)))?;
     }
