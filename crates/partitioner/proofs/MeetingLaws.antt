@@ -1,7 +1,8 @@
 -- One more node of a row met.
-use Rattle.std.proofs.Common.{◌≡◌, ℕ, zero, suc, ◌+◌, ◌<◌, ◌⊎◌, inl, inr, Bool, true, false, eqb, not, ◌&&◌, ◌||◌, List, length, refl, sym, ◌∙◌, ap, arith, get_or, take}
+use Rattle.std.proofs.Common.{◌≡◌, ℕ, zero, suc, ◌+◌, ◌<◌, ◌≤◌, ◌⊎◌, inl, inr, Bool, true, false, eqb, not, ◌&&◌, ◌||◌, List, length, refl, sym, ◌∙◌, ap, arith, get_or, take, replicate}
+use Rattle.std.proofs.lemmas.List.{length-replicate, get_or-replicate, get_or_past}
 use Rattle.std.specs.List.{list_any}
-use Rattle.std.proofs.lemmas.Bool.{cases_eq, eq-eqb, ne_eqb}
+use Rattle.std.proofs.lemmas.Bool.{cases_lt, cases_eq, eq-eqb, ne_eqb}
 use Rattle.std.proofs.lemmas.List.Folds.{list_any_more}
 use Rattle.partitioner.specs.Below.{one_if, count_below}
 use Rattle.partitioner.specs.Meeting.{is_met}
@@ -70,3 +71,11 @@ zeros (suc k) = omega (arith, zeros k)
 
 pub met_none_counted : (own : ℕ) (of row : List ℕ) (bound : ℕ) → count_below bound (is_met own of row 0) ≡ 0
 met_none_counted own of row bound = count_same bound (is_met own of row 0) (λ q. false) (λ q l. met_none own of row q) ∙ zeros bound
+
+-- in turn 0 nothing is met
+pub none_past : (n q : ℕ) → get_or (replicate n 0) q 0 ≤ 0
+none_past n q = go (cases_lt q n)
+  where
+    go : (q < n) ⊎ (n ≤ q) → get_or (replicate n 0) q 0 ≤ 0
+    go (inl l) = omega (arith, get_or-replicate {A = ℕ} n q 0 0 l)
+    go (inr l) = omega (arith, get_or_past {X = ℕ} (replicate n 0) q 0 (omega (arith, length-replicate {A = ℕ} n 0, l)))

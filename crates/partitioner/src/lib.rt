@@ -29,5 +29,5 @@ pub use packed::{Packed, packed_rows};
 pub use pairs::cost;
 pub use plain_cut::plain;
 pub use reading::note;
-pub use refining::refine;
+pub use refining::{Refined, refine, refine_counted};
 pub use rows::Rows;

@@ -17,7 +17,7 @@ use std::alloc::Global;
 use tmr_base::{OutOfMemory, Parts};
 
 /// Each node goes to where it stands.
-fn all_stay(n: &FlatNet, p: &Partitioning, spots: &Spots, gains: &mut Gains, size: u32) -> bool
+pub fn all_stay(n: &FlatNet, p: &Partitioning, spots: &Spots, gains: &mut Gains, size: u32) -> bool
     requires tracks { Tracks n.now.net p.now }
     requires spots { AreSpots n.now.net size (parts_of p.now) spots.now }
     requires kept { AreKept p.now.count gains.old }

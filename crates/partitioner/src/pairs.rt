@@ -1,44 +1,74 @@
 //! What a partitioning costs.
-ghost use Rattle.std.specs.Prelude.{◌≡◌, ◌<◌, ◌≤◌, ◌==◌, ◌&&◌, ◌||◌, ℕ, Bool, not, length, All, IfOk, OnOk, nat_eq, slice_index};
-ghost use Rattle.std.specs.HashSet.{contains};
+ghost use Rattle.std.specs.Prelude.{◌≡◌, ◌<◌, ◌≤◌, ◌==◌, ◌&&◌, ◌||◌, ℕ, Bool, not, length, All, IfOk, slice_index};
 ghost use Rattle.partitioner.specs.Below.{count_below};
 ghost use Rattle.partitioner.specs.Meeting.{is_met};
+ghost use Rattle.partitioner.specs.Noting.{Lists};
+ghost use Rattle.partitioner.specs.Reading.{reads_other};
 ghost use Rattle.partitioner.specs.Cost.{cost};
 
 use crate::nodes::nodes_of;
-use crate::reading::readers_of;
+use crate::packed::Packed;
+use crate::reading::packed_readers_of;
+use crate::tracking::parts_list;
 use flat_net::FlatNet;
 use std::alloc::Global;
-use std::collections::HashSet;
 use tmr_base::{OutOfMemory, Parts};
 
-/// Adds partition p, unless it is `own`. Says whether it is new.
-fn meet(seen: &mut HashSet<u32>, own: u32, p: u32) -> Result<bool, OutOfMemory>
-    ensures new { IfOk result (λ new. new ≡ (not (own == p) && not (contains nat_eq seen.old p))) }
-    ensures after { OnOk result ((q : ℕ) → contains nat_eq seen.new q ≡ (contains nat_eq seen.old q || (not (own == p) && p == q))) }
+/// Meets partition p, unless it is `own`. Says whether it is met for the first time in this turn: `last` has for
+/// each partition the turn in which it was met last.
+fn meet(last: &mut Vec<u32>, own: u32, p: u32, turn: u32) -> bool
+    requires { p < length last.old.items }
+    ensures new { result ≡ (not (own == p) && not (slice_index last.old.items p == turn)) }
+    ensures after { (q : ℕ) → (slice_index last.new.items q == turn) ≡ (slice_index last.old.items q == turn || (not (own == p) && p == q)) }
+    ensures past { (q : ℕ) → slice_index last.old.items q ≤ turn → slice_index last.new.items q ≤ turn }
+    ensures long { length last.new.items ≡ length last.old.items }
 {
-    if p == own {
-        return Ok(false);
+    if own == p || last[p as usize] == turn {
+        return false;
     }
-    let new = seen.insert(p)?;
-    Ok(new)
+    last[p as usize] = turn;
+    true
 }
 
-/// How many partitions other than that of node x the nodes of a row stand in.
-fn met_count(alloc: Global, parts: &Parts, x: u32, row: &[u32]) -> Result<u64, OutOfMemory>
-    requires node { x < length parts.now.of }
-    requires row { All (λ y. y < length parts.now.of) row.now }
-    ensures count { IfOk result (λ count. count ≡ count_below parts.now.count (is_met (slice_index parts.now.of x) parts.now.of row.now (length row.now))) }
-    ensures few { IfOk result (λ count. count ≤ parts.now.count) }
+/// How many partitions other than that of node x the nodes of a row stand in. None was met in this turn.
+fn met_count(of: &[u32], x: u32, row: &[u32], last: &mut Vec<u32>, turn: u32) -> u64
+    requires node { x < length of.now }
+    requires in_range { All (λ q. q < length last.old.items) of.now }
+    requires row { All (λ y. y < length of.now) row.now }
+    requires fresh { (q : ℕ) → slice_index last.old.items q < turn }
+    ensures count { result ≡ count_below (length last.old.items) (is_met (slice_index of.now x) of.now row.now (length row.now)) }
+    ensures few { result ≤ length last.old.items }
+    ensures past { (q : ℕ) → slice_index last.new.items q ≤ turn }
+    ensures long { length last.new.items ≡ length last.old.items }
 {
-    let own = parts.of(x);
-    let mut seen = HashSet::new(alloc);
+    let own = of[x as usize];
     let mut count = 0;
     for y in row {
-        let new = meet(&mut seen, own, parts.of(*y))?;
-        count += u64::from(new);
+        let p = of[*y as usize];
+        count += u64::from(meet(last, own, p, turn));
     }
-    Ok(count)
+    count
+}
+
+/// What the partitions of these nodes cost, from the nodes that read each.
+pub fn pairs_in(
+    alloc: Global,
+    n: &FlatNet,
+    readers: &Packed,
+    count: u32,
+    of: &[u32],
+) -> Result<u64, OutOfMemory>
+    requires readers { Lists (reads_other n.now.net) (length n.now.net.nodes) (length n.now.net.nodes) readers.now }
+    requires long { length of.now ≡ length n.now.net.nodes }
+    requires in_range { All (λ q. q < count) of.now }
+    ensures { IfOk result (λ pairs. pairs ≡ cost n.now.net (record { count = count; of = of.now })) }
+{
+    let mut last = vec![in alloc; 0u32; count as usize]?;
+    let mut total = 0;
+    for x in 0..nodes_of(n) {
+        total += met_count(of, x, readers.row(x), &mut last, x + 1);
+    }
+    Ok(total)
 }
 
 /// The number of pairs of a node and a partition other than its own in which some node reads it.
@@ -47,11 +77,8 @@ pub fn cost(alloc: Global, n: &FlatNet, parts: &Parts) -> Result<u64, OutOfMemor
     requires { length parts.now.of ≡ length n.now.net.nodes }
     ensures { IfOk result (λ pairs. pairs ≡ cost n.now.net parts.now) }
 {
-    let readers = readers_of(alloc, n)?;
-    let _partitions = parts.count();
-    let mut total = 0;
-    for x in 0..nodes_of(n) {
-        total += met_count(alloc, parts, x, readers.row(x))?;
-    }
-    Ok(total)
+    let of = parts_list(alloc, parts)?;
+    let readers = packed_readers_of(alloc, n)?;
+    let pairs = pairs_in(alloc, n, &readers, parts.count(), of.as_slice())?;
+    Ok(pairs)
 }

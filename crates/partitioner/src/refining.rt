@@ -1,16 +1,18 @@
 //! Passes of moves.
-ghost use Rattle.std.specs.Prelude.{◌≡◌, ◌<◌, ◌≤◌, ℕ, Bool, false, length, OnOk, IfOk};
+ghost use Rattle.std.specs.Prelude.{◌≡◌, ◌<◌, ◌≤◌, ◌↔◌, ℕ, Bool, false, length, IsTrue, OnOk, IfOk};
 ghost use Rattle.flat_net.specs.Net.{Net};
 ghost use Rattle.partitioner.specs.Cost.{cost};
 ghost use Rattle.partitioner.specs.Sizes.{KeepsSize};
-ghost use Rattle.partitioner.specs.Refining.{move, pass, refined};
+ghost use Rattle.partitioner.specs.Refining.{move, pass, refined, IsMinimal};
 ghost use Rattle.partitioner.specs.Tracking.{Tracks, parts_of};
 ghost use Rattle.partitioner.specs.Spotting.{AreSpots};
 ghost use Rattle.partitioner.specs.Gaining.{AreKept};
 
 use crate::gains::{Gains, no_gains};
+use crate::minimal::all_stay;
 use crate::moving::move_to;
 use crate::nodes::nodes_of;
+use crate::pairs::pairs_in;
 use crate::partitioning::Partitioning;
 use crate::placing::{part_of, place_of, some_room};
 use crate::spots::{Spots, shut_full, spots_of};
@@ -102,6 +104,27 @@ fn pass_often(
     Ok(())
 }
 
+/// So many passes of moves, with what is kept beside them.
+fn pass_all(
+    alloc: Global,
+    n: &FlatNet,
+    p: &mut Partitioning,
+    size: u32,
+    passes: u32,
+) -> Result<(Spots, Gains), OutOfMemory>
+    requires { Tracks n.now.net p.old }
+    ensures tracks { OnOk result (Tracks n.now.net p.new) }
+    ensures parts { OnOk result (parts_of p.new ≡ refined n.now.net size (parts_of p.old) passes) }
+    ensures spots { IfOk result (λ kept. AreSpots n.now.net size (parts_of p.new) kept.0) }
+    ensures kept { IfOk result (λ kept. AreKept p.new.count kept.1) }
+{
+    let mut spots = spots_of(alloc, n, p)?;
+    shut_full(n, p, &mut spots, size);
+    let mut gains = no_gains(alloc, p.count)?;
+    pass_often(n, p, &mut spots, &mut gains, size, passes)?;
+    Ok((spots, gains))
+}
+
 /// The parts after so many passes of moves.
 fn refined_parts(
     alloc: Global,
@@ -114,10 +137,7 @@ fn refined_parts(
     ensures { IfOk result (λ after. after ≡ refined n.now.net size parts.now passes) }
 {
     let mut p = track(alloc, n, parts)?;
-    let mut spots = spots_of(alloc, n, &p)?;
-    shut_full(n, &p, &mut spots, size);
-    let mut gains = no_gains(alloc, p.count)?;
-    pass_often(n, &mut p, &mut spots, &mut gains, size, passes)?;
+    let _kept = pass_all(alloc, n, &mut p, size, passes)?;
     let Partitioning { count, of, .. } = p;
     Ok(Parts::make(count, of))
 }
@@ -142,4 +162,43 @@ pub fn refine(
 {
     let after = refined_parts(alloc, n, &parts, size, passes)?;
     Ok(after)
+}
+
+/// What refining gives: the parts, what they cost and what those did that were given, and whether no single
+/// move of a node to a partition with room lowers the cost further.
+#[derive(Drop)]
+pub struct Refined {
+    pub parts: Parts,
+    pub cost: u64,
+    pub before: u64,
+    pub minimal: bool,
+}
+
+/// The parts of `refine`, and what `cost` and `is_minimal` tell of them, from one reading of the design.
+pub fn refine_counted(
+    alloc: Global,
+    n: &FlatNet,
+    parts: &Parts,
+    size: u32,
+    passes: u32,
+) -> Result<Refined, OutOfMemory>
+    requires size { 0 < size }
+    requires parts { KeepsSize n.now.net size parts.now }
+    ensures exact { IfOk result (λ r. r.parts ≡ refined n.now.net size parts.now passes) }
+    ensures cost { IfOk result (λ r. r.cost ≡ cost n.now.net r.parts) }
+    ensures before { IfOk result (λ r. r.before ≡ cost n.now.net parts.now) }
+    ensures minimal { IfOk result (λ r. IsTrue r.minimal ↔ IsMinimal n.now.net size r.parts) }
+{
+    let mut p = track(alloc, n, parts)?;
+    let before = pairs_in(alloc, n, &p.readers, p.count, p.of.as_slice())?;
+    let (spots, mut gains) = pass_all(alloc, n, &mut p, size, passes)?;
+    let cost = pairs_in(alloc, n, &p.readers, p.count, p.of.as_slice())?;
+    let minimal = all_stay(n, &p, &spots, &mut gains, size);
+    let Partitioning { count, of, .. } = p;
+    Ok(Refined {
+        parts: Parts::make(count, of),
+        cost,
+        before,
+        minimal,
+    })
 }

@@ -19,7 +19,7 @@ use std::collections::HashMap;
 use tmr_base::{OutOfMemory, Parts};
 
 /// The partition of each node.
-fn parts_list(alloc: Global, parts: &Parts) -> Result<Vec<u32>, OutOfMemory>
+pub fn parts_list(alloc: Global, parts: &Parts) -> Result<Vec<u32>, OutOfMemory>
     ensures same { IfOk result (λ of. of.items ≡ parts.now.of) }
     ensures in_range { IfOk result (λ of. All (λ q. q < parts.now.count) of.items) }
 {

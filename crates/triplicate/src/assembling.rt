@@ -47,8 +47,8 @@ fn hardened_outputs(
     requires few { 3 * length n.now.net.inputs + length (hardened_roles n.now.net parts.now (pin_is_voted n.now.net parts.now votes.now)) < 4294967295 }
     ensures { IfOk result (λ outputs. map number_of outputs.items ≡ flat_map (λ x. threefold (copy_net n.now.net parts.now (pin_is_voted n.now.net parts.now votes.now) x)) n.now.net.outputs) }
 {
-    let mut outputs = Vec::new(alloc);
     let count = n.output_count();
+    let mut outputs = Vec::with_capacity(alloc, 3 * count as usize)?;
     for k in 0..count {
         let output = n.output(k);
         let copy = first_copy(n, parts, votes, starts, output.0);

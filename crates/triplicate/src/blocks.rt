@@ -30,9 +30,9 @@ pub fn block_starts(
     requires few { 3 * length n.now.net.inputs + length (hardened_roles n.now.net parts.now (pin_is_voted n.now.net parts.now votes.now)) < 4294967295 }
     ensures { IfOk result (λ starts. AreStarts n.now.net parts.now (pin_is_voted n.now.net parts.now votes.now) starts.items) }
 {
-    let mut starts = Vec::new(alloc);
     let inputs = n.input_count();
     let nets = inputs + nodes_of(n);
+    let mut starts = Vec::with_capacity(alloc, nets as usize + 1)?;
     let mut next = 3 * inputs;
     for x in 0..nets {
         starts.push(next)?;
@@ -42,4 +42,12 @@ pub fn block_starts(
     }
     starts.push(next)?;
     Ok(starts)
+}
+
+/// How many hardened nets there are, for which room is made at once: the number behind all.
+pub fn room_of(starts: &[u32]) -> u32 {
+    match starts.last() {
+        Some(end) => *end,
+        None => 0,
+    }
 }

@@ -9,7 +9,7 @@ ghost use Rattle.certificate.specs.Threes.{three_of, three_ids};
 ghost use Rattle.triplicate.specs.Pins.{pin_is_voted};
 ghost use Rattle.triplicate.specs.Blocks.{hardened_roles};
 ghost use Rattle.triplicate.specs.Construction.{three_copies, three_labels, hardened_cert};
-ghost use Rattle.triplicate.specs.Labels.{version_of};
+ghost use Rattle.triplicate.specs.Form.{version_of};
 ghost use Rattle.triplicate.specs.Starts.{AreStarts};
 
 use crate::pins::first_copy;
@@ -26,7 +26,7 @@ pub fn depths_of(alloc: Global, extra: &Extra, count: u32) -> Result<Vec<u32>, O
     ensures depths { IfOk result (λ depths. depths.items ≡ extra.now.table.depths) }
     ensures small { OnOk result (All (λ d. d < 2 ^ 32) extra.now.table.depths) }
 {
-    let mut depths = Vec::new(alloc);
+    let mut depths = Vec::with_capacity(alloc, count as usize)?;
     for p in 0..count {
         depths.push(extra.depth(PartId(p)))?;
     }
@@ -37,8 +37,8 @@ pub fn depths_of(alloc: Global, extra: &Extra, count: u32) -> Result<Vec<u32>, O
 pub fn partitions_of(alloc: Global, parts: &Parts) -> Result<Vec<u32>, OutOfMemory>
     ensures { IfOk result (λ of. of.items ≡ parts.now.of) }
 {
-    let mut of = Vec::new(alloc);
     let count = parts.len();
+    let mut of = Vec::with_capacity(alloc, count as usize)?;
     for y in 0..count {
         of.push(parts.of(y))?;
     }
@@ -51,7 +51,7 @@ pub fn labels_of(alloc: Global, extra: &Extra, count: u32) -> Result<Vec<[u32; 3
     ensures labels { IfOk result (λ labels. map three_of labels.items ≡ map three_labels extra.now.table.labels) }
     ensures small { OnOk result (All (λ l. l < 2 ^ 32) extra.now.table.labels) }
 {
-    let mut labels = Vec::new(alloc);
+    let mut labels = Vec::with_capacity(alloc, count as usize)?;
     for y in 0..count {
         let label = extra.label(y);
         labels.push([label, label, label])?;
@@ -71,8 +71,8 @@ pub fn copies_of(
     requires few { 3 * length n.now.net.inputs + length (hardened_roles n.now.net parts.now (pin_is_voted n.now.net parts.now votes.now)) < 4294967295 }
     ensures { IfOk result (λ copies. map three_ids copies.items ≡ map (three_copies n.now.net parts.now (pin_is_voted n.now.net parts.now votes.now)) (range_with_len (length n.now.net.inputs) (length n.now.net.nodes))) }
 {
-    let mut copies = Vec::new(alloc);
     let count = nodes_of(n);
+    let mut copies = Vec::with_capacity(alloc, count as usize)?;
     let inputs = n.input_count();
     for y in 0..count {
         let copy = first_copy(n, parts, votes, starts, inputs + y);

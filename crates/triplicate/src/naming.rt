@@ -29,12 +29,12 @@ fn push_input_name(
     Ok(())
 }
 
-/// The names of the copies of all inputs.
-pub fn input_names(alloc: Global, n: &FlatNet) -> Result<IndexSet<Name>, OutOfMemory>
+/// The names of the copies of all inputs, with room for so many names.
+pub fn input_names(alloc: Global, n: &FlatNet, room: usize) -> Result<IndexSet<Name>, OutOfMemory>
     requires { AreDistinct (hardened_inputs n.now.net) }
     ensures { IfOk result (λ names. names.keys ≡ hardened_inputs n.now.net) }
 {
-    let mut names = IndexSet::new(alloc);
+    let mut names = IndexSet::with_capacity(alloc, room)?;
     let count = n.input_count();
     for i in 0..count {
         push_input_name(alloc, n, i, CopyNo::First, &mut names)?;

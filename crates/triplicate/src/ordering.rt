@@ -7,6 +7,7 @@ ghost use Rattle.triplicate.specs.Pins.{pin_is_voted};
 ghost use Rattle.triplicate.specs.Construction.{block_nets, is_register_net, is_of_kind, hardened_order};
 ghost use Rattle.triplicate.specs.Starts.{AreStarts};
 
+use crate::blocks::room_of;
 use crate::voting::{VotedPins, nodes_of};
 use flat_net::{FlatNet, Kind};
 use std::alloc::Global;
@@ -137,7 +138,7 @@ pub fn hardened_order(
     requires { AreStarts n.now.net parts.now (pin_is_voted n.now.net parts.now votes.now) starts.now }
     ensures { IfOk result (λ order. map number_of order.items ≡ hardened_order n.now.net parts.now (pin_is_voted n.now.net parts.now votes.now) n.now.order) }
 {
-    let mut order = Vec::new(alloc);
+    let mut order = Vec::with_capacity(alloc, room_of(starts) as usize)?;
     push_inputs(n, parts, votes, starts, &mut order)?;
     push_kind(n, parts, votes, starts, true, &mut order)?;
     push_kind(n, parts, votes, starts, false, &mut order)?;

@@ -19,11 +19,12 @@ ghost use Rattle.triplicate.specs.Numbers.{copy_net};
 ghost use Rattle.triplicate.specs.Construction.{first_pins_to};
 ghost use Rattle.triplicate.specs.Made.{IsMade, HasRoom, IsNext, shifted_node};
 
+use crate::blocks::room_of;
 use crate::naming::input_names;
 use crate::pins::{first_copy, first_pins};
 use crate::voting::{VotedPins, nodes_of};
 use certificate::Role;
-use flat_net::{FlatNet, Kind, PackedNodes, no_nodes, push_register, push_table};
+use flat_net::{FlatNet, Kind, PackedNodes, push_register, push_table};
 use indexmap::IndexSet;
 use partitioner::Packed;
 use std::alloc::Global;
@@ -389,6 +390,27 @@ fn majority(alloc: Global) -> Result<Cover, OutOfMemory>
     Ok(cover)
 }
 
+/// No nodes, with room for so many nodes and pins.
+fn room_for_nodes(alloc: Global, nodes: usize, pins: usize) -> Result<PackedNodes, OutOfMemory>
+    ensures { IfOk result (λ nodes. Packs [] nodes []) }
+{
+    let bodies = Vec::with_capacity(alloc, nodes)?;
+    let ends = Vec::with_capacity(alloc, nodes)?;
+    let pins = Vec::with_capacity(alloc, pins)?;
+    Ok(PackedNodes {
+        bodies,
+        ends,
+        pins,
+        registers: 0,
+    })
+}
+
+/// How many pins the hardened nodes have, where there are so many hardened nets.
+fn pin_room(n: &FlatNet, nets: u32) -> usize {
+    let copies = 3 * (n.input_count() as usize + nodes_of(n) as usize);
+    3 * n.pin_total() as usize + 3 * (nets as usize).saturating_sub(copies)
+}
+
 /// The names, nodes and roles of the hardened design.
 pub fn make_tripled(
     alloc: Global,
@@ -407,11 +429,14 @@ pub fn make_tripled(
     ensures made { IfOk result (λ made. IsMade n.now.net parts.now (pin_is_voted n.now.net parts.now votes.now) made) }
     ensures roles { IfOk result (λ made. made.roles.items ≡ hardened_roles n.now.net parts.now (pin_is_voted n.now.net parts.now votes.now)) }
 {
-    let names = input_names(alloc, n)?;
+    let room = room_of(starts);
+    let names = input_names(alloc, n, room as usize)?;
+    let nodes = room_for_nodes(alloc, room as usize, pin_room(n, room))?;
+    let roles = Vec::with_capacity(alloc, room as usize)?;
     let mut made = Made {
         names,
-        nodes: no_nodes(alloc),
-        roles: Vec::new(alloc),
+        nodes,
+        roles,
     };
     let cover = majority(alloc)?;
     let mut pins = Vec::new(alloc);

@@ -13,6 +13,6 @@ returns c =
     let inputs = range_with_len 0 (length c.args.n.now.net.inputs) in
     let registers = filter (is_register_net c.args.n.now.net) c.args.n.now.order in
     let tables = filter (λ x. not (is_register_net c.args.n.now.net x)) c.args.n.now.order in
-    let none : map number_of c.new-order.result.items ≡ [] = ap (map number_of) c.new-order.ensures.items in
+    let none : map number_of c.in_ok-order.order.items ≡ [] = ap (map number_of) c.in_ok-order.ensures.items in
     c.in_ok-push_kind-2.ensures ∙ (ap (λ (xs : List ℕ). xs ++ flat_map f tables) (c.in_ok-push_kind.ensures ∙ ap (λ (xs : List ℕ). xs ++ flat_map f registers) (c.in_ok-push_inputs.ensures ∙ ap (λ (xs : List ℕ). xs ++ flat_map f inputs) none))
     ∙ (append_assoc (flat_map f inputs) (flat_map f registers) (flat_map f tables) ∙ (ap (λ (xs : List ℕ). flat_map f inputs ++ xs) (sym (flat_map-append f registers tables)) ∙ sym (flat_map-append f inputs (registers ++ tables)))))
