@@ -10,7 +10,7 @@ use Rattle.tmr_base.specs.Copies.{copy_number}
 use Rattle.tmr_base.specs.Names.{copy_text, voter_text, clock_text}
 use Rattle.table_cover.specs.Cover.{PlainCover}
 use Rattle.flat_net.specs.Net.{Net, Node, Table, Register, name_of}
-use Rattle.hierarchy.specs.FlatText.{spaced, all_spaced, row_length, rows_length, control_length}
+use Rattle.hierarchy.specs.FlatText.{spaced, row_length, rows_length, control_length}
 use Rattle.blif_writer.specs.Length.{nets_length, node_length}
 
 pub few_digits : (p : ℕ) → p < 4294967296 → length (decimal p) ≤ 10
@@ -34,13 +34,6 @@ clock_grown name some = record { some = some; few = omega (arith, length-append 
 pub spaced_grown : (name grown : List ℕ) → IsGrown name grown → spaced grown ≤ 8 * spaced name
 spaced_grown name grown g = omega (arith, g.some, g.few)
 
--- names, one for one
-abbrev pub AreGrown : List (List ℕ) → List (List ℕ) → Type 0
-AreGrown [] [] = Unit {0}
-AreGrown [] (g ∷ gs) = ⊥
-AreGrown (x ∷ xs) [] = ⊥
-AreGrown (x ∷ xs) (g ∷ gs) = IsGrown x g × AreGrown xs gs
-
 -- the nets that pins read, one for one
 abbrev pub PinsGrown : Net → Net → List ℕ → List ℕ → Type 0
 PinsGrown n h [] [] = Unit {0}
@@ -54,12 +47,6 @@ nets_grown n h [] (g ∷ gs) e = absurd e
 nets_grown n h (x ∷ xs) [] e = absurd e
 nets_grown n h (x ∷ xs) (g ∷ gs) e =
     omega (arith, sum_by-cons (λ y. spaced (name_of h y)) g gs, sum_by-cons (λ y. spaced (name_of n y)) x xs, spaced_grown (name_of n x) (name_of h g) e.0, nets_grown n h xs gs e.1)
-
-pub names_grown : (xs gs : List (List ℕ)) → AreGrown xs gs → all_spaced gs ≤ 8 * all_spaced xs
-names_grown [] [] e = omega arith
-names_grown [] (g ∷ gs) e = absurd e
-names_grown (x ∷ xs) [] e = absurd e
-names_grown (x ∷ xs) (g ∷ gs) e = omega (arith, sum_by-cons spaced g gs, sum_by-cons spaced x xs, spaced_grown x g e.0, names_grown xs gs e.1)
 
 -- the clock's name, where there is a clock
 abbrev pub ClockGrown : Option (Edge × List ℕ) → Option (Edge × List ℕ) → Type 0

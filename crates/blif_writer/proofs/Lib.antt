@@ -11,5 +11,3 @@ pub mod Redrafted
 pub mod Again
 pub mod Lengths
 pub mod Growth
-pub mod Charges
-pub mod Places

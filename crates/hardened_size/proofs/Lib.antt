@@ -1,0 +1,10 @@
+pub mod Sums
+pub mod Readers
+pub mod Roles
+pub mod Named
+pub mod Lines
+pub mod Ports
+pub mod DesignText
+pub mod CertText
+pub mod Original
+pub mod Law
