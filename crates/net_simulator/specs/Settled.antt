@@ -1,4 +1,4 @@
--- A cycle of which some nets have their values already.
+-- Only private functions cite this: a cycle of which some nets have their values already.
 use Rattle.std.specs.Prelude.{◌≡◌, ℕ, ◌<◌, Bool, false, List, length, Option, Some, None, slice_index, slice_index_or, if◌then◌else◌}
 use Rattle.table_cover.specs.Cover.{PlainCover}
 use Rattle.table_cover.specs.Words.{word_bit}
@@ -43,9 +43,3 @@ IsAnyNet x = Unit {0}
 -- the values of the last cycle, if there was one
 abbrev pub last_of : {A : Type 0} → Bool → A → Option A
 last_of started last = if started then Some last else None
-
--- the covers of the tables, in the order of evaluation
-abbrev pub AreCovers : Net → List ℕ → List PlainCover → Type 0
-AreCovers n order covers =
-    (k : ℕ) (d : PlainCover) → k < length covers → IsTable (node_of n (slice_index order k)) →
-    IsCoverOf (node_of n (slice_index order k)) (slice_index_or covers k d) × (length (pins_at (node_of n (slice_index order k))) ≡ (slice_index_or covers k d).width)
