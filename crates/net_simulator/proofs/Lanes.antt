@@ -1,21 +1,17 @@
 -- What is written in words, in each run.
-use Rattle.std.proofs.Common.{◌≡◌, ◌≢◌, ℕ, zero, suc, ◌+◌, ◌-◌, ◌<◌, ◌≤◌, ◌⊎◌, inl, inr, Bool, true, false, List, [], ◌∷◌, length, map, take, refl, sym, ◌∙◌, ap, subst, arith, get_or, slice_get, slice_index, slice_set, Option, Some, None}
-use Rattle.std.proofs.lemmas.List.{map-set, get_or-take, length-take-le, length-map}
-use Rattle.std.proofs.lemmas.Option.{get_or_from_slice_get}
+use Rattle.std.proofs.Common.{◌≡◌, ◌≢◌, ℕ, ◌+◌, ◌<◌, ◌≤◌, ◌⊎◌, inl, inr, Bool, true, false, List, [], length, map, refl, sym, ◌∙◌, ap, subst, arith, get_or, slice_index, slice_set, Option, Some, None}
+use Rattle.std.proofs.lemmas.List.{map-set, length-map}
 use Rattle.std.proofs.Math.ListN.{get_or-map}
-use Rattle.table_cover.specs.Cover.{PlainCover, cover_value}
 use Rattle.table_cover.specs.Words.{word_bit, bits_of}
 use Rattle.table_cover.proofs.WordLaws.{word_bit_zero}
 use Rattle.flat_net.specs.Kinds.{kind_of}
-use Rattle.flat_net.specs.declared.kind.Kind.{Kind}
 use Rattle.flat_net.specs.declared.kind.Kind.TheVariants as kind
-use Rattle.flat_net.specs.Net.{Net, Node, Table, Register, net_count, node_of, pins_at, table_pins, IsTable, IsRegister, IsCoverOf, IsOrder}
+use Rattle.flat_net.specs.Net.{Net, Node, Table, Register, net_count, node_of, table_pins, IsTable, IsRegister, IsOrder}
 use Rattle.flat_net.proofs.Slots.{slot_there, slot_within, slot_below}
 use Rattle.flat_net.proofs.Orders.{length-order}
-use Rattle.net_meaning.specs.Meaning.{bit, node_value}
+use Rattle.net_meaning.specs.Meaning.{bit}
 use Rattle.std.specs.Option.{unwrap_or}
 use Rattle.net_simulator.specs.Forced.{forced_value}
-use Rattle.net_meaning.proofs.Lists.{map_agree}
 use Rattle.net_simulator.specs.Cycle.{IsCycle}
 use Rattle.net_simulator.specs.Settled.{IsSettled, IsRegisterBelow, IsAmong, IsAnyNet, number_of_cycle, last_of, own_value, mark, marked}
 use Rattle.net_simulator.proofs.Settling.{settle, equal_or_not}

@@ -1,12 +1,12 @@
 -- Rows as literals: some row matches where some row of literals fits, or one has none.
-use Rattle.std.proofs.Common.{◌≡◌, ℕ, zero, suc, ◌+◌, ◌-◌, ◌<◌, ◌≤◌, ◌^◌, cond, Bool, true, false, not, ◌&&◌, ◌||◌, List, [], ◌∷◌, ◌++◌, length, map, take, drop, get_or, slice_index, slice_get, Option, Some, None, refl, sym, ◌∙◌, ap, subst, arith}
+use Rattle.std.proofs.Common.{◌≡◌, ℕ, suc, ◌+◌, ◌-◌, ◌<◌, ◌≤◌, ◌^◌, cond, Bool, true, false, not, ◌&&◌, ◌||◌, List, [], ◌∷◌, ◌++◌, length, map, take, drop, slice_index, slice_get, Option, Some, None, refl, sym, ◌∙◌, ap, arith}
 use Rattle.std.specs.Prelude.{option_map, nat_eq, bit_and, bit_or}
 use Rattle.std.specs.Option.{unwrap_or}
 use Rattle.std.proofs.lemmas.List.{length-append, append-nil, drop_all, append_assoc}
 use Rattle.std.proofs.lemmas.Option.{get_or_from_slice_get, slice_get_within, slice_get-map}
 use Rattle.std.proofs.Math.Seq.{drop-cons, take-append_seam, drop-append_seam}
 use Rattle.table_cover.specs.Cover.{PlainCover, cover_value, row_matches, some_row_matches}
-use Rattle.table_cover.specs.Words.{word_bit, bits_of}
+use Rattle.table_cover.specs.Words.{word_bit}
 use Rattle.table_cover.proofs.WordLaws.{word_bit_and, word_bit_or, word_bit_not}
 use Rattle.flat_net.specs.Net.{Net, Node, Table, Register, node_of, IsTable}
 use Rattle.net_meaning.specs.Meaning.{bit}

@@ -1,6 +1,6 @@
 -- Only private functions cite this: what the two simulators share, a cycle before it is run.
-use Rattle.std.specs.Prelude.{◌≡◌, ℕ, ◌≤◌, List, length, map, Option}
-use Rattle.flat_net.specs.Net.{Net, net_count, node_of, pins_at}
+use Rattle.std.specs.Prelude.{◌≡◌, ℕ, List, length, Option}
+use Rattle.flat_net.specs.Net.{Net, net_count}
 use Rattle.net_simulator.specs.Settled.{last_of}
 use Rattle.net_simulator.specs.Tables.{entries, literals}
 use Rattle.net_simulator.specs.declared.bench.Bench.TheInside.{Inside}

@@ -1,8 +1,7 @@
 -- Only private functions cite this: a cycle of which some nets have their values already.
-use Rattle.std.specs.Prelude.{◌≡◌, ℕ, ◌<◌, Bool, false, List, length, Option, Some, None, slice_index, slice_index_or, if◌then◌else◌}
-use Rattle.table_cover.specs.Cover.{PlainCover}
+use Rattle.std.specs.Prelude.{◌≡◌, ℕ, ◌<◌, Bool, false, List, length, Option, Some, None, slice_index, if◌then◌else◌}
 use Rattle.table_cover.specs.Words.{word_bit}
-use Rattle.flat_net.specs.Net.{Net, Node, net_count, node_of, IsTable, IsCoverOf, pins_at}
+use Rattle.flat_net.specs.Net.{Net, Node, net_count, node_of, IsTable}
 use Rattle.net_meaning.specs.Meaning.{bit, node_value}
 use Rattle.net_simulator.specs.Forced.{forced_value}
 

@@ -1,12 +1,12 @@
-use Rattle.std.proofs.Common.{◌≡◌, ℕ, List, ◌+◌, ◌<◌, ◌≤◌, ◌∙◌, length, sym, subst, ap, arith, true, false, slice_index, slice_get, Some}
+use Rattle.std.proofs.Common.{◌≡◌, ℕ, List, ◌+◌, ◌<◌, ◌∙◌, length, sym, subst, ap, arith, true, slice_index}
 use Rattle.std.proofs.lemmas.List.{length-map}
 use Rattle.std.proofs.lemmas.Option.{get_or_from_slice_get}
 use Rattle.table_cover.specs.Words.{word_bit, bits_of}
-use Rattle.flat_net.specs.Net.{Net, IsTable, IsOrder, node_of, net_count}
+use Rattle.flat_net.specs.Net.{IsTable, node_of, net_count}
 use Rattle.flat_net.proofs.Orders.{length-order}
 use Rattle.net_meaning.specs.Meaning.{bit}
 use Rattle.net_simulator.specs.Settled.{IsSettled, IsRegisterBelow, IsAmong, IsAnyNet, marked, number_of_cycle, own_value}
-use Rattle.net_simulator.specs.Tables.{node_literals, entry_of, entries, entry_value}
+use Rattle.net_simulator.specs.Tables.{node_literals, entry_of, entry_value}
 use Rattle.net_simulator.specs.declared.tables.Entry.{Entry}
 use Rattle.net_simulator.specs.declared.tables.Literal.{Literal}
 use Rattle.net_simulator.proofs.Literals.{entry_is, count_is, entry_fits, table_entry, other_entry, front_is, back_is, front_within}

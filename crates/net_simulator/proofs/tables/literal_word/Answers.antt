@@ -1,4 +1,4 @@
-use Rattle.std.proofs.Common.{◌≡◌, ◌∙◌, ◌<◌, ◌^◌, ℕ, Bool, cond, not, sym, ap, arith}
+use Rattle.std.proofs.Common.{◌≡◌, ◌∙◌, Bool, cond, not, sym, ap, arith}
 use Rattle.table_cover.specs.Words.{word_bit, bits_of}
 use Rattle.net_meaning.specs.Meaning.{bit}
 use Rattle.net_simulator.proofs.Lanes.{bit_of_words}

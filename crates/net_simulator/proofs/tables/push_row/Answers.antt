@@ -1,4 +1,4 @@
-use Rattle.std.proofs.Common.{◌≡◌, ◌+◌, ◌<◌, ℕ, length, arith}
+use Rattle.std.proofs.Common.{◌<◌, length, arith}
 use Rattle.flat_net.specs.Net.{node_of, pins_at}
 use Rattle.net_simulator.proofs.Literals.{mark_pushed, has_pushed}
 use Rattle.net_simulator.proofs.tables.push_row.Goals as goal

@@ -1,4 +1,4 @@
-use Rattle.std.proofs.Common.{◌≡◌, ◌∙◌, ◌+◌, ◌||◌, not, Bool, sym, ap}
+use Rattle.std.proofs.Common.{◌≡◌, ◌∙◌, ◌||◌, not, Bool, sym, ap}
 use Rattle.flat_net.specs.Net.{node_of, pins_at}
 use Rattle.net_simulator.proofs.Literals.{row_pushed, always_pushed}
 use Rattle.net_simulator.proofs.tables.push_rows.Goals.{then-always, else-always}

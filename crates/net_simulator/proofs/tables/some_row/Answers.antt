@@ -1,4 +1,4 @@
-use Rattle.std.proofs.Common.{◌≡◌, ◌∙◌, ◌+◌, ◌≤◌, ℕ, Bool, false, length, sym, ap, arith, drop}
+use Rattle.std.proofs.Common.{◌∙◌, Bool, false, sym, ap, arith}
 use Rattle.table_cover.specs.Words.{word_bit, bits_of}
 use Rattle.table_cover.proofs.WordLaws.{word_bit_zero}
 use Rattle.net_meaning.specs.Meaning.{bit}

@@ -1,4 +1,4 @@
-use Rattle.std.proofs.Common.{◌≡◌, ◌∙◌, ◌<◌, ◌^◌, ℕ, Bool, not, cond, ap, arith}
+use Rattle.std.proofs.Common.{◌∙◌, Bool, not, cond, ap, arith}
 use Rattle.net_simulator.proofs.Literals.{fitting_word}
 use Rattle.net_simulator.proofs.tables.table_word.Goals as goal
 

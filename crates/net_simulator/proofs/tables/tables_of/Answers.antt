@@ -1,4 +1,4 @@
-use Rattle.std.proofs.Common.{◌≡◌, ◌≤◌, ℕ, length, arith}
+use Rattle.std.proofs.Common.{◌≤◌, length, arith}
 use Rattle.flat_net.proofs.Orders.{length-order}
 use Rattle.net_simulator.proofs.Literals.{entry_pushed, node_pushed, all_pushed, entries_end, literals_end}
 use Rattle.net_simulator.proofs.tables.tables_of.Goals as goal
