@@ -1,5 +1,5 @@
 -- Cycles in which the same is forced.
-use Rattle.std.proofs.Common.{◌≡◌, ℕ, zero, suc, cond, get_or, ◌&&◌, ◌+◌, ◌-◌, ◌<◌, Bool, List, [], ◌∷◌, length, drop, Option, Some, None, refl, sym, ◌∙◌, ap, subst, arith, slice_index}
+use Rattle.std.proofs.Common.{◌≡◌, ℕ, suc, cond, get_or, ◌&&◌, ◌+◌, ◌-◌, ◌<◌, Bool, List, ◌∷◌, length, drop, Option, Some, None, sym, ◌∙◌, ap, subst, arith, slice_index}
 use Rattle.std.specs.Prelude.{replicate}
 use Rattle.std.proofs.lemmas.List.{get_or-replicate}
 use Rattle.std.proofs.Math.Seq.{drop-length, drop-cons}

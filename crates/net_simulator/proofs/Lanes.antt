@@ -1,21 +1,17 @@
 -- What is written in words, in each run.
-use Rattle.std.proofs.Common.{◌≡◌, ◌≢◌, ℕ, zero, suc, ◌+◌, ◌-◌, ◌<◌, ◌≤◌, ◌⊎◌, inl, inr, Bool, true, false, List, [], ◌∷◌, length, map, take, refl, sym, ◌∙◌, ap, subst, arith, get_or, slice_get, slice_index, slice_set, Option, Some, None}
-use Rattle.std.proofs.lemmas.List.{map-set, get_or-take, length-take-le, length-map}
-use Rattle.std.proofs.lemmas.Option.{get_or_from_slice_get}
+use Rattle.std.proofs.Common.{◌≡◌, ◌≢◌, ℕ, ◌+◌, ◌<◌, ◌≤◌, ◌⊎◌, inl, inr, Bool, true, false, List, [], length, map, refl, sym, ◌∙◌, ap, subst, arith, get_or, slice_index, slice_set, Option, Some, None}
+use Rattle.std.proofs.lemmas.List.{map-set, length-map}
 use Rattle.std.proofs.Math.ListN.{get_or-map}
-use Rattle.table_cover.specs.Cover.{PlainCover, cover_value}
 use Rattle.table_cover.specs.Words.{word_bit, bits_of}
 use Rattle.table_cover.proofs.WordLaws.{word_bit_zero}
 use Rattle.flat_net.specs.Kinds.{kind_of}
-use Rattle.flat_net.specs.declared.kind.Kind.{Kind}
 use Rattle.flat_net.specs.declared.kind.Kind.TheVariants as kind
-use Rattle.flat_net.specs.Net.{Net, Node, Table, Register, net_count, node_of, pins_at, table_pins, IsTable, IsRegister, IsCoverOf, IsOrder}
+use Rattle.flat_net.specs.Net.{Net, Node, Table, Register, net_count, node_of, table_pins, IsTable, IsRegister, IsOrder}
 use Rattle.flat_net.proofs.Slots.{slot_there, slot_within, slot_below}
 use Rattle.flat_net.proofs.Orders.{length-order}
-use Rattle.net_meaning.specs.Meaning.{bit, node_value}
+use Rattle.net_meaning.specs.Meaning.{bit}
 use Rattle.std.specs.Option.{unwrap_or}
 use Rattle.net_simulator.specs.Forced.{forced_value}
-use Rattle.net_meaning.proofs.Lists.{map_agree}
 use Rattle.net_simulator.specs.Cycle.{IsCycle}
 use Rattle.net_simulator.specs.Settled.{IsSettled, IsRegisterBelow, IsAmong, IsAnyNet, number_of_cycle, last_of, own_value, mark, marked}
 use Rattle.net_simulator.proofs.Settling.{settle, equal_or_not}
@@ -23,17 +19,6 @@ use Rattle.net_simulator.proofs.Settling.{settle, equal_or_not}
 -- the bit of a net in run j
 pub bit_of_words : (j : ℕ) (words : List ℕ) (x : ℕ) → bit (bits_of j words) x ≡ word_bit j (slice_index words x)
 bit_of_words j words x = subst (λ (b : Bool). get_or (map (word_bit j) words) x b ≡ word_bit j (get_or words x 0)) (word_bit_zero j) (get_or-map (word_bit j) words x 0)
-
--- a table's cover, on the words of its pins
-pub table_value : (o : Option Node) (k : PlainCover) (t : ℕ) (before : List Bool) (j : ℕ) (now pins : List ℕ) (count : ℕ) → IsTable o → IsCoverOf o k → count ≡ length (pins_at o) → count ≤ length pins
-    → ((i : ℕ) → i < length (pins_at o) → slice_index pins i ≡ slice_index now (slice_index (pins_at o) i))
-    → cover_value k (bits_of j (take count pins)) ≡ own_value o t before (bits_of j now)
-table_value None k t before j now pins count table is e room at = absurd table
-table_value (Some (Register name init pin)) k t before j now pins count table is e room at = absurd table
-table_value (Some (Table name cover ps)) k t before j now pins count table is e room at =
-    ap (λ (c : PlainCover). cover_value c (bits_of j (take count pins))) (sym is)
-    ∙ ap (cover_value cover) (map_agree (word_bit j) (bit (bits_of j now)) (take count pins) ps (length-take-le count pins room ∙ e) (λ i l.
-    ap (word_bit j) (get_or-take count pins i 0 (omega arith) ∙ at i l) ∙ sym (bit_of_words j now (slice_index ps i))))
 
 -- what a node's equation and its mark give
 node_has_value : (o : Option Node) (node : Node) (u : Option Bool) (t : ℕ) (ins before v : List Bool) (x : ℕ) (b : Bool) → o ≡ Some node → b ≡ own_value o t before v → unwrap_or u b ≡ forced_value o u t ins before v x
@@ -152,15 +137,3 @@ module _ (n : Net) (ins before : List Bool) (forced : ℕ → Option Bool) where
 
 pub length_bits : (j : ℕ) (words : List ℕ) → length (bits_of j words) ≡ length words
 length_bits j words = length-map words (word_bit j)
-
--- what bounds the pins of each node bounds those of each net
-pub widest_of_nodes : (n : Net) (most count : ℕ) → length n.nodes ≤ count → ((k : ℕ) → k < count → length (pins_at (node_of n (length n.inputs + k))) ≤ most) → (x : ℕ) → length (pins_at (node_of n x)) ≤ most
-widest_of_nodes n most count all each x = go (node_of n x) refl
-  where
-    go : (o : Option Node) → node_of n x ≡ o → length (pins_at (node_of n x)) ≤ most
-    go None e = let none : length (pins_at (node_of n x)) ≡ 0 = ap (λ (o : Option Node). length (pins_at o)) e in omega arith
-    go (Some node) e =
-        let (low, high) = slot_within (length n.inputs) n.nodes x node e in
-        subst (λ (z : ℕ). length (pins_at (node_of n z)) ≤ most) (let same : length n.inputs + (x - length n.inputs) ≡ x = omega arith in same) (each (x - length n.inputs) (omega arith))
-
-pub ruleset widest_of_all = (widest_of_nodes)

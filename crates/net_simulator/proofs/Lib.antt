@@ -1,6 +1,6 @@
-pub mod Covers
 pub mod Cycles
 pub mod Lanes
+pub mod Literals
 pub mod Marks
 pub mod OneCycle
 pub mod Settling

@@ -1,10 +1,10 @@
 -- A cycle has one row of values, and a trace's rows are its cycles.
-use Rattle.std.proofs.Common.{◌≡◌, ℕ, zero, suc, ◌-◌, ◌<◌, Bool, true, false, nat_lt, if◌then◌else◌, List, [], length, map, slice_get, slice_index, refl, sym, ◌∙◌, ap, subst, arith, Option, Some, None}
+use Rattle.std.proofs.Common.{◌≡◌, ℕ, zero, suc, ◌-◌, ◌<◌, Bool, true, false, nat_lt, if◌then◌else◌, List, [], length, slice_get, slice_index, refl, sym, ◌∙◌, ap, subst, arith, Option, Some, None}
 use Rattle.std.proofs.lemmas.List.{ext_get_or}
 use Rattle.tmr_base.specs.declared.ids.Upset.{Upset}
 use Rattle.table_cover.specs.Cover.{PlainCover, cover_value}
 use Rattle.flat_net.specs.Net.{Net, Node, Table, Register, slot, net_count, node_of, IsValid}
-use Rattle.net_meaning.specs.Meaning.{bit, row_at, row_before, start_at, node_value, net_value, upset_at, IsFaultTrace}
+use Rattle.net_meaning.specs.Meaning.{bit, row_at, start_at, node_value, net_value, upset_at, IsFaultTrace}
 use Rattle.std.specs.Option.{unwrap_or}
 use Rattle.net_simulator.specs.Forced.{forced_value}
 use Rattle.net_meaning.proofs.Order.{net_induction}

@@ -1,13 +1,13 @@
 -- One net more has its value.
-use Rattle.std.proofs.Common.{◌≡◌, ◌≢◌, ℕ, zero, suc, ◌+◌, ◌<◌, ◌≤◌, ◌⊎◌, Bool, true, false, cond, List, [], ◌∷◌, length, map, refl, sym, ◌∙◌, ap, subst, arith, inl, inr, get_or, slice_index, slice_set, Option, Some, None}
+use Rattle.std.proofs.Common.{◌≡◌, ◌≢◌, ℕ, zero, suc, ◌+◌, ◌<◌, ◌⊎◌, Bool, false, List, length, refl, sym, ◌∙◌, ap, subst, arith, inl, inr, slice_index, slice_set, Option, Some, None}
 use Rattle.std.proofs.lemmas.List.{length-set, get_or-set_same, get_or-set_other}
-use Rattle.table_cover.specs.Cover.{PlainCover, cover_value}
+use Rattle.table_cover.specs.Cover.{cover_value}
 use Rattle.flat_net.specs.Net.{Net, Node, Table, Register, net_count, node_of, table_pins, IsTable, IsOrder}
-use Rattle.net_meaning.specs.Meaning.{bit, node_value}
+use Rattle.net_meaning.specs.Meaning.{bit}
 use Rattle.std.specs.Option.{unwrap_or}
 use Rattle.net_simulator.specs.Forced.{forced_value}
 use Rattle.net_meaning.proofs.Lists.{map_agree}
-use Rattle.net_simulator.specs.Settled.{IsSettled, IsRegisterBelow, IsAmong}
+use Rattle.net_simulator.specs.Settled.{IsSettled, IsAmong}
 
 -- an equation asks of the values of its own cycle those of a table's pins alone
 pub same_value : (o : Option Node) (u : Option Bool) (t : ℕ) (ins before v w : List Bool) (x : ℕ) → ((j : ℕ) → j < length (table_pins o) → bit v (slice_index (table_pins o) j) ≡ bit w (slice_index (table_pins o) j)) → forced_value o u t ins before v x ≡ forced_value o u t ins before w x

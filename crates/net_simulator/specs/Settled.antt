@@ -1,8 +1,7 @@
--- A cycle of which some nets have their values already.
-use Rattle.std.specs.Prelude.{◌≡◌, ℕ, ◌<◌, Bool, false, List, length, Option, Some, None, slice_index, slice_index_or, if◌then◌else◌}
-use Rattle.table_cover.specs.Cover.{PlainCover}
+-- Only private functions cite this: a cycle of which some nets have their values already.
+use Rattle.std.specs.Prelude.{◌≡◌, ℕ, ◌<◌, Bool, false, List, length, Option, Some, None, slice_index, if◌then◌else◌}
 use Rattle.table_cover.specs.Words.{word_bit}
-use Rattle.flat_net.specs.Net.{Net, Node, net_count, node_of, IsTable, IsCoverOf, pins_at}
+use Rattle.flat_net.specs.Net.{Net, Node, net_count, node_of, IsTable}
 use Rattle.net_meaning.specs.Meaning.{bit, node_value}
 use Rattle.net_simulator.specs.Forced.{forced_value}
 
@@ -43,9 +42,3 @@ IsAnyNet x = Unit {0}
 -- the values of the last cycle, if there was one
 abbrev pub last_of : {A : Type 0} → Bool → A → Option A
 last_of started last = if started then Some last else None
-
--- the covers of the tables, in the order of evaluation
-abbrev pub AreCovers : Net → List ℕ → List PlainCover → Type 0
-AreCovers n order covers =
-    (k : ℕ) (d : PlainCover) → k < length covers → IsTable (node_of n (slice_index order k)) →
-    IsCoverOf (node_of n (slice_index order k)) (slice_index_or covers k d) × (length (pins_at (node_of n (slice_index order k))) ≡ (slice_index_or covers k d).width)

@@ -3,14 +3,14 @@ ghost use Rattle.std.specs.Prelude.{◌≡◌, ◌<◌, ◌≤◌, ◌||◌, ◌
 ghost use Rattle.table_cover.specs.Words.{word_bit, bits_of};
 ghost use Rattle.flat_net.specs.Net.{net_count, node_of, pins_at, IsTable, IsCoverOf};
 ghost use Rattle.net_simulator.specs.Cycle.{IsCycle};
-ghost use Rattle.net_simulator.specs.Settled.{marked, AreCovers};
+ghost use Rattle.net_simulator.specs.Settled.{marked};
 
-use crate::cycle::{is_table, merged, run_cycle};
+use crate::cycle::{merged, run_cycle};
+use crate::tables::{Tables, tables_of};
 use flat_net::FlatNet;
 use std::alloc::Global;
 use std::marker::Model;
 use std::mem;
-use table_cover::Cover;
 use tmr_base::{NetId, OutOfMemory};
 
 /// A design with the words of its nets, and what is set for the next cycle.
@@ -23,8 +23,7 @@ pub struct Bench<'a> {
     before: Vec<u64>,
     masks: Vec<u64>,
     values: Vec<u64>,
-    pins: Vec<u64>,
-    covers: Vec<Cover>,
+    tables: Tables,
 }
 
 impl<'a> Model for Bench<'a> {
@@ -37,49 +36,6 @@ impl<'a> Model for Bench<'a> {
     ghost view = { bench_of };
 
     ghost invariant = { IsBench };
-}
-
-/// The most pins that a node has.
-#[tactic(auto, using(crate::proofs::Lanes::widest_of_all))]
-fn widest(net: &FlatNet) -> u32
-    ensures { (x : ℕ) → length (pins_at (node_of net.now.net x)) ≤ result }
-{
-    let mut most = 0;
-    let inputs = net.input_count();
-    for i in 0..net.node_count() {
-        let count = net.pin_count(NetId(inputs + i));
-        if most < count {
-            most = count;
-        }
-    }
-    most
-}
-
-/// The cover of a table once more.
-fn cover_of(alloc: Global, net: &FlatNet, x: NetId) -> Result<Cover, OutOfMemory>
-    requires range { x.0 < net_count net.now.net }
-    requires node { length net.now.net.inputs ≤ x.0 }
-    ensures cover { IfOk result (λ c. IsTable (node_of net.now.net x.0) → IsCoverOf (node_of net.now.net x.0) c) }
-    ensures width { IfOk result (λ c. IsTable (node_of net.now.net x.0) → length (pins_at (node_of net.now.net x.0)) ≡ c.width) }
-{
-    if is_table(net, x) {
-        net.cover(x).copy(alloc)
-    } else {
-        Ok(Cover::new(alloc, 0))
-    }
-}
-
-/// The covers in the order of evaluation, side by side in memory.
-fn copy_covers(alloc: Global, net: &FlatNet) -> Result<Vec<Cover>, OutOfMemory>
-    ensures covers { IfOk result (λ v. AreCovers net.now.net net.now.order v.items) }
-    ensures all { IfOk result (λ v. length v.items ≡ length net.now.net.nodes) }
-{
-    let mut covers = Vec::with_capacity(alloc, net.node_count() as usize)?;
-    for i in 0..net.node_count() {
-        let cover = cover_of(alloc, net, net.ordered(i))?;
-        covers.push(cover)?;
-    }
-    Ok(covers)
 }
 
 /// So many words that are 0.
@@ -109,8 +65,7 @@ impl<'a> Bench<'a> {
         let before = zeros(alloc, nets)?;
         let masks = zeros(alloc, nets)?;
         let values = zeros(alloc, nets)?;
-        let pins = zeros(alloc, widest(net) as usize)?;
-        let covers = copy_covers(alloc, net)?;
+        let tables = tables_of(alloc, net)?;
         Ok(Bench {
             net,
             started: false,
@@ -119,8 +74,7 @@ impl<'a> Bench<'a> {
             before,
             masks,
             values,
-            pins,
-            covers,
+            tables,
         })
     }
 
@@ -178,13 +132,12 @@ impl<'a> Bench<'a> {
         mem::swap(&mut self.words, &mut self.before);
         run_cycle(
             self.net,
-            &self.covers,
+            &self.tables,
             self.started,
             &self.ins,
             &self.before,
             &self.masks,
             &self.values,
-            &mut self.pins,
             &mut self.words,
         );
         self.started = true;

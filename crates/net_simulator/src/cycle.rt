@@ -3,11 +3,12 @@ ghost use Rattle.std.specs.Prelude.{◌≡◌, ◌+◌, ◌<◌, ◌≤◌, ℕ,
 ghost use Rattle.table_cover.specs.Words.{word_bit, bits_of};
 ghost use Rattle.flat_net.specs.Net.{IsDesign, net_count, node_of, pins_at, IsTable, IsRegister, IsCoverOf};
 ghost use Rattle.std.specs.Option.{unwrap_or};
-ghost use Rattle.net_simulator.specs.Settled.{IsSettled, IsRegisterBelow, IsAmong, IsAnyNet, marked, number_of_cycle, last_of, own_value, mark, AreCovers};
+ghost use Rattle.net_simulator.specs.Settled.{IsSettled, IsRegisterBelow, IsAmong, IsAnyNet, marked, number_of_cycle, last_of, own_value, mark};
+ghost use Rattle.net_simulator.specs.Tables.{entries, literals};
 ghost use Rattle.net_simulator.specs.Cycle.{IsCycle};
 
+use crate::tables::{Tables, entry_at, table_word};
 use flat_net::{FlatNet, Kind};
-use table_cover::Cover;
 use tmr_base::NetId;
 
 /// The word, but for the runs of the mask, which take their bits from the value.
@@ -69,35 +70,6 @@ fn register_word(net: &FlatNet, started: bool, before: &[u64], x: NetId) -> u64
     }
 }
 
-/// The words of the pins of node x.
-fn gather(net: &FlatNet, x: NetId, now: &[u64], pins: &mut [u64])
-    requires range { x.0 < net_count net.now.net }
-    requires node { length net.now.net.inputs ≤ x.0 }
-    requires now { length now.now ≡ net_count net.now.net }
-    requires room { length (pins_at (node_of net.now.net x.0)) ≤ length pins.old }
-    ensures { (i : ℕ) → i < length (pins_at (node_of net.now.net x.0)) → slice_index pins.new i ≡ slice_index now.now (slice_index (pins_at (node_of net.now.net x.0)) i) }
-{
-    for i in 0..net.pin_count(x) {
-        pins[i as usize] = now[net.pin(x, i).0 as usize];
-    }
-}
-
-/// What its own equation gives table x.
-fn table_word(net: &FlatNet, cover: &Cover, x: NetId, now: &[u64], pins: &mut [u64]) -> u64
-    requires range { x.0 < net_count net.now.net }
-    requires node { length net.now.net.inputs ≤ x.0 }
-    requires table { IsTable (node_of net.now.net x.0) }
-    requires now { length now.now ≡ net_count net.now.net }
-    requires room { length (pins_at (node_of net.now.net x.0)) ≤ length pins.old }
-    requires cover { IsCoverOf (node_of net.now.net x.0) cover.now }
-    requires width { length (pins_at (node_of net.now.net x.0)) ≡ cover.now.width }
-    ensures { (j : ℕ) → j < 64 → (t : ℕ) (before : List Bool) → word_bit j result ≡ own_value (node_of net.now.net x.0) t before (bits_of j now.now) }
-{
-    gather(net, x, now, pins);
-    let count = net.pin_count(x) as usize;
-    cover.wide_value(&pins[..count])
-}
-
 /// Gives all registers their values.
 fn set_registers(
     net: &FlatNet,
@@ -128,36 +100,35 @@ fn set_registers(
 /// Gives all tables their values, each after the tables that it reads.
 fn set_tables(
     net: &FlatNet,
-    covers: &[Cover],
+    tables: &Tables,
     started: bool,
     before: &[u64],
     masks: &[u64],
     values: &[u64],
-    pins: &mut [u64],
     now: &mut [u64],
 )
     requires before { length before.now ≡ net_count net.now.net }
     requires masks { length masks.now ≡ net_count net.now.net }
     requires values { length values.now ≡ net_count net.now.net }
     requires now { length now.old ≡ net_count net.now.net }
-    requires room { (x : ℕ) → length (pins_at (node_of net.now.net x)) ≤ length pins.old }
-    requires covers { AreCovers net.now.net net.now.order covers.now }
-    requires all_covers { length covers.now ≡ length net.now.net.nodes }
+    requires entries { tables.now.entries.items ≡ entries net.now.net net.now.order }
+    requires literals { tables.now.literals.items ≡ literals net.now.net net.now.order }
     ensures { (j : ℕ) (ins : List Bool) → j < 64 →
         IsSettled net.now.net (number_of_cycle started) ins (bits_of j before.now) (marked masks.now values.now j) (IsRegisterBelow net.now.net (net_count net.now.net)) (bits_of j now.old) →
         IsSettled net.now.net (number_of_cycle started) ins (bits_of j before.now) (marked masks.now values.now j) IsAnyNet (bits_of j now.new) }
 {
     let _inputs = net.input_count();
+    let entries = tables.entries.as_slice();
+    let mut rest = tables.literals.as_slice();
     for i in 0..net.node_count() {
         let x = net.ordered(i);
-        if is_table(net, x) {
+        let entry = entry_at(entries, i as usize);
+        let (own, others) = rest.split_at(entry.count);
+        if entry.is_table {
             let k = x.0 as usize;
-            now[k] = merged(
-                table_word(net, &covers[i as usize], x, now, pins),
-                masks[k],
-                values[k],
-            );
+            now[k] = merged(table_word(entry, own, now), masks[k], values[k]);
         }
+        rest = others;
     }
 }
 
@@ -176,13 +147,12 @@ fn set_inputs(ins: &[u64], masks: &[u64], values: &[u64], now: &mut [u64])
 /// Gives all nets their values.
 pub fn run_cycle(
     net: &FlatNet,
-    covers: &[Cover],
+    tables: &Tables,
     started: bool,
     ins: &[u64],
     before: &[u64],
     masks: &[u64],
     values: &[u64],
-    pins: &mut [u64],
     now: &mut [u64],
 )
     requires ins { length ins.now ≡ length net.now.net.inputs }
@@ -190,12 +160,11 @@ pub fn run_cycle(
     requires masks { length masks.now ≡ net_count net.now.net }
     requires values { length values.now ≡ net_count net.now.net }
     requires now { length now.old ≡ net_count net.now.net }
-    requires room { (x : ℕ) → length (pins_at (node_of net.now.net x)) ≤ length pins.old }
-    requires covers { AreCovers net.now.net net.now.order covers.now }
-    requires all_covers { length covers.now ≡ length net.now.net.nodes }
+    requires entries { tables.now.entries.items ≡ entries net.now.net net.now.order }
+    requires literals { tables.now.literals.items ≡ literals net.now.net net.now.order }
     ensures { (j : ℕ) → j < 64 → IsCycle net.now.net (last_of started (bits_of j before.now)) (bits_of j ins.now) (marked masks.now values.now j) (bits_of j now.new) }
 {
     set_inputs(ins, masks, values, now);
     set_registers(net, started, before, masks, values, now);
-    set_tables(net, covers, started, before, masks, values, pins, now);
+    set_tables(net, tables, started, before, masks, values, now);
 }

@@ -7,6 +7,7 @@
 mod bench;
 mod cycle;
 mod sim;
+mod tables;
 mod wide;
 
 pub use sim::Sim;

@@ -83,7 +83,7 @@ fn step_bits(bench: &mut Bench, ins: &[bool], forced: &[(NetId, bool)])
 }
 
 impl<'a> Sim<'a> {
-    /// A run that has not begun. All room that steps need is made here.
+    /// A run that has not begun. All room that steps need is made here, so only this call can want memory.
     pub fn new(alloc: Global, net: &'a FlatNet) -> Result<Sim<'a>, OutOfMemory>
         ensures net { IfOk result (λ s. s.net ≡ net.now.net) }
         ensures last { IfOk result (λ s. s.last ≡ None) }
@@ -92,8 +92,10 @@ impl<'a> Sim<'a> {
         Ok(Sim { bench })
     }
 
-    /// One cycle, with a bit for each input, in which the forced nodes have the values given; where two pairs
-    /// name one node, the first counts.
+    /// Runs the next cycle, and takes no memory.
+    ///
+    /// `ins` has a bit for each input, in order. Each pair of `forced` names a net, in any order, which has the value
+    /// beside it in this cycle in place of its own; where two pairs name one net, the first counts.
     pub fn step(&mut self, ins: &[bool], forced: &[(NetId, bool)])
         requires ins { length ins.now ≡ length self.old.net.inputs }
         requires forced { All (λ f. f.0.0 < net_count self.old.net) forced.now }
@@ -103,7 +105,7 @@ impl<'a> Sim<'a> {
         step_bits(&mut self.bench, ins, forced);
     }
 
-    /// The value of net x in the last cycle.
+    /// The value of net x in the last cycle; before the first cycle there is none. It takes no memory.
     pub fn value(&self, x: NetId) -> bool
         requires started { IsSome self.now.last }
         requires range { x.0 < net_count self.now.net }

@@ -56,7 +56,7 @@ fn step_words(bench: &mut Bench, ins: &[u64], forced: &[(NetId, u64, u64)])
 }
 
 impl<'a> WideSim<'a> {
-    /// Runs that have not begun. All room that steps need is made here.
+    /// Runs that have not begun. All room that steps need is made here, so only this call can want memory.
     pub fn new(alloc: Global, net: &'a FlatNet) -> Result<WideSim<'a>, OutOfMemory>
         ensures net { IfOk result (λ s. s.net ≡ net.now.net) }
         ensures last { IfOk result (λ s. s.last ≡ None) }
@@ -65,8 +65,11 @@ impl<'a> WideSim<'a> {
         Ok(WideSim { bench })
     }
 
-    /// One cycle in each run, with a word for each input. A triple of `forced` is a node, the runs in which it
-    /// is forced, and its values there; where two name one node and run, the first counts.
+    /// Runs the next cycle of all runs, and takes no memory.
+    ///
+    /// `ins` has a word for each input, in order. A triple of `forced` is a net, a word of the runs in which it is
+    /// forced, and a word of its values in these; the other bits of the last word count for nothing. Triples stand in
+    /// any order; where two name one net and run, the first counts.
     pub fn step(&mut self, ins: &[u64], forced: &[(NetId, u64, u64)])
         requires ins { length ins.now ≡ length self.old.net.inputs }
         requires forced { All (λ f. f.0.0 < net_count self.old.net) forced.now }
@@ -76,7 +79,7 @@ impl<'a> WideSim<'a> {
         step_words(&mut self.bench, ins, forced);
     }
 
-    /// The word of net x in the last cycle.
+    /// The word of net x in the last cycle; before the first cycle there is none. It takes no memory.
     pub fn value(&self, x: NetId) -> u64
         requires started { IsSome self.now.last }
         requires range { x.0 < net_count self.now.net }

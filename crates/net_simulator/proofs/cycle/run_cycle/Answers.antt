@@ -1,7 +1,7 @@
-use Rattle.std.proofs.Common.{ℕ, ◌≡◌, ◌∙◌, List, Bool, length, sym, ap, arith}
+use Rattle.std.proofs.Common.{◌≡◌, ◌∙◌, List, Bool, length, sym, ap, arith}
 use Rattle.std.specs.Option.{unwrap_or}
 use Rattle.flat_net.specs.Net.{net_count}
-use Rattle.table_cover.specs.Words.{word_bit, bits_of}
+use Rattle.table_cover.specs.Words.{bits_of}
 use Rattle.net_simulator.specs.Settled.{marked, number_of_cycle}
 use Rattle.net_simulator.proofs.Lanes.{inputs_settled, all_settled, length_bits, bit_of_words}
 use Rattle.net_simulator.proofs.cycle.run_cycle.Goals as goal

@@ -1,9 +1,9 @@
-use Rattle.std.proofs.Common.{◌≡◌, ℕ, List, ◌+◌, ◌<◌, ◌≤◌, ◌∙◌, length, sym, subst, arith, true, false}
+use Rattle.std.proofs.Common.{◌≡◌, ℕ, List, ◌+◌, ◌<◌, ◌≤◌, length, sym, subst, arith, true}
 use Rattle.table_cover.specs.Words.{bits_of}
-use Rattle.flat_net.specs.Net.{IsTable, IsRegister, node_of, net_count}
+use Rattle.flat_net.specs.Net.{net_count}
 use Rattle.net_simulator.specs.Settled.{IsSettled, IsRegisterBelow, marked, number_of_cycle}
 use Rattle.net_simulator.proofs.Settling.{settled_anyway}
-use Rattle.net_simulator.proofs.Lanes.{wide_settle, register_is_no_table, register_below, no_register_below, registers_read_none}
+use Rattle.net_simulator.proofs.Lanes.{wide_settle, register_below, no_register_below, registers_read_none}
 use Rattle.net_simulator.proofs.cycle.set_registers.Goals.{then-is_register, else-is_register}
 use Rattle.net_simulator.proofs.cycle.set_registers.Goals as goal
 

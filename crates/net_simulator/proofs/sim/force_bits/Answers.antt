@@ -1,4 +1,4 @@
-use Rattle.std.proofs.Common.{◌≡◌, ◌<◌, ℕ, length, ap, ◌∙◌, sym, subst, arith, false}
+use Rattle.std.proofs.Common.{◌<◌, length, ap, ◌∙◌, sym, subst, arith, false}
 use Rattle.flat_net.specs.Net.{Net, net_count}
 use Rattle.net_simulator.specs.Settled.{marked}
 use Rattle.net_simulator.specs.Bench.{PlainBench}

@@ -1,4 +1,4 @@
-use Rattle.std.proofs.Common.{◌≡◌, ◌<◌, ℕ, false, length, ◌∙◌, arith}
+use Rattle.std.proofs.Common.{false, ◌∙◌, arith}
 use Rattle.std.proofs.lemmas.List.{ext_get_or}
 use Rattle.table_cover.specs.Words.{bits_of}
 use Rattle.net_simulator.proofs.Lanes.{bit_of_words, length_bits}

@@ -1,7 +1,7 @@
-use Rattle.std.proofs.Common.{◌≡◌, ◌<◌, ℕ, List, Bool, Option, subst, sym, ap, ◌∙◌, arith}
+use Rattle.std.proofs.Common.{◌<◌, ℕ, List, Bool, Option, subst, ap, ◌∙◌, arith}
 use Rattle.std.specs.Prelude.{IsSomeAnd, option_map}
 use Rattle.table_cover.specs.Words.{bits_of}
-use Rattle.flat_net.specs.Net.{Net, net_count}
+use Rattle.flat_net.specs.Net.{Net}
 use Rattle.net_simulator.specs.Cycle.{IsCycle, forced_to}
 use Rattle.net_simulator.specs.Settled.{marked}
 use Rattle.net_simulator.proofs.Cycles.{same_forced, some_and}

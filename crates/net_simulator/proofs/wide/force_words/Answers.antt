@@ -1,4 +1,4 @@
-use Rattle.std.proofs.Common.{◌≡◌, ◌<◌, ℕ, length, ap, ◌∙◌, sym, arith}
+use Rattle.std.proofs.Common.{◌<◌, length, ap, ◌∙◌, sym, arith}
 use Rattle.net_simulator.specs.Bench.{PlainBench}
 use Rattle.net_simulator.proofs.Cycles.{unforced, none_left}
 use Rattle.net_simulator.proofs.wide.force_words.Goals as goal

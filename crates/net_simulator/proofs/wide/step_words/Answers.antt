@@ -1,4 +1,4 @@
-use Rattle.std.proofs.Common.{◌≡◌, ◌<◌, ℕ, List, Option, subst, sym}
+use Rattle.std.proofs.Common.{◌<◌, ℕ, List, Option, subst}
 use Rattle.std.specs.Prelude.{IsSomeAnd, option_map}
 use Rattle.table_cover.specs.Words.{bits_of}
 use Rattle.flat_net.specs.Net.{Net, net_count}

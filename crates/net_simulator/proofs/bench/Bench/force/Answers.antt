@@ -1,4 +1,4 @@
-use Rattle.std.proofs.Common.{ℕ, ◌≡◌, ◌∙◌, ◌<◌, ◌&&◌, ◌||◌, Bool, cond, Some, length, slice_index, ap, subst, arith}
+use Rattle.std.proofs.Common.{ℕ, ◌≡◌, ◌∙◌, ◌<◌, ◌&&◌, ◌||◌, cond, Some, length, slice_index, ap, arith}
 use Rattle.std.specs.Prelude.{bit_or, nat_eq}
 use Rattle.std.proofs.lemmas.Grind.{get_or_default_zero}
 use Rattle.flat_net.specs.Net.{net_count}

@@ -1,0 +1,222 @@
+//! The tables of a design as one list of literals, in the order of evaluation.
+//!
+//! A row of marks without its dashes is a list of literals. The rows of all tables stand side by side, so that a
+//! cycle reads them from front to back, without a branch for a mark or a row.
+ghost use Rattle.std.specs.Prelude.{◌≡◌, ◌<◌, ◌≤◌, ◌++◌, ◌&&◌, ◌||◌, not, ℕ, List, Bool, true, false, Option, Some, None, length, map, take, slice_index, slice_get, OnOk, IfOk, IsTrue};
+ghost use Rattle.table_cover.specs.Words.{word_bit, bits_of};
+ghost use Rattle.flat_net.specs.Net.{net_count, node_of, pins_at, IsTable};
+ghost use Rattle.net_meaning.specs.Meaning.{bit};
+ghost use Rattle.net_simulator.specs.Tables.{wanted, is_wanting, mark_literals, row_literals, has_literal, rows_literals, some_always, node_literals, entry_of, entries, literals, literal_fits, some_fits, entry_value};
+ghost use Rattle.net_simulator.specs.declared.tables.Literal.{Literal};
+
+use crate::cycle::{is_table, merged, word_of};
+use flat_net::FlatNet;
+use std::alloc::Global;
+use table_cover::Cover;
+use tmr_base::{NetId, OutOfMemory};
+
+/// The value that a row wants of a net.
+#[derive(Clone, Copy, Drop)]
+pub struct Literal {
+    /// The net.
+    pub net: NetId,
+    /// It is to be 1.
+    pub is_on: bool,
+    /// It is the first of its row.
+    pub is_first: bool,
+}
+
+/// What stands beside the literals of a node. A register has none.
+#[derive(Clone, Copy, Drop)]
+pub struct Entry {
+    /// How many literals are the node's.
+    pub count: usize,
+    /// It is a table.
+    pub is_table: bool,
+    /// The rows tell where the value is 1, and not where it is 0.
+    pub is_on: bool,
+    /// Some row has no literal.
+    pub always: bool,
+}
+
+/// The tables of a design.
+#[derive(Drop)]
+pub struct Tables {
+    /// One entry for each node, in the order of evaluation.
+    pub entries: Vec<Entry>,
+    /// Their literals, side by side.
+    pub literals: Vec<Literal>,
+}
+
+/// The value that the mark wants of its pin.
+fn wanted(mark: u8) -> Option<bool>
+    ensures { result ≡ wanted mark }
+{
+    match mark {
+        b'0' => Some(false),
+        b'1' => Some(true),
+        _ => None,
+    }
+}
+
+/// Adds the literal of a mark, where it wants a value. The result is whether the row has one by now.
+fn push_mark(
+    literals: &mut Vec<Literal>,
+    begun: bool,
+    value: Option<bool>,
+    net: NetId,
+) -> Result<bool, OutOfMemory>
+    ensures literals { OnOk result (literals.new.items ≡ literals.old.items ++ mark_literals value net.0 begun) }
+    ensures some { IfOk result (λ some. some ≡ (begun || is_wanting value)) }
+{
+    match value {
+        Some(is_on) => {
+            literals.push(Literal {
+                net,
+                is_on,
+                is_first: !begun,
+            })?;
+            Ok(true)
+        }
+        None => Ok(begun),
+    }
+}
+
+/// Adds the literals of a row of table x. The result is whether there is one.
+fn push_row(
+    literals: &mut Vec<Literal>,
+    net: &FlatNet,
+    x: NetId,
+    row: &[u8],
+) -> Result<bool, OutOfMemory>
+    requires range { x.0 < net_count net.now.net }
+    requires node { length net.now.net.inputs ≤ x.0 }
+    requires width { length row.now ≡ length (pins_at (node_of net.now.net x.0)) }
+    ensures literals { OnOk result (literals.new.items ≡ literals.old.items ++ row_literals false row.now (pins_at (node_of net.now.net x.0))) }
+    ensures some { IfOk result (λ some. some ≡ has_literal false row.now (pins_at (node_of net.now.net x.0))) }
+{
+    let mut begun = false;
+    for i in 0..net.pin_count(x) {
+        begun = push_mark(literals, begun, wanted(row[i as usize]), net.pin(x, i))?;
+    }
+    Ok(begun)
+}
+
+/// Adds the literals of all rows of table x. The result is whether some row has none.
+fn push_rows(
+    literals: &mut Vec<Literal>,
+    net: &FlatNet,
+    x: NetId,
+    cover: &Cover,
+) -> Result<bool, OutOfMemory>
+    requires range { x.0 < net_count net.now.net }
+    requires node { length net.now.net.inputs ≤ x.0 }
+    requires width { length (pins_at (node_of net.now.net x.0)) ≡ cover.now.width }
+    ensures literals { OnOk result (literals.new.items ≡ literals.old.items ++ rows_literals cover.now.rows (pins_at (node_of net.now.net x.0))) }
+    ensures always { IfOk result (λ always. always ≡ some_always cover.now.rows (pins_at (node_of net.now.net x.0))) }
+{
+    let mut always = false;
+    for i in 0..cover.row_count() {
+        let some = push_row(literals, net, x, cover.row(i))?;
+        always = always || !some;
+    }
+    Ok(always)
+}
+
+/// Adds the literals of node x. The result is its entry.
+fn push_node(literals: &mut Vec<Literal>, net: &FlatNet, x: NetId) -> Result<Entry, OutOfMemory>
+    requires range { x.0 < net_count net.now.net }
+    requires node { length net.now.net.inputs ≤ x.0 }
+    ensures literals { OnOk result (literals.new.items ≡ literals.old.items ++ node_literals (node_of net.now.net x.0)) }
+    ensures entry { IfOk result (λ entry. entry ≡ entry_of (node_of net.now.net x.0)) }
+{
+    if !is_table(net, x) {
+        return Ok(Entry {
+            count: 0,
+            is_table: false,
+            is_on: true,
+            always: false,
+        });
+    }
+    let before = literals.len();
+    let cover = net.cover(x);
+    let always = push_rows(literals, net, x, cover)?;
+    Ok(Entry {
+        count: literals.len() - before,
+        is_table: true,
+        is_on: cover.is_on(),
+        always,
+    })
+}
+
+/// The tables of the design.
+pub fn tables_of(alloc: Global, net: &FlatNet) -> Result<Tables, OutOfMemory>
+    ensures entries { IfOk result (λ t. t.entries.items ≡ entries net.now.net net.now.order) }
+    ensures literals { IfOk result (λ t. t.literals.items ≡ literals net.now.net net.now.order) }
+{
+    let _inputs = net.input_count();
+    let mut entries = Vec::with_capacity(alloc, net.node_count() as usize)?;
+    let mut literals = Vec::new(alloc);
+    for i in 0..net.node_count() {
+        let entry = push_node(&mut literals, net, net.ordered(i))?;
+        entries.push(entry)?;
+    }
+    Ok(Tables { entries, literals })
+}
+
+/// The word of net x.
+fn word_at(now: &[u64], x: NetId) -> u64
+    ensures { result ≡ slice_index now.now x.0 }
+{
+    match now.get(x.0 as usize) {
+        Some(word) => *word,
+        None => 0,
+    }
+}
+
+/// In which runs the literal fits.
+fn literal_word(literal: Literal, now: &[u64]) -> u64
+    ensures { (j : ℕ) → j < 64 → word_bit j result ≡ literal_fits (bit (bits_of j now.now)) literal }
+{
+    let word = word_at(now, literal.net);
+    merged(!word, word_of(literal.is_on), word)
+}
+
+/// Literal i.
+fn literal_at(literals: &[Literal], i: usize) -> Literal
+    requires { i < length literals.now }
+    ensures { slice_get literals.now i ≡ Some result }
+{
+    literals[i]
+}
+
+/// Entry i.
+pub fn entry_at(entries: &[Entry], i: usize) -> Entry
+    requires { i < length entries.now }
+    ensures { slice_get entries.now i ≡ Some result }
+{
+    entries[i]
+}
+
+/// In which runs some row of the literals fits, or in all.
+fn some_row(literals: &[Literal], always: bool, now: &[u64]) -> u64
+    ensures { (j : ℕ) → j < 64 → word_bit j result ≡ some_fits (bit (bits_of j now.now)) always false literals.now }
+{
+    let mut earlier = word_of(always);
+    let mut present = 0;
+    for i in 0..literals.len() {
+        let literal = literal_at(literals, i);
+        let first = word_of(literal.is_first);
+        earlier |= present & first;
+        present = (present | first) & literal_word(literal, now);
+    }
+    earlier | present
+}
+
+/// The word of a table with these literals.
+pub fn table_word(entry: Entry, literals: &[Literal], now: &[u64]) -> u64
+    ensures { (j : ℕ) → j < 64 → word_bit j result ≡ entry_value entry (bit (bits_of j now.now)) literals.now }
+{
+    let some = some_row(literals, entry.always, now);
+    merged(!some, word_of(entry.is_on), some)
+}

@@ -1,0 +1,4 @@
+pub mod Puts
+pub mod Spelled
+pub mod LineKinds
+pub mod Told
