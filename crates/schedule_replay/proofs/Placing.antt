@@ -7,13 +7,15 @@ use Rattle.std.proofs.lemmas.List.{drop_more, map-append}
 use Rattle.std.proofs.lemmas.List.Elements.{All-append}
 use Rattle.std.proofs.lemmas.Option.{slice_get_within, slice_get-get_or, get_or_from_slice_get}
 use Rattle.std.proofs.Math.Seq.{take-suc}
+use Rattle.tmr_base.specs.declared.copies.CopyNo.{CopyNo}
 use Rattle.tmr_base.specs.declared.ids.NetId.{NetId}
 use Rattle.flat_net.specs.Net.{Net, net_count, slot, node_of}
 use Rattle.flat_net.specs.Free.{node_bit, AreMarks}
 use Rattle.flat_net.proofs.Slots.{slot_at, slot_below}
 use Rattle.net_meaning.specs.Meaning.{start_at}
 use Rattle.certificate.specs.declared.role.Role.{Role}
-use Rattle.certificate.specs.Cert.{PlainCert, role_of}
+use Rattle.certificate.specs.declared.role.Role.TheVariants.{Copy}
+use Rattle.certificate.specs.Cert.{PlainCert, RoleIsInRange, role_of}
 use Rattle.certificate.specs.Starts.{role_start}
 use Rattle.net_simulator.specs.Cycle.{forced_to}
 use Rattle.schedule_replay.specs.Starts.{placed_starts, or_else, MarksRegisters}
@@ -25,10 +27,13 @@ bit_there start bits x i d e l =
     let at : x - start ≡ i = omega arith in
     ap (λ (o : Option Bool). unwrap_or o false) (slot_at start bits x (omega arith) ∙ (ap (slice_get bits) at ∙ slice_get-get_or bits i d l))
 
-pub role_bit : (start inputs : ℕ) (bits : List Bool) (x : ℕ) (b : Bool) → inputs ≡ start → start ≤ x → x < start + length bits → b ≡ get_or bits (x - inputs) b → b ≡ node_bit start bits x
-role_bit start inputs bits x b same low high e = e ∙ sym (bit_there start bits x (x - inputs) b (omega arith) (omega arith))
-
-pub ruleset role_starts = (role_bit)
+-- the start value of a copy
+pub role_value : (k : PlainCert) (w : List Bool) (role : Role) (x : NetId) (c : CopyNo) (inputs : ℕ) → role ≡ Copy x c → inputs ≡ k.original_inputs → RoleIsInRange k role → length w ≡ length k.part → slice_index_or w (x.0 - inputs) false ≡ role_start k w role
+role_value k w role x c inputs e same range long =
+    let r : RoleIsInRange k (Copy x c) = subst (λ (q : Role). RoleIsInRange k q) e range in
+    let low = r.0 in
+    let high = r.1 in
+    sym (bit_there k.original_inputs w x.0 (x.0 - inputs) false (omega arith) (omega arith)) ∙ ap (role_start k w) (sym e)
 
 head_marked : (marks starts : List Bool) (j : ℕ) → placed_starts (true ∷ marks) (drop j starts) ≡ slice_index_or starts j false ∷ placed_starts marks (drop (suc j) starts)
 head_marked marks [] zero = refl

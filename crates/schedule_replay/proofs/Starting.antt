@@ -7,12 +7,12 @@ use Rattle.std.proofs.lemmas.List.{length-map, get_or-map}
 use Rattle.std.proofs.lemmas.List.Elements.{All-append}
 use Rattle.tmr_base.specs.declared.ids.NetId.{NetId}
 use Rattle.tmr_base.specs.declared.ids.Upset.{Upset}
-use Rattle.flat_net.specs.Net.{Net, Node, Table, Register, net_count, node_of, slot, IsValid, IsInitOf}
+use Rattle.flat_net.specs.Net.{Net, Design, Node, Table, Register, net_count, node_of, slot, IsValid, IsInitOf}
 use Rattle.flat_net.specs.Free.{node_bit, AreMarks}
 use Rattle.net_meaning.specs.Meaning.{row_at, row_before, start_at, node_value, net_value, upset_at, IsFreeFaultTrace, IsScheduleOf, AreRows, HasOneTrace, FreeTracesAreUnique, spread, spread_row}
 use Rattle.net_meaning.proofs.Lists.{row_at-spread}
 use Rattle.certificate.specs.Cert.{PlainCert, Fits}
-use Rattle.certificate.specs.Starts.{counted}
+use Rattle.certificate.specs.Starts.{counted, spread_start}
 use Rattle.net_simulator.specs.Cycle.{IsCycle, cycle_after, values_of, forced_to}
 use Rattle.net_simulator.specs.Forced.{forced_value}
 use Rattle.net_simulator.proofs.OneCycle.{before_cycle, one_cycle}
@@ -87,8 +87,8 @@ both_forced n free w t struck starts all s e upsets values x l =
     ap (λ (fs : List (NetId × Bool)). forced_to fs x) e ∙ (forced_to-append struck starts x ∙ (ap (λ (o : Option Bool). or_else o (forced_to starts x)) (upsets x) ∙ ap (or_else (upset_at s t x)) (values x l)))
 
 -- behind cycle 0 there are none
-pub no_more_starts : (n : Net) (free w : List Bool) (t : ℕ) (starts : List (NetId × Bool)) → starts ≡ [] → AreStarts n free w (t + 1) starts
-no_more_starts n free w t starts e x l = let next : t + 1 ≡ suc t = omega arith in ap (λ (fs : List (NetId × Bool)). forced_to fs x) e ∙ sym (ap (λ (m : ℕ). start_in m (start_at n free w x)) next)
+pub no_more_starts : (n : Net) (free w : List Bool) (t : ℕ) (starts : List (NetId × Bool)) → starts ≡ [] → AreStarts n free w (suc t) starts
+no_more_starts n free w t starts e x l = ap (λ (fs : List (NetId × Bool)). forced_to fs x) e
 
 not_marked : (n : Net) (x : ℕ) → node_bit (length n.inputs) [] x ≡ false
 unfolding slot
@@ -182,3 +182,15 @@ uncounted k n free w starts version e = subst (λ (b : Bool). AreStarts n (if b 
 -- and in version 2 all marks count
 pub all_counted : (k : PlainCert) (free : List Bool) → k.version ≢ 1 → counted k free ≡ free
 all_counted k free other = ap (λ (b : Bool). if b then [] else free) (ne_eqb k.version 1 other)
+
+-- what holds for all start values holds for those that count by the certificate
+pub for_counted : (P : Net → List Bool → List Bool → Net → List Bool → List Bool → Type 0) (a b x y : Design) (k : PlainCert) (f g v : List Bool) (os hs : List (NetId × Bool)) → b ≡ a → y ≡ x → AreMarks a.net f → AreMarks x.net g
+    → AreStarts a.net (counted k f) v 0 os → AreStarts x.net (counted k g) (spread_start k v) 0 hs
+    → ((e w h u : List Bool) → MarksRegisters b.net e → MarksRegisters y.net h → AreStarts b.net e w 0 os → AreStarts y.net h u 0 hs → P b.net e w y.net h u)
+    → P a.net (counted k f) v x.net (counted k g) (spread_start k v)
+for_counted P a b x y k f g v os hs same_n same_h marks_n marks_h starts_n starts_h all =
+    let at_n : (e w h u : List Bool) → MarksRegisters a.net e → MarksRegisters y.net h → AreStarts a.net e w 0 os → AreStarts y.net h u 0 hs → P a.net e w y.net h u =
+    subst (λ (d : Design). (e w h u : List Bool) → MarksRegisters d.net e → MarksRegisters y.net h → AreStarts d.net e w 0 os → AreStarts y.net h u 0 hs → P d.net e w y.net h u) same_n all in
+    let at_h : (e w h u : List Bool) → MarksRegisters a.net e → MarksRegisters x.net h → AreStarts a.net e w 0 os → AreStarts x.net h u 0 hs → P a.net e w x.net h u =
+    subst (λ (d : Design). (e w h u : List Bool) → MarksRegisters a.net e → MarksRegisters d.net h → AreStarts a.net e w 0 os → AreStarts d.net h u 0 hs → P a.net e w d.net h u) same_h at_n in
+    at_h (counted k f) v (counted k g) (spread_start k v) (counted_registers k a.net f marks_n) (counted_registers k x.net g marks_h) starts_n starts_h

@@ -73,7 +73,6 @@ fn place_starts(alloc: Global, n: &FreeNet, s: &Schedule) -> Result<Vec<bool>, O
 }
 
 /// The start value of a role, where `values` has one bit for each original node.
-#[tactic(auto, using(crate::proofs::Placing::role_starts))]
 fn role_start(c: &Certificate, inputs: u32, role: Role, values: &[bool]) -> bool
     requires inputs { inputs ≡ c.now.original_inputs }
     requires range { RoleIsInRange c.now role }

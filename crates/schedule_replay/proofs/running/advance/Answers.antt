@@ -1,4 +1,4 @@
-use Rattle.std.proofs.Common.{◌≡◌, ◌<◌, ◌∙◌, ℕ, suc, ◌+◌, [], List, Bool, Option, Some, length, refl, sym, ap, subst, arith}
+use Rattle.std.proofs.Common.{◌≡◌, ◌<◌, ◌∙◌, ℕ, suc, ◌+◌, ◌++◌, [], List, Bool, Option, Some, length, refl, sym, ap, subst, arith}
 use Rattle.std.proofs.lemmas.List.{length-map, with_items_is}
 use Rattle.tmr_base.specs.declared.ids.NetId.{NetId}
 use Rattle.tmr_base.specs.declared.ids.Upset.{Upset}
@@ -23,12 +23,12 @@ returns-clause-ran c = λ f w g u tr ft mf mg is_tr is_ft before.
     let row_len : length c.write_row.new.row ≡ c.args.r.now.row.len = omega arith in
     let spread_len : length c.write_row.new.spread ≡ c.args.r.now.spread.len = omega arith in
     let original : c.step.new.self.last ≡ Some (row_at tr t) =
-    step_row n f w mf [] tr c.input_count.ensures.design.valid rows t is_tr c.requires.t _ _ c.step.new.self.last _ _ c.requires.ready.original before.original (c.deref-2.ensures.value ∙ (with_items_is c.args.r.now.row c.write_row.new.row row_len ∙ c.write_row.ensures.row))
+    step_row n f w mf [] tr c.input_count-2.ensures.design.valid rows t is_tr c.requires.t _ _ c.step.new.self.last _ _ c.requires.ready.original before.original (c.deref-2.ensures.value ∙ (with_items_is c.args.r.now.row c.write_row.new.row row_len ∙ c.write_row.ensures.row))
     (λ x l. ap (λ (fs : List (NetId × Bool)). forced_to fs x) c.deref-3.ensures.value ∙ before.original_starts x l) c.step.ensures.cycle in
     let long : t < length (spread rows) = let same = length-map rows spread_row in omega arith in
     let hardened : c.step-2.new.self.last ≡ Some (row_at ft t) =
-    step_row h g u mg us ft c.input_count-hardened.ensures.design.valid (spread rows) t is_ft long _ _ c.step-2.new.self.last _ _ c.requires.ready.hardened before.hardened (c.deref-4.ensures.value ∙ (with_items_is c.args.r.now.spread c.write_row.new.spread spread_len ∙ (c.write_row.ensures.spread ∙ sym (row_at-spread rows t))))
-    (both_forced h g u t c.take_upsets.new.struck.items c.args.r.now.hardened_starts.items c.deref-5.result.now us (c.deref-5.ensures.value ∙ c.in_ok-add_starts.ensures) c.in_ok-r.ensures.struck before.hardened_starts) c.step-2.ensures.cycle in
+    step_row h g u mg us ft c.input_count.ensures.design.valid (spread rows) t is_ft long _ _ c.step-2.new.self.last _ _ c.requires.ready.hardened before.hardened (c.deref-4.ensures.value ∙ (with_items_is c.args.r.now.spread c.write_row.new.spread spread_len ∙ (c.write_row.ensures.spread ∙ sym (row_at-spread rows t))))
+    (both_forced h g u t c.take_upsets.new.struck.items c.args.r.now.hardened_starts.items c.deref-5.result.now us (c.deref-5.ensures.value ∙ (c.in_ok-add_starts.ensures ∙ ap (λ (fs : List (NetId × Bool)). c.take_upsets.new.struck.items ++ fs) c.deref.ensures.value)) c.in_ok-r.ensures.struck before.hardened_starts) c.step-2.ensures.cycle in
     rw next (record {
       original = original;
       hardened = hardened;
