@@ -20,6 +20,7 @@ pub cycle_more : (s : PlainSchedule) (row : List Bool) → IsPlainSchedule s →
 cycle_more s row is wide room = record {
   wide = All-append (λ r. length r ≡ s.inputs) s.rows (row ∷ []) is.wide (λ i d h. one (λ r. length r ≡ s.inputs) row wide i d h);
   few_rows = omega (arith, length-append s.rows (row ∷ []));
+  few_starts = is.few_starts;
   few_upsets = is.few_upsets;
   in_range = λ i d h. let below = is.in_range i d h in omega (arith, length-append s.rows (row ∷ []));
   ascending = is.ascending;
@@ -32,7 +33,7 @@ before_trans u v w (inr (a, b)) (inl c) = inl (omega arith)
 before_trans u v w (inr (a, b)) (inr (c, d)) = inr (omega arith, omega arith)
 
 -- the one behind the list, and those of the list
-append_cases : {A : Type 0} (xs : List A) (x y : A) (i : ℕ) → slice_get (xs ++ x ∷ []) i ≡ Some y → (slice_get xs i ≡ Some y) ⊎ ((i ≡ length xs) × (y ≡ x))
+pub append_cases : {A : Type 0} (xs : List A) (x y : A) (i : ℕ) → slice_get (xs ++ x ∷ []) i ≡ Some y → (slice_get xs i ≡ Some y) ⊎ ((i ≡ length xs) × (y ≡ x))
 append_cases [] x y zero e = inr (refl, cc)
 append_cases [] x y (suc i) e = absurd (cc)
 append_cases (z ∷ xs) x y zero e = inl e
@@ -72,6 +73,7 @@ pub upset_more : (s : PlainSchedule) (u : Upset) → IsPlainSchedule s → IfSom
 upset_more s u is last range room = record {
   wide = is.wide;
   few_rows = is.few_rows;
+  few_starts = is.few_starts;
   few_upsets = omega (arith, length-append s.upsets (u ∷ []));
   in_range = All-append (λ v. v.cycle < length s.rows) s.upsets (u ∷ []) is.in_range (λ i d h. one (λ v. v.cycle < length s.rows) u range i d h);
   ascending = λ j k v w l e f. asc j k v w l (append_cases s.upsets u v j e) (append_cases s.upsets u w k f);

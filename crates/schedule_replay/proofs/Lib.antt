@@ -7,3 +7,10 @@ pub mod Documents
 pub mod Kept
 pub mod MaskedLaws
 pub mod Places
+pub mod Members
+pub mod Listing
+pub mod Starting
+pub mod Placing
+pub mod WaveLaws
+pub mod Unharmed
+pub mod Several

@@ -12,15 +12,15 @@ use Rattle.std.specs.List.Sorted.{IsStrictlySortedBy}
 use Rattle.std.proofs.lemmas.Map.Keys.{Less-from_sorted}
 use Rattle.std.proofs.lemmas.Option.{slice_get_within, get_or_from_slice_get}
 use Rattle.schedule_replay.specs.Schedule.{PlainSchedule, IsBefore}
-use Rattle.schedule_replay.specs.Reading.{ListsUpsets, IsReadAs, IsNodeOf}
+use Rattle.schedule_replay.specs.Reading.{ListsUpsets, IsReadAs, IsNodeOf, CanBeStruck}
 use Rattle.std.specs.BTreeMap as tree
 use Rattle.std.specs.BTreeMap.{BTreeMap, is_at}
 use Rattle.tmr_base.specs.declared.ids.Upset.{Upset}
-use Rattle.flat_net.specs.Net.{Net}
+use Rattle.flat_net.specs.Net.{Net, net_count}
 use Rattle.net_meaning.specs.Meaning.{upset_at}
 use Rattle.schedule_replay.specs.declared.fault.ScheduleFault.{ScheduleFault}
 use Rattle.schedule_replay.specs.declared.fault.ScheduleFault.TheVariants as fault
-use Rattle.schedule_replay.specs.Document.{Entry, is_listed, node_named, placed, known, upset_of, and_then, upsets_from, rows_from, entry_of, Listed, listed, list_of, only_keys, is_file_key, inputs_of, upsets_of, arrays_listed, document_listed}
+use Rattle.schedule_replay.specs.Document.{Entry, is_listed, struck_named, placed, known, upset_of, and_then, upsets_from, rows_from, entry_of, Listed, listed, list_of, only_keys, is_file_key, inputs_of, upsets_of, starts_of, starts_or_fault, arrays_listed, document_listed}
 use Rattle.schedule_replay.specs.Entries.{place_cmp, upset_of_entry, Holds}
 use Rattle.toml.specs.Data.{Data, Items, Members}
 use Rattle.toml.specs.View.{view, items_view}
@@ -110,9 +110,9 @@ upset_at_more (w ∷ us) u cycle net e = go (nat_eq w.cycle cycle && nat_eq w.ne
     go false t more a b = more none_left ∙ ap (λ (s : Bool). cond s (Some u.value) (upset_at us cycle net)) b
 
 -- an entry whose place was struck before, and one whose place was not
-module _ (h : Net) (cycles j : ℕ) (earlier : List Upset) (m : BTreeMap (ℕ × ℕ) Bool) (e : Entry) (o : Option Entry) (x : ℕ) where
-  at_place : o ≡ Some e → node_named h e.net ≡ Some x → upset_of h cycles j earlier o ≡ placed cycles j earlier e.cycle e.value x
-  at_place is named = ap (upset_of h cycles j earlier) is ∙ ap (known cycles j earlier e) named
+module _ (version : ℕ) (h : Net) (cycles j : ℕ) (earlier : List Upset) (m : BTreeMap (ℕ × ℕ) Bool) (e : Entry) (o : Option Entry) (x : ℕ) where
+  at_place : o ≡ Some e → struck_named version h e.net ≡ Some x → upset_of version h cycles j earlier o ≡ placed cycles j earlier e.cycle e.value x
+  at_place is named = ap (upset_of version h cycles j earlier) is ∙ ap (known cycles j earlier e) named
 
   below : e.cycle < cycles → not (nat_lt e.cycle cycles) ≡ false
   below l = grind (arith, nat_tests)
@@ -120,12 +120,12 @@ module _ (h : Net) (cycles j : ℕ) (earlier : List Upset) (m : BTreeMap (ℕ ×
   in_map : Holds m earlier → is_listed earlier e.cycle x ≡ is_some (tree.get place_cmp m (e.cycle, x))
   in_map holds = listed_at earlier e.cycle x ∙ ap is_some (sym (holds e.cycle x))
 
-  pub doubled : o ≡ Some e → node_named h e.net ≡ Some x → e.cycle < cycles → Holds m earlier → is_some (tree.get place_cmp m (e.cycle, x)) ≡ true → upset_of h cycles j earlier o ≡ Err (fault.Doubled j)
+  pub doubled : o ≡ Some e → struck_named version h e.net ≡ Some x → e.cycle < cycles → Holds m earlier → is_some (tree.get place_cmp m (e.cycle, x)) ≡ true → upset_of version h cycles j earlier o ≡ Err (fault.Doubled j)
   doubled is named l holds there =
       at_place is named ∙ (ap (λ (t : Bool). cond t (Err (fault.Range j)) (cond (is_listed earlier e.cycle x) (Err (fault.Doubled j)) (Ok (record { cycle = e.cycle; net = record { 0 = x }; value = e.value })))) (below l)
       ∙ ap (λ (t : Bool). cond t (Err (fault.Doubled j)) (Ok (record { cycle = e.cycle; net = record { 0 = x }; value = e.value }))) (in_map holds ∙ there))
 
-  pub fresh : o ≡ Some e → node_named h e.net ≡ Some x → e.cycle < cycles → Holds m earlier → is_some (tree.get place_cmp m (e.cycle, x)) ≡ false → upset_of h cycles j earlier o ≡ Ok (record { cycle = e.cycle; net = record { 0 = x }; value = e.value })
+  pub fresh : o ≡ Some e → struck_named version h e.net ≡ Some x → e.cycle < cycles → Holds m earlier → is_some (tree.get place_cmp m (e.cycle, x)) ≡ false → upset_of version h cycles j earlier o ≡ Ok (record { cycle = e.cycle; net = record { 0 = x }; value = e.value })
   fresh is named l holds there =
       at_place is named ∙ (ap (λ (t : Bool). cond t (Err (fault.Range j)) (cond (is_listed earlier e.cycle x) (Err (fault.Doubled j)) (Ok (record { cycle = e.cycle; net = record { 0 = x }; value = e.value })))) (below l)
       ∙ ap (λ (t : Bool). cond t (Err (fault.Doubled j)) (Ok (record { cycle = e.cycle; net = record { 0 = x }; value = e.value }))) (in_map holds ∙ there))
@@ -135,10 +135,10 @@ none_there None e = refl
 none_there (Some a) e = absurd (cc)
 
 -- reading goes on behind an upset
-pub upsets_step : (h : Net) (cycles j : ℕ) (earlier : List Upset) (vs : List Value) (d : Value) (u : Upset) → j < length vs → upset_of h cycles j earlier (entry_of (view (get_or vs j d))) ≡ Ok u → upsets_from h cycles (j + 1) (earlier ++ u ∷ []) (map view (drop (j + 1) vs)) ≡ upsets_from h cycles j earlier (map view (drop j vs))
-upsets_step h cycles j earlier vs d u l is =
-    sym (ap (λ (ws : List Value). upsets_from h cycles j earlier (map view ws)) (drop_more vs j d l)
-    ∙ ap (λ (r : Result Upset ScheduleFault). and_then r (λ u. upsets_from h cycles (j + 1) (earlier ++ u ∷ []) (map view (drop (j + 1) vs)))) is)
+pub upsets_step : (version : ℕ) (h : Net) (cycles j : ℕ) (earlier : List Upset) (vs : List Value) (d : Value) (u : Upset) → j < length vs → upset_of version h cycles j earlier (entry_of (view (get_or vs j d))) ≡ Ok u → upsets_from version h cycles (j + 1) (earlier ++ u ∷ []) (map view (drop (j + 1) vs)) ≡ upsets_from version h cycles j earlier (map view (drop j vs))
+upsets_step version h cycles j earlier vs d u l is =
+    sym (ap (λ (ws : List Value). upsets_from version h cycles j earlier (map view ws)) (drop_more vs j d l)
+    ∙ ap (λ (r : Result Upset ScheduleFault). and_then r (λ u. upsets_from version h cycles (j + 1) (earlier ++ u ∷ []) (map view (drop (j + 1) vs)))) is)
 
 -- the map has one upset more
 pub holds_more : (m n : BTreeMap (ℕ × ℕ) Bool) (us : List Upset) (u : Upset) → Holds m us → tree.get place_cmp m (u.cycle, u.net.0) ≡ None → ((q : ℕ × ℕ) → tree.get place_cmp n q ≡ cond (is_eq (place_cmp (u.cycle, u.net.0) q)) (Some u.value) (tree.get place_cmp m q)) → Holds n (us ++ u ∷ [])
@@ -185,38 +185,28 @@ entry_in_order es j e sorted l = go (slice_get (map upset_of_entry (take j es)) 
 few_enough : (a b : ℕ) → a ≤ 1048576 → b ≤ 1048576 → (nat_lt 1048576 a || nat_lt 1048576 b) ≡ false
 few_enough a b l k = grind (arith, nat_tests)
 
--- rows and upsets that were read one after the other
-pub all_read : (n h : Net) (rows ups : List Data) (m : BTreeMap (ℕ × ℕ) Bool) (es : List ((ℕ × ℕ) × Bool)) (old new : PlainSchedule)
-    → length rows ≤ 1048576 → length ups ≤ 1048576 → rows_from (length n.inputs) 0 [] rows ≡ Ok old.rows → ListsUpsets h (length old.rows) ups m → es ≡ m.entries → old.inputs ≡ length n.inputs
-    → new ≡ record old { upsets = map upset_of_entry es } → IsReadAs (length n.inputs) (listed n h rows ups) new
-all_read n h rows ups m es old new few_rows few_ups rows_read ups_read same inputs is =
-    let l : Listed = record { rows = old.rows; upsets = ups_read.upsets } in
-    let done : listed n h rows ups ≡ Ok l =
-    ap (λ (t : Bool). cond t (Err fault.TooMany) (and_then (rows_from (length n.inputs) 0 [] rows) (λ rs. and_then (upsets_from h (length rs) 0 [] ups) (λ us. Ok (let x : Listed = record { rows = rs; upsets = us } in x))))) (few_enough (length rows) (length ups) few_rows few_ups)
-    ∙ (ap (λ (r : Result (List (List Bool)) ScheduleFault). and_then r (λ rs. and_then (upsets_from h (length rs) 0 [] ups) (λ us. Ok (let x : Listed = record { rows = rs; upsets = us } in x)))) rows_read
-    ∙ ap (λ (r : Result (List Upset) ScheduleFault). and_then r (λ us. Ok (let x : Listed = record { rows = old.rows; upsets = us } in x))) ups_read.listed) in
-    subst (λ (r : Result Listed ScheduleFault). IsReadAs (length n.inputs) r new) (sym done) (record {
-      inputs_are = ap (λ (s : PlainSchedule). s.inputs) is ∙ inputs;
-      rows = ap (λ (s : PlainSchedule). s.rows) is;
-      count = ap (λ (s : PlainSchedule). length s.upsets) is ∙ (length-map es upset_of_entry ∙ (ap length same ∙ ups_read.count));
-      upsets = λ cycle net. ap (λ (s : PlainSchedule). upset_at s.upsets cycle net) is ∙ (sym (entries_hold es cycle net) ∙ (ap (λ (xs : List ((ℕ × ℕ) × Bool)). lookup (is_at (place_cmp (cycle, net))) xs) same ∙ ups_read.holds cycle net));
-    })
-
 list_of_view : (vs : List Value) → list_of (items_view vs) ≡ map view vs
 list_of_view [] = refl
 list_of_view (v ∷ vs) = ap (λ (ds : List Data). view v ∷ ds) (list_of_view vs)
 
 -- a document with its two arrays
-pub top_listed : (n h : Net) (top : Members) (rows ups : List Value) → only_keys is_file_key top ≡ true → inputs_of top ≡ Some (items_view rows) → upsets_of top ≡ Some (items_view ups) → document_listed n h (Some top) ≡ listed n h (map view rows) (map view ups)
-top_listed n h top rows ups keys rows_are ups_are =
-    ap (λ (t : Bool). cond t (arrays_listed n h (inputs_of top) (upsets_of top)) (Err fault.Top)) keys
-    ∙ (ap (λ (o : Option Items). arrays_listed n h o (upsets_of top)) rows_are
-    ∙ (ap (arrays_listed n h (Some (items_view rows))) ups_are
-    ∙ (ap (λ (ds : List Data). listed n h ds (list_of (items_view ups))) (list_of_view rows)
-    ∙ ap (listed n h (map view rows)) (list_of_view ups))))
+pub top_listed : (version count : ℕ) (n h : Net) (top : Members) (rows ups : List Value) → only_keys (is_file_key version) top ≡ true → inputs_of top ≡ Some (items_view rows) → upsets_of top ≡ Some (items_view ups) → document_listed version count n h (Some top) ≡ listed version n h (starts_of count top) (map view rows) (map view ups)
+top_listed version count n h top rows ups keys rows_are ups_are =
+    ap (λ (t : Bool). cond t (arrays_listed version n h (starts_of count top) (inputs_of top) (upsets_of top)) (Err fault.Top)) keys
+    ∙ (ap (λ (o : Option Items). arrays_listed version n h (starts_of count top) o (upsets_of top)) rows_are
+    ∙ (ap (arrays_listed version n h (starts_of count top) (Some (items_view rows))) ups_are
+    ∙ (ap (λ (ds : List Data). listed version n h (starts_of count top) ds (list_of (items_view ups))) (list_of_view rows)
+    ∙ ap (listed version n h (starts_of count top) (map view rows)) (list_of_view ups))))
 
--- upsets of nodes
-pub upsets_nodes : (h : Net) (es : List ((ℕ × ℕ) × Bool)) → All (λ k. IsNodeOf h k.1) (keys_of es) → All (λ u. IsNodeOf h u.net.0) (map upset_of_entry es)
-upsets_nodes h [] all i d l = absurd (omega arith)
-upsets_nodes h (e ∷ es) all zero d l = all 0 (0, 0) (omega arith)
-upsets_nodes h (e ∷ es) all (suc i) d l = upsets_nodes h es (λ j k m. all (suc j) k (omega arith)) i d (omega arith)
+-- what holds of the nets of the entries holds of those of the upsets
+pub upsets_nets : (P : ℕ → Type 0) (es : List ((ℕ × ℕ) × Bool)) → All (λ k. P k.1) (keys_of es) → All (λ u. P u.net.0) (map upset_of_entry es)
+upsets_nets P [] all i d l = absurd (omega arith)
+upsets_nets P (e ∷ es) all zero d l = all 0 (0, 0) (omega arith)
+upsets_nets P (e ∷ es) all (suc i) d l = upsets_nets P es (λ j k m. all (suc j) k (omega arith)) i d (omega arith)
+
+-- in version 1 nodes alone are struck
+pub all_nodes : (h : Net) (us : List Upset) → All (λ u. CanBeStruck 1 h u.net.0) us → All (λ u. IsNodeOf h u.net.0) us
+all_nodes h us all i d l = let is = all i d l in (is.0 refl, is.1)
+
+pub all_nets : (version : ℕ) (h : Net) (us : List Upset) → All (λ u. CanBeStruck version h u.net.0) us → All (λ u. u.net.0 < net_count h) us
+all_nets version h us all i d l = (all i d l).1

@@ -1,14 +1,13 @@
 -- The last upset of a partition tells whether it is quiet.
 use Rattle.std.proofs.Common.{◌≡◌, ℕ, zero, suc, ◌+◌, ◌-◌, ◌*◌, ◌/◌, ◌<◌, ◌≤◌, ◌⊎◌, inl, inr, Bool, true, false, not, ◌&&◌, ◌||◌, List, Any, length, get_or, slice_get, slice_index, Option, Some, None, refl, sym, ◌∙◌, ap, subst, arith}
-use Rattle.std.specs.Prelude.{nat_eq, nat_le, IsSomeAnd, replicate}
+use Rattle.std.specs.Prelude.{nat_eq, nat_le, replicate}
 use Rattle.std.proofs.lemmas.List.{get_or-replicate}
 use Rattle.std.specs.List.{list_any}
 use Rattle.std.proofs.lemmas.Bool.Decides.{nat_tests}
 use Rattle.std.proofs.lemmas.List.Folds.{Any-from_list_any, list_any-from_Any}
 use Rattle.std.proofs.lemmas.Option.{slice_get_within, slice_get-get_or, get_or_from_slice_get}
 use Rattle.tmr_base.specs.declared.ids.Upset.{Upset}
-use Rattle.flat_net.specs.Net.{Net, net_count, IsValid}
-use Rattle.net_meaning.specs.Meaning.{row_at, upset_at, IsFaultTrace}
+use Rattle.flat_net.specs.Net.{Net}
 use Rattle.std.proofs.lemmas.Bool.{eq-eqb}
 use Rattle.tmr_base.specs.declared.copies.CopyNo.{CopyNo}
 use Rattle.tmr_base.specs.declared.copies.CopyNo.TheVariants.{First, Second, Third}
@@ -18,8 +17,6 @@ use Rattle.certificate.specs.Cert.{PlainCert, depth_of, copy_of}
 use Rattle.certificate.specs.Rules.{Rule8}
 use Rattle.certificate.specs.Schedules.{IsQuiet}
 use Rattle.schedule_replay.proofs.Taking.{strikes_there}
-use Rattle.net_simulator.specs.Cycle.{IsCycle}
-use Rattle.net_simulator.proofs.OneCycle.{before_cycle, next_row}
 use Rattle.schedule_replay.specs.Outcome.{strikes, is_quiet, TellQuiet}
 use Rattle.schedule_replay.specs.Striking.{IsTaken, IsLastStrike, AreLatest}
 
@@ -105,14 +102,6 @@ module _ (k : PlainCert) (us : List Upset) (t next : ℕ) (lasts : List ℕ) (ta
 
 pub tell_quiet : (k : PlainCert) (us : List Upset) (t next : ℕ) (lasts : List ℕ) → IsTaken us (t + 1) next → AreLatest k us next lasts → TellQuiet k us t lasts
 tell_quiet k us t next lasts taken latest p in_range = told k us t next lasts taken latest p in_range
-
--- a simulator's step gives the trace's next row
-pub step_row : (n : Net) → IsValid n → (ins : List (List Bool)) (s : List Upset) (tr : List (List Bool)) (t : ℕ) → IsFaultTrace n ins s tr → t < length ins
-    → (m : Net) (last after : Option (List Bool)) (row : List Bool) (forced : ℕ → Option Bool)
-    → m ≡ n → last ≡ before_cycle tr t → row ≡ row_at ins t → ((x : ℕ) → x < net_count n → forced x ≡ upset_at s t x) → IsSomeAnd after (λ v. IsCycle m last row forced v) → after ≡ Some (row_at tr t)
-step_row n valid ins s tr t is l m last None row forced same_net same_last same_row same_forced cycle = absurd cycle
-step_row n valid ins s tr t is l m last (Some v) row forced same_net same_last same_row same_forced cycle =
-    ap Some (next_row n valid ins s tr t is l last row forced v same_last same_row same_forced (subst (λ (x : Net). IsCycle x last row forced v) same_net cycle))
 
 not_true : (b : Bool) → not b ≡ true → b ≡ true → ⊥
 not_true true e f = absurd (cc)

@@ -4,7 +4,7 @@ use Rattle.std.specs.Prelude.{All, nat_eq, nat_le}
 use Rattle.std.specs.List.{list_any}
 use Rattle.std.proofs.lemmas.Bool.{eq-eqb, ne_eqb, eqb-true}
 use Rattle.std.proofs.lemmas.Bool.Decides.{nat_tests}
-use Rattle.std.proofs.lemmas.List.{get_or-set_same, get_or-set_other, take-append-drop, ext_get_or, length-append}
+use Rattle.std.proofs.lemmas.List.{length-set, get_or-set_same, get_or-set_other, take-append-drop, ext_get_or, length-append}
 use Rattle.std.proofs.lemmas.List.Elements.{All-append}
 use Rattle.std.proofs.lemmas.Option.{slice_get_within, slice_get-get_or, get_or_from_slice_get}
 use Rattle.std.proofs.Math.Seq.{take-suc}
@@ -12,29 +12,26 @@ use Rattle.tmr_base.specs.declared.copies.CopyNo.{CopyNo}
 use Rattle.tmr_base.specs.declared.copies.CopyNo.TheVariants.{First, Second, Third}
 use Rattle.tmr_base.specs.declared.ids.NetId.{NetId}
 use Rattle.tmr_base.specs.declared.ids.Upset.{Upset}
+use Rattle.flat_net.specs.Net.{slot}
+use Rattle.flat_net.proofs.Slots.{slot_at, slot_within}
 use Rattle.net_meaning.specs.Meaning.{bit, spread_row, upset_at}
 use Rattle.net_meaning.proofs.Lists.{bit-spread_row}
 use Rattle.certificate.specs.declared.role.Role.{Role}
 use Rattle.certificate.specs.declared.role.Role.TheVariants.{Copy, Voter}
-use Rattle.certificate.specs.Cert.{PlainCert, role_of, part_of, depth_of}
+use Rattle.certificate.specs.Cert.{PlainCert, IsCert, role_of, part_of, depth_of}
 use Rattle.certificate.specs.Schedules.{RoleIsIn, IsIn}
 use Rattle.net_simulator.specs.Cycle.{forced_to}
 use Rattle.schedule_replay.specs.Schedule.{PlainSchedule, IsPlainSchedule}
 use Rattle.schedule_replay.specs.Outcome.{strikes, is_that, part_of_role, is_quiet, TellQuiet}
-use Rattle.schedule_replay.specs.Striking.{IsTaken, IsUpTo, IsLastStrike, AreLatest}
+use Rattle.schedule_replay.specs.Striking.{IsTaken, IsUpTo, IsLastStrike, AreLatest, with_strike}
+use Rattle.schedule_replay.specs.Starts.{or_else}
 use Rattle.schedule_replay.proofs.Apart.{in_order}
 
-or_else : Option Bool → Option Bool → Option Bool
-or_else None o = o
-or_else (Some b) o = Some b
-
-or_none : (o : Option Bool) → or_else o None ≡ o
-unfolding or_else
+pub or_none : (o : Option Bool) → or_else o None ≡ o
 or_none None = refl
 or_none (Some b) = refl
 
 upset_at-append : (us vs : List Upset) (t x : ℕ) → upset_at (us ++ vs) t x ≡ or_else (upset_at us t x) (upset_at vs t x)
-unfolding or_else
 upset_at-append [] vs t x = refl
 upset_at-append (u ∷ us) vs t x = go (nat_eq u.cycle t && nat_eq u.net.0 x) (upset_at-append us vs t x)
   where
@@ -42,8 +39,7 @@ upset_at-append (u ∷ us) vs t x = go (nat_eq u.cycle t && nat_eq u.net.0 x) (u
     go true e = refl
     go false e = e
 
-forced_to-append : (fs gs : List (NetId × Bool)) (x : ℕ) → forced_to (fs ++ gs) x ≡ or_else (forced_to fs x) (forced_to gs x)
-unfolding or_else
+pub forced_to-append : (fs gs : List (NetId × Bool)) (x : ℕ) → forced_to (fs ++ gs) x ≡ or_else (forced_to fs x) (forced_to gs x)
 forced_to-append [] gs x = refl
 forced_to-append (f ∷ fs) gs x = go (nat_eq f.0.0 x) (forced_to-append fs gs x)
   where
@@ -104,7 +100,7 @@ all_struck s is t j u fs x there later e =
     not_in i v at same (inr l) = let le = in_order s is j (j + i) u v (omega arith) there at in omega arith
 
 -- the partition of a domain
-part_of_domain : (k : PlainCert) (h q : ℕ) (d : CopyNo) → IsIn k h (Some q) d → part_of_role k (role_of k h) ≡ Some q
+pub part_of_domain : (k : PlainCert) (h q : ℕ) (d : CopyNo) → IsIn k h (Some q) d → part_of_role k (role_of k h) ≡ Some q
 part_of_domain k h q d = go (role_of k h)
   where
     go : (o : Option Role) → RoleIsIn k o h (Some q) d → part_of_role k o ≡ Some q
@@ -118,7 +114,28 @@ strikes_there k u p q d is = ap (λ (o : Option ℕ). is_that o p) (part_of_doma
 equal_or_not : (a b : ℕ) → (a ≡ b) ⊎ (a ≢ b)
 equal_or_not a b = grind arith
 
-module _ (k : PlainCert) (us : List Upset) (t j : ℕ) (v : Upset) (there : slice_get us j ≡ Some v) (cycle : v.cycle ≡ t) (q : ℕ) (d : CopyNo) (is_in : IsIn k v.net.0 (Some q) d) (lasts : List ℕ) (room : q < length lasts) (before : IsUpTo us t j) (old : AreLatest k us j lasts) where
+that_one : (o : Option ℕ) (p : ℕ) → is_that o p ≡ true → o ≡ Some p
+that_one None p e = absurd (cc)
+that_one (Some q) p e = ap Some (eqb-true q p e)
+
+not_that : (o : Option ℕ) (p : ℕ) → is_that o p ≡ false → o ≢ Some p
+not_that o p e same = absurd (let t : is_that o p ≡ true = ap (λ (r : Option ℕ). is_that r p) same ∙ eq-eqb p p refl in cc)
+
+pub struck_same : (o : Option ℕ) (p last : ℕ) (lasts : List ℕ) → o ≡ Some p → p < length lasts → slice_index (with_strike o last lasts) p ≡ last
+struck_same o p last lasts e l = ap (λ (r : Option ℕ). slice_index (with_strike r last lasts) p) e ∙ get_or-set_same lasts p last 0 l
+
+pub struck_other : (o : Option ℕ) (p last : ℕ) (lasts : List ℕ) → o ≢ Some p → slice_index (with_strike o last lasts) p ≡ slice_index lasts p
+struck_other None p last lasts e = refl
+struck_other (Some q) p last lasts e = get_or-set_other lasts q p last 0 (λ same. e (ap Some (sym same)))
+
+pub struck_length : (o : Option ℕ) (last : ℕ) (lasts : List ℕ) → length (with_strike o last lasts) ≡ length lasts
+struck_length None last lasts = refl
+struck_length (Some p) last lasts = length-set lasts p last
+
+module _ (k : PlainCert) (us : List Upset) (t j : ℕ) (v : Upset) (there : slice_get us j ≡ Some v) (cycle : v.cycle ≡ t) (lasts : List ℕ) (room : length lasts ≡ length k.depth) (in_range : (p : ℕ) → strikes k p v ≡ true → p < length k.depth) (before : IsUpTo us t j) (old : AreLatest k us j lasts) where
+  abbrev After : List ℕ
+  After = with_strike (part_of_role k (role_of k v.net.0)) (t + 1) lasts
+
   pub up_to_more : IsUpTo us t (j + 1)
   up_to_more i u l at = go (equal_or_not i j)
     where
@@ -126,54 +143,78 @@ module _ (k : PlainCert) (us : List Upset) (t j : ℕ) (v : Upset) (there : slic
       go (inl e) = let same : u ≡ v = let f : slice_get us j ≡ Some u = subst (λ (m : ℕ). slice_get us m ≡ Some u) e at in cc in let c = ap (λ (w : Upset). w.cycle) same in omega arith
       go (inr e) = before i u (omega arith) at
 
-  here : slice_index (slice_set lasts q (t + 1)) q ≡ t + 1
-  here = get_or-set_same lasts q (t + 1) 0 room
+  here : (p : ℕ) → strikes k p v ≡ true → slice_index After p ≡ t + 1
+  here p e = struck_same (part_of_role k (role_of k v.net.0)) p (t + 1) lasts (that_one (part_of_role k (role_of k v.net.0)) p e) (let l = in_range p e in omega arith)
 
-  latest_here : (i : ℕ) (u : Upset) (p : ℕ) → i < j + 1 → slice_get us i ≡ Some u → strikes k p u ≡ true → u.cycle < slice_index (slice_set lasts q (t + 1)) p
-  latest_here i u p l at strike = go (equal_or_not p q) (equal_or_not i j)
+  elsewhere : (p : ℕ) → strikes k p v ≡ false → slice_index After p ≡ slice_index lasts p
+  elsewhere p e = struck_other (part_of_role k (role_of k v.net.0)) p (t + 1) lasts (not_that (part_of_role k (role_of k v.net.0)) p e)
+
+  latest_here : (i : ℕ) (u : Upset) (p : ℕ) → i < j + 1 → slice_get us i ≡ Some u → strikes k p u ≡ true → u.cycle < slice_index After p
+  latest_here i u p l at strike = go (strikes k p v) refl (equal_or_not i j)
     where
       low : u.cycle ≤ t
       low = up_to_more i u l at
 
-      go : (p ≡ q) ⊎ (p ≢ q) → (i ≡ j) ⊎ (i ≢ j) → u.cycle < slice_index (slice_set lasts q (t + 1)) p
-      go (inl e) r = subst (λ (m : ℕ). u.cycle < slice_index (slice_set lasts q (t + 1)) m) (sym e) (let h = here in let c = low in omega arith)
-      go (inr e) (inl f) =
+      go : (b : Bool) → strikes k p v ≡ b → (i ≡ j) ⊎ (i ≢ j) → u.cycle < slice_index After p
+      go true e r = let h = here p e in let c = low in omega arith
+      go false e (inl f) =
           let same : u ≡ v = let g : slice_get us j ≡ Some u = subst (λ (m : ℕ). slice_get us m ≡ Some u) f at in cc in
-          let hits : nat_eq q p ≡ true = sym (strikes_there k v p q d is_in) ∙ subst (λ (w : Upset). strikes k p w ≡ true) same strike in
-          absurd (e (sym (eqb-true q p hits)))
-      go (inr e) (inr f) = let o = old.latest i u p (omega arith) at strike in subst (λ (m : ℕ). u.cycle < m) (sym (get_or-set_other lasts q p (t + 1) 0 e)) o
+          absurd (let hits : strikes k p v ≡ true = subst (λ (w : Upset). strikes k p w ≡ true) same strike in cc)
+      go false e (inr f) = let o = old.latest i u p (omega arith) at strike in subst (λ (m : ℕ). u.cycle < m) (sym (elsewhere p e)) o
 
-  reached_here : (p : ℕ) → p < length k.depth → 0 < slice_index (slice_set lasts q (t + 1)) p → IsLastStrike k us (j + 1) p (slice_index (slice_set lasts q (t + 1)) p)
-  reached_here p l some = go (equal_or_not p q)
+  reached_here : (p : ℕ) → p < length k.depth → 0 < slice_index After p → IsLastStrike k us (j + 1) p (slice_index After p)
+  reached_here p l some = go (strikes k p v) refl
     where
-      go : (p ≡ q) ⊎ (p ≢ q) → IsLastStrike k us (j + 1) p (slice_index (slice_set lasts q (t + 1)) p)
-      go (inl e) = record {
+      go : (b : Bool) → strikes k p v ≡ b → IsLastStrike k us (j + 1) p (slice_index After p)
+      go true e = record {
         place = j;
         upset = v;
         within = omega arith;
         there = there;
-        strike = strikes_there k v p q d is_in ∙ eq-eqb q p (sym e);
-        cycle = subst (λ (m : ℕ). v.cycle + 1 ≡ slice_index (slice_set lasts q (t + 1)) m) (sym e) (ap (λ (m : ℕ). m + 1) cycle ∙ sym here);
+        strike = e;
+        cycle = ap (λ (m : ℕ). m + 1) cycle ∙ sym (here p e);
       }
-      go (inr e) =
-          let same = get_or-set_other lasts q p (t + 1) 0 e in
+      go false e =
+          let same = elsewhere p e in
           let o = old.reached p l (omega arith) in
           record { place = o.place; upset = o.upset; within = let w = o.within in omega arith; there = o.there; strike = o.strike; cycle = o.cycle ∙ sym same }
 
-  pub latest_more : AreLatest k us (j + 1) (slice_set lasts q (t + 1))
+  pub latest_more : AreLatest k us (j + 1) After
   latest_more = record { latest = latest_here; reached = reached_here }
+
+-- what is struck is a partition
+part_range : (k : PlainCert) → IsCert k → (h p : ℕ) → part_of_role k (role_of k h) ≡ Some p → p < length k.depth
+part_range k is h p = go (role_of k h) refl
+  where
+    part_in_range : (x q : ℕ) → slot k.original_inputs k.part x ≡ Some q → q < length k.depth
+    part_in_range x q e =
+        let (low, high) = slot_within k.original_inputs k.part x q e in
+        let at : slice_get k.part (x - k.original_inputs) ≡ Some q = sym (slot_at k.original_inputs k.part x low) ∙ e in
+        let same = get_or_from_slice_get k.part (x - k.original_inputs) q q at in
+        subst (λ (m : ℕ). m < length k.depth) same (is.parts_in_range (x - k.original_inputs) q (omega arith))
+
+    go : (o : Option Role) → role_of k h ≡ o → part_of_role k o ≡ Some p → p < length k.depth
+    go None at e = absurd (cc)
+    go (Some (Copy x c)) at e = part_in_range x.0 p e
+    go (Some (Voter x q c)) at e = let r = is.roles_in_range h (Voter x q c) at in let same : q.0 ≡ p = cc in subst (λ (m : ℕ). m < length k.depth) same r.2
+
+pub strike_range : (k : PlainCert) → IsCert k → (v : Upset) (p : ℕ) → strikes k p v ≡ true → p < length k.depth
+strike_range k is v p e = part_range k is v.net.0 p (that_one (part_of_role k (role_of k v.net.0)) p e)
 
 one : {A : Type 0} (P : A → Type 0) (x : A) → P x → All P (x ∷ [])
 one P x p zero d h = p
 one P x p (suc i) d h = absurd (omega arith)
 
-pub nodes_more : (low high : ℕ) (fs new : List (NetId × Bool)) (f : NetId × Bool) → All (λ f. (low ≤ f.0.0) × (f.0.0 < high)) fs → low ≤ f.0.0 → f.0.0 < high → new ≡ fs ++ f ∷ [] → All (λ f. (low ≤ f.0.0) × (f.0.0 < high)) new
-nodes_more low high fs new f all l h e = subst (λ (gs : List (NetId × Bool)). All (λ f. (low ≤ f.0.0) × (f.0.0 < high)) gs) (sym e) (All-append (λ f. (low ≤ f.0.0) × (f.0.0 < high)) fs (f ∷ []) all (λ i d m. one (λ f. (low ≤ f.0.0) × (f.0.0 < high)) f (l, h) i d m))
+pub nets_more : (high : ℕ) (fs new : List (NetId × Bool)) (f : NetId × Bool) → All (λ f. f.0.0 < high) fs → f.0.0 < high → new ≡ fs ++ f ∷ [] → All (λ f. f.0.0 < high) new
+nets_more high fs new f all h e = subst (λ (gs : List (NetId × Bool)). All (λ f. f.0.0 < high) gs) (sym e) (All-append (λ f. f.0.0 < high) fs (f ∷ []) all (λ i d m. one (λ f. f.0.0 < high) f h i d m))
 
 -- a row three times
 length_spread : (row : List Bool) → length (spread_row row) ≡ 3 * length row
 length_spread [] = refl
 length_spread (b ∷ row) = let more = length_spread row in omega arith
+
+pub all_spread : (row : List Bool) → length (spread_row row) ≡ 3 * length row
+all_spread row = length_spread row
 
 pub spread_is : (row spread : List Bool) → length spread ≡ 3 * length row
     → ((k : ℕ) → k < length row → get_or spread (3 * k) false ≡ bit row k) → ((k : ℕ) → k < length row → get_or spread (3 * k + 1) false ≡ bit row k) → ((k : ℕ) → k < length row → get_or spread (3 * k + 2) false ≡ bit row k)

@@ -1,5 +1,5 @@
 -- The document of a schedule file: what it says, or its first fault.
-use Rattle.std.specs.Prelude.{◌≡◌, ℕ, ◌+◌, ◌==◌, ℤ, pos, negsuc, Bool, true, false, not, ◌&&◌, ◌||◌, nat_eq, nat_le, nat_lt, List, [], ◌∷◌, ◌++◌, map, length, Option, Some, None, Result, Ok, Err, option_and_then, codes, if◌then◌else◌}
+use Rattle.std.specs.Prelude.{◌≡◌, ℕ, ◌+◌, ◌==◌, ℤ, pos, negsuc, Bool, true, false, not, ◌&&◌, ◌||◌, nat_eq, nat_le, nat_lt, List, [], ◌∷◌, ◌++◌, map, replicate, count_by, length, Option, Some, None, Result, Ok, Err, option_and_then, codes, if◌then◌else◌}
 use Rattle.std.specs.List.{list_all, list_any}
 use Rattle.std.specs.Str.{is_utf8, bytes_eq}
 use Rattle.toml.specs.Data.{Data, integer, Items, no_items, item, Members, no_members, member, get_member, as_array, as_str, as_table, as_integer}
@@ -18,9 +18,9 @@ abbrev pub only_keys : (List ℕ → Bool) → Members → Bool
 only_keys known no_members = true
 only_keys known (member key value rest) = known key && only_keys known rest
 
--- the keys that a schedule file may have
-abbrev pub is_file_key : List ℕ → Bool
-is_file_key key = bytes_eq key (codes "inputs") || bytes_eq key (codes "upset")
+-- the keys that a schedule file may have; start values come with version 2
+abbrev pub is_file_key : ℕ → List ℕ → Bool
+is_file_key version key = bytes_eq key (codes "inputs") || (bytes_eq key (codes "upset") || (not (nat_eq version 1) && bytes_eq key (codes "start")))
 
 -- the keys of an upset
 abbrev pub is_upset_key : List ℕ → Bool
@@ -52,6 +52,14 @@ bits_of_text width text = if nat_eq (length text) width && list_all is_bit text 
 
 abbrev pub row_of : ℕ → Data → Option (List Bool)
 row_of width d = option_and_then (bits_of_text width) (as_str d)
+
+abbrev pub starts_in : ℕ → Option Data → Option (List Bool)
+starts_in count None = Some (replicate count false)
+starts_in count (Some d) = row_of count d
+
+-- the start values, where the key holds a text of one `0` or `1` for each; without the key all are 0
+abbrev pub starts_of : ℕ → Members → Option (List Bool)
+starts_of count top = starts_in count (get_member (codes "start") top)
 
 -- a number from 0
 abbrev pub natural : ℤ → Option ℕ
@@ -87,13 +95,13 @@ entry_in ms =
 abbrev pub entry_of : Data → Option Entry
 entry_of d = option_and_then entry_in (as_table d)
 
--- a net that is no input
-abbrev pub node_at : ℕ → ℕ → Option ℕ
-node_at inputs x = if nat_le inputs x then Some x else None
+-- a net that may be struck: in version 1 none of the inputs
+abbrev pub struck_at : ℕ → ℕ → ℕ → Option ℕ
+struck_at version inputs x = if not (nat_eq version 1) || nat_le inputs x then Some x else None
 
--- the node with this name
-abbrev pub node_named : Net → List ℕ → Option ℕ
-node_named h name = option_and_then (node_at (length h.inputs)) (net_named h name)
+-- the net with this name, if it may be struck
+abbrev pub struck_named : ℕ → Net → List ℕ → Option ℕ
+struck_named version h name = option_and_then (struck_at version (length h.inputs)) (net_named h name)
 
 -- some upset has this cycle and net
 abbrev pub is_listed : List Upset → ℕ → ℕ → Bool
@@ -110,18 +118,18 @@ known cycles j earlier e None = Err (fault.UnknownNet j)
 known cycles j earlier e (Some net) = placed cycles j earlier e.cycle e.value net
 
 -- upset j, after the earlier ones
-abbrev pub upset_of : Net → ℕ → ℕ → List Upset → Option Entry → Result Upset ScheduleFault
-upset_of h cycles j earlier None = Err (fault.Entry j)
-upset_of h cycles j earlier (Some e) = known cycles j earlier e (node_named h e.net)
+abbrev pub upset_of : ℕ → Net → ℕ → ℕ → List Upset → Option Entry → Result Upset ScheduleFault
+upset_of version h cycles j earlier None = Err (fault.Entry j)
+upset_of version h cycles j earlier (Some e) = known cycles j earlier e (struck_named version h e.net)
 
 abbrev pub and_then : {A B : Type 0} → Result A ScheduleFault → (A → Result B ScheduleFault) → Result B ScheduleFault
 and_then (Ok a) f = f a
 and_then (Err e) f = Err e
 
 -- the earlier upsets and those that the entries are, counted from j
-abbrev pub upsets_from : Net → ℕ → ℕ → List Upset → List Data → Result (List Upset) ScheduleFault
-upsets_from h cycles j earlier [] = Ok earlier
-upsets_from h cycles j earlier (d ∷ ds) = and_then (upset_of h cycles j earlier (entry_of d)) (λ u. upsets_from h cycles (j + 1) (earlier ++ u ∷ []) ds)
+abbrev pub upsets_from : ℕ → Net → ℕ → ℕ → List Upset → List Data → Result (List Upset) ScheduleFault
+upsets_from version h cycles j earlier [] = Ok earlier
+upsets_from version h cycles j earlier (d ∷ ds) = and_then (upset_of version h cycles j earlier (entry_of d)) (λ u. upsets_from version h cycles (j + 1) (earlier ++ u ∷ []) ds)
 
 abbrev pub row_or_fault : ℕ → Option (List Bool) → Result (List Bool) ScheduleFault
 row_or_fault t None = Err (fault.Row t)
@@ -132,25 +140,35 @@ abbrev pub rows_from : ℕ → ℕ → List (List Bool) → List Data → Result
 rows_from width t earlier [] = Ok earlier
 rows_from width t earlier (d ∷ ds) = and_then (row_or_fault t (row_of width d)) (λ row. rows_from width (t + 1) (earlier ++ row ∷ []) ds)
 
--- the rows, and the upsets in the order of the file
+abbrev pub starts_or_fault : Option (List Bool) → Result (List Bool) ScheduleFault
+starts_or_fault None = Err fault.Start
+starts_or_fault (Some starts) = Ok starts
+
+-- the rows, the start values, and the upsets in the order of the file
 pub record Listed : Type 0 where
   pub rows : List (List Bool)
+  pub starts : List Bool
   pub upsets : List Upset
 
-abbrev pub listed : Net → Net → List Data → List Data → Result Listed ScheduleFault
-listed n h rows ups =
+abbrev pub listed : ℕ → Net → Net → Option (List Bool) → List Data → List Data → Result Listed ScheduleFault
+listed version n h starts rows ups =
     if nat_lt 1048576 (length rows) || nat_lt 1048576 (length ups) then Err fault.TooMany
-    else and_then (rows_from (length n.inputs) 0 [] rows) (λ rs. and_then (upsets_from h (length rs) 0 [] ups) (λ us. Ok (record { rows = rs; upsets = us })))
+    else and_then (starts_or_fault starts) (λ ss.
+    and_then (rows_from (length n.inputs) 0 [] rows) (λ rs.
+    and_then (upsets_from version h (length rs) 0 [] ups) (λ us. Ok (record { rows = rs; starts = ss; upsets = us }))))
 
-abbrev pub arrays_listed : Net → Net → Option Items → Option Items → Result Listed ScheduleFault
-arrays_listed n h None ups = Err fault.Top
-arrays_listed n h (Some rows) None = Err fault.Top
-arrays_listed n h (Some rows) (Some ups) = listed n h (list_of rows) (list_of ups)
+abbrev pub arrays_listed : ℕ → Net → Net → Option (List Bool) → Option Items → Option Items → Result Listed ScheduleFault
+arrays_listed version n h starts None ups = Err fault.Top
+arrays_listed version n h starts (Some rows) None = Err fault.Top
+arrays_listed version n h starts (Some rows) (Some ups) = listed version n h starts (list_of rows) (list_of ups)
 
-abbrev pub document_listed : Net → Net → Option Members → Result Listed ScheduleFault
-document_listed n h None = Err fault.NotToml
-document_listed n h (Some top) = if only_keys is_file_key top then arrays_listed n h (inputs_of top) (upsets_of top) else Err fault.Top
+-- what a document says, where there are so many start values
+abbrev pub document_listed : ℕ → ℕ → Net → Net → Option Members → Result Listed ScheduleFault
+document_listed version count n h None = Err fault.NotToml
+document_listed version count n h (Some top) =
+    if only_keys (is_file_key version) top then arrays_listed version n h (starts_of count top) (inputs_of top) (upsets_of top) else Err fault.Top
 
--- what a schedule file says of these designs, or its first fault
-unfoldable pub sched_of : List ℕ → Net → Net → Result Listed ScheduleFault
-sched_of bytes n h = document_listed n h (document bytes)
+-- what a schedule file says of these designs, or its first fault: n is the original with its marks, h the hardened design.
+-- In version 1 nothing is marked, so there are no start values.
+unfoldable pub sched_of : ℕ → List ℕ → Net → List Bool → Net → Result Listed ScheduleFault
+sched_of version bytes n free h = document_listed version (count_by (λ mark. mark) free) n h (document bytes)

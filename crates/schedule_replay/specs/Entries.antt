@@ -1,5 +1,5 @@
 -- Upsets by cycle and net.
-use Rattle.std.specs.Prelude.{◌≡◌, ℕ, Bool, List, [], ◌∷◌, map, length}
+use Rattle.std.specs.Prelude.{◌≡◌, ℕ, Bool, List, [], ◌∷◌, map, length, Contains, ◌↔◌}
 use Rattle.std.specs.declared.cmp.Ordering.{Ordering}
 use Rattle.std.specs.Ordering.{nat_cmp, ordering_then}
 use Rattle.std.specs.BTreeMap as tree
@@ -24,9 +24,11 @@ Holds m us = (cycle net : ℕ) → tree.get place_cmp m (cycle, net) ≡ upset_a
 abbrev pub plain_entry : Written → Entry
 plain_entry w = record { cycle = w.cycle; net = w.net.now; value = w.value }
 
--- the schedule has the rows, and strikes each net in each cycle alike
-pub record IsScheduleOf (inputs : ℕ) (l : Listed) (s : PlainSchedule) : Type 0 where
+-- the schedule has the rows, the start values and the upsets that the file lists, and nothing else
+pub record HasWhatIsListed (inputs : ℕ) (l : Listed) (s : PlainSchedule) : Type 0 where
   pub inputs_are : s.inputs ≡ inputs
   pub rows : s.rows ≡ l.rows
+  pub starts : s.starts ≡ l.starts
   pub count : length s.upsets ≡ length l.upsets
+  pub members : (u : Upset) → Contains s.upsets u ↔ Contains l.upsets u
   pub upsets : (cycle net : ℕ) → upset_at s.upsets cycle net ≡ upset_at l.upsets cycle net

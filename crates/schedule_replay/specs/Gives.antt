@@ -1,7 +1,7 @@
 -- What a reading call answers.
 use Rattle.std.specs.Prelude.{◌≡◌, Result, Ok, Err}
 use Rattle.schedule_replay.specs.declared.fault.ScheduleFault.{ScheduleFault}
-use Rattle.schedule_replay.specs.declared.fault.ScheduleFault.TheVariants.{NotToml, Top, TooMany, Row, Entry, UnknownNet, Range, Doubled, Memory}
+use Rattle.schedule_replay.specs.declared.fault.ScheduleFault.TheVariants.{NotToml, Top, TooMany, Row, Entry, UnknownNet, Range, Doubled, Start, Memory}
 
 -- the fault is the one that reading gives, unless memory ran out
 abbrev pub Fails : {Y : Type 0} → ScheduleFault → Result Y ScheduleFault → Type 0
@@ -13,6 +13,7 @@ Fails (Entry j) read = read ≡ Err (Entry j)
 Fails (UnknownNet j) read = read ≡ Err (UnknownNet j)
 Fails (Range j) read = read ≡ Err (Range j)
 Fails (Doubled j) read = read ≡ Err (Doubled j)
+Fails Start read = read ≡ Err Start
 Fails Memory read = Unit {0}
 
 -- what a call returned, seen by view, is what reading gives, unless memory ran out

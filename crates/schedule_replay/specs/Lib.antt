@@ -2,10 +2,13 @@ pub mod Allowing
 pub mod Document
 pub mod Entries
 pub mod Gives
+pub mod Many
 pub mod Outcome
 pub mod OutcomeView
 pub mod Reading
 pub mod Running
 pub mod Schedule
+pub mod Starts
 pub mod Striking
 pub mod View
+pub mod Waves

@@ -5,12 +5,15 @@ use Rattle.tmr_base.specs.declared.copies.CopyNo.{CopyNo}
 use Rattle.tmr_base.specs.declared.copies.CopyNo.TheVariants.{First, Second, Third}
 use Rattle.tmr_base.specs.declared.ids.Upset.{Upset}
 use Rattle.flat_net.specs.Net.{Net}
-use Rattle.net_meaning.specs.Meaning.{value_at}
+use Rattle.net_meaning.specs.Meaning.{value_at, spread, IsFreeTrace, IsFreeFaultTrace, HasOneTrace}
 use Rattle.certificate.specs.declared.role.Role.{Role}
 use Rattle.certificate.specs.declared.role.Role.TheVariants.{Copy, Voter}
 use Rattle.certificate.specs.Cert.{PlainCert, role_of, part_of, depth_of, copy_of}
 use Rattle.certificate.specs.Schedules.{Allowed}
+use Rattle.certificate.specs.Starts.{counted, spread_start}
 use Rattle.schedule_replay.specs.declared.outcome.Difference.{Difference}
+use Rattle.schedule_replay.specs.Schedule.{PlainSchedule}
+use Rattle.schedule_replay.specs.Starts.{given_starts}
 
 abbrev pub bits_differ : Bool → Bool → Bool
 bits_differ true b = not b
@@ -113,6 +116,17 @@ pub record IsOutcome (n h : Net) (k : PlainCert) (s : List Upset) (tr ft : List 
   pub allowed : IsTrue o.allowed ↔ Allowed s k
   pub counts : Counts (outputs_until n h tr ft cycles) o.first o.differences o.wrong
   pub late : o.late ≡ late_until n k s tr ft cycles
+
+-- what a replay tells: there is one trace of the original over the schedule's rows and one of the hardened design with its upsets
+-- too, and the outcome is that of these two. f and g are the marks of n and h, w and u their start values.
+pub record IsReplayOf (n : Net) (f w : List Bool) (h : Net) (g u : List Bool) (k : PlainCert) (s : PlainSchedule) (o : PlainOutcome) : Type 0 where
+  pub original : HasOneTrace n f w s.rows []
+  pub hardened : HasOneTrace h g u (spread s.rows) s.upsets
+  pub outcome : (tr ft : List (List Bool)) → IsFreeTrace n f w s.rows tr → IsFreeFaultTrace h g u (spread s.rows) s.upsets ft → IsOutcome n h k s.upsets tr ft (length s.rows) o
+
+-- the same with the marks that count by the certificate, where the marked registers have the schedule's start values
+abbrev pub IsFreeReplay : Net → List Bool → Net → List Bool → PlainCert → PlainSchedule → PlainOutcome → Type 0
+IsFreeReplay n f h g k s o = IsReplayOf n (counted k f) (given_starts k f s) h (counted k g) (spread_start k (given_starts k f s)) k s o
 
 -- the cycle behind the last upset of each partition, up to cycle t, tells whether the partition is quiet
 abbrev pub TellQuiet : PlainCert → List Upset → ℕ → List ℕ → Type 0

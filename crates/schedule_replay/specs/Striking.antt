@@ -1,5 +1,5 @@
--- Which upsets of a schedule were taken, and the last ones of each partition.
-use Rattle.std.specs.Prelude.{◌≡◌, ℕ, ◌+◌, ◌<◌, ◌≤◌, Bool, true, List, length, slice_get, slice_index, Some}
+-- Which upsets of a schedule were taken, and the last ones of each partition. Private functions alone cite it.
+use Rattle.std.specs.Prelude.{◌≡◌, ℕ, ◌+◌, ◌<◌, ◌≤◌, Bool, true, List, length, slice_get, slice_index, slice_set, Option, Some, None}
 use Rattle.tmr_base.specs.declared.ids.Upset.{Upset}
 use Rattle.certificate.specs.Cert.{PlainCert}
 use Rattle.schedule_replay.specs.Outcome.{strikes}
@@ -22,6 +22,11 @@ pub record IsLastStrike (k : PlainCert) (us : List Upset) (count p last : ℕ) :
 pub record AreLatest (k : PlainCert) (us : List Upset) (count : ℕ) (lasts : List ℕ) : Type 0 where
   pub latest : (j : ℕ) (u : Upset) (p : ℕ) → j < count → slice_get us j ≡ Some u → strikes k p u ≡ true → u.cycle < slice_index lasts p
   pub reached : (p : ℕ) → p < length k.depth → 0 < slice_index lasts p → IsLastStrike k us count p (slice_index lasts p)
+
+-- the partition that was struck has this as the cycle behind its last upset
+abbrev pub with_strike : Option ℕ → ℕ → List ℕ → List ℕ
+with_strike None last lasts = lasts
+with_strike (Some p) last lasts = slice_set lasts p last
 
 -- the first upsets are in cycles up to t
 abbrev pub IsUpTo : List Upset → ℕ → ℕ → Type 0

@@ -5,7 +5,7 @@ use Rattle.schedule_replay.specs.declared.schedule.Schedule.TheInside.{Inside}
 use Rattle.schedule_replay.specs.Schedule.{PlainSchedule, IsPlainSchedule}
 
 abbrev pub schedule_of : Inside → PlainSchedule
-schedule_of s = record { inputs = s.inputs; rows = cut_rows s.inputs s.cycles s.bits.items; upsets = s.upsets.items }
+schedule_of s = record { inputs = s.inputs; rows = cut_rows s.inputs s.cycles s.bits.items; starts = s.starts.items; upsets = s.upsets.items }
 
 -- the rows stand one after the other
 pub record IsKept (s : Inside) : Type 0 where

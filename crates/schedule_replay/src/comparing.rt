@@ -16,7 +16,7 @@ use tmr_base::{CopyNo, NetId, OutOfMemory};
 
 /// Output i and its copies in cycle t.
 #[tactic(auto, using(crate::proofs::SeenLaws::outputs))]
-fn read_output(
+pub fn read_output(
     n: &FlatNet,
     h: &FlatNet,
     t: u32,

@@ -1,10 +1,10 @@
 //! The document of a schedule file, and its parts.
-ghost use Rattle.std.specs.Prelude.{◌≡◌, ◌⊎◌, ◌==◌, ◌||◌, ◌&&◌, ◌++◌, ℕ, Bool, true, false, IfOk, IsErrOf, IfErr, IfSome, IsTrue, ◌↔◌, OnOk, option_map, map, nat_eq, string_bytes, None, Some, option_and_then, codes, length};
+ghost use Rattle.std.specs.Prelude.{◌≡◌, ◌⊎◌, ◌==◌, ◌||◌, ◌&&◌, ◌++◌, ℕ, Bool, true, false, IfOk, IsErrOf, IfErr, IfSome, IsTrue, ◌↔◌, OnOk, option_map, map, nat_eq, string_bytes, None, Some, option_and_then, codes, length, replicate};
 ghost use Rattle.std.specs.List.{list_all};
 ghost use Rattle.std.specs.BTreeMap.{keys};
 ghost use Rattle.toml.specs.Data.{get_member, as_str};
 ghost use Rattle.toml.specs.View.{view, table_view, array_view, items_view};
-ghost use Rattle.schedule_replay.specs.Document.{document as document_of, only_keys, is_file_key, is_upset_key, inputs_of, upsets_of, is_bit, bits_of_text, row_of, natural, natural_at, bit_of_number};
+ghost use Rattle.schedule_replay.specs.Document.{document as document_of, only_keys, is_file_key, is_upset_key, inputs_of, upsets_of, starts_of, is_bit, row_of, natural, natural_at, bit_of_number};
 
 use crate::ScheduleFault;
 use std::alloc::Global;
@@ -28,24 +28,25 @@ pub fn read_document(alloc: Global, bytes: &[u8]) -> Result<Table, ScheduleFault
     }
 }
 
-fn is_known_file_key(key: &String) -> bool
-    ensures { result ≡ is_file_key (string_bytes key.now) }
+fn is_known_file_key(version: u8, key: &String) -> bool
+    ensures { result ≡ is_file_key version (string_bytes key.now) }
 {
-    key.as_str() == "inputs" || key.as_str() == "upset"
+    key.as_str() == "inputs"
+        || (key.as_str() == "upset" || (version != 1 && key.as_str() == "start"))
 }
 
-fn all_file_keys(top: &Table) -> bool
-    ensures { result ≡ list_all (λ key. is_file_key (string_bytes key)) (keys top.now) }
+fn all_file_keys(version: u8, top: &Table) -> bool
+    ensures { result ≡ list_all (λ key. is_file_key version (string_bytes key)) (keys top.now) }
 {
-    top.keys().all(|key| is_known_file_key(key))
+    top.keys().all(|key| is_known_file_key(version, key))
 }
 
-/// There is no key but the two.
+/// There is no key but those of this version.
 #[tactic(auto, using(crate::proofs::Documents::parts))]
-pub fn has_file_keys(top: &Table) -> bool
-    ensures { result ≡ only_keys is_file_key (table_view top.now) }
+pub fn has_file_keys(version: u8, top: &Table) -> bool
+    ensures { result ≡ only_keys (is_file_key version) (table_view top.now) }
 {
-    all_file_keys(top)
+    all_file_keys(version, top)
 }
 
 fn is_known_upset_key(key: &String) -> bool
@@ -124,6 +125,7 @@ fn push_bits(text: &[u8], bits: &mut Vec<bool>) -> Result<(), OutOfMemory>
 pub fn read_row(value: &Value, width: usize, bits: &mut Vec<bool>) -> Result<bool, OutOfMemory>
     ensures yes { result ≡ Ok true → row_of width (view value.now) ≡ Some bits.new.items }
     ensures no { result ≡ Ok false → row_of width (view value.now) ≡ None }
+    ensures long { result ≡ Ok true → length bits.new.items ≡ width }
 {
     bits.clear();
     match value.as_str() {
@@ -136,6 +138,42 @@ pub fn read_row(value: &Value, width: usize, bits: &mut Vec<bool>) -> Result<boo
             push_bits(text, bits)?;
             Ok(true)
         }
+    }
+}
+
+/// The bits of a text of so many.
+fn text_bits(alloc: Global, value: &Value, count: usize) -> Result<Option<Vec<bool>>, OutOfMemory>
+    ensures bits { IfOk result (λ o. option_map (λ v. v.items) o ≡ row_of count (view value.now)) }
+    ensures long { IfOk result (λ o. IfSome o (λ v. length v.items ≡ count)) }
+{
+    let mut bits = Vec::new(alloc);
+    match read_row(value, count, &mut bits) {
+        Err(error) => Err(error),
+        Ok(true) => Ok(Some(bits)),
+        Ok(false) => Ok(None),
+    }
+}
+
+/// So many bits that are 0.
+fn zeros(alloc: Global, count: usize) -> Result<Vec<bool>, OutOfMemory>
+    ensures items { IfOk result (λ v. v.items ≡ replicate count false) }
+    ensures long { IfOk result (λ v. length v.items ≡ count) }
+{
+    Ok(Vec::from_elem(alloc, false, count)?)
+}
+
+/// The start values, where the key holds a text of so many or is not there.
+pub fn read_starts(
+    alloc: Global,
+    top: &Table,
+    count: usize,
+) -> Result<Option<Vec<bool>>, OutOfMemory>
+    ensures bits { IfOk result (λ o. option_map (λ v. v.items) o ≡ starts_of count (table_view top.now)) }
+    ensures long { IfOk result (λ o. IfSome o (λ v. length v.items ≡ count)) }
+{
+    match member(top, "start") {
+        None => Ok(Some(zeros(alloc, count)?)),
+        Some(value) => text_bits(alloc, value, count),
     }
 }
 

@@ -1,10 +1,10 @@
 //! The entries of a schedule's upsets.
 ghost use Rattle.std.specs.Prelude.{◌≡◌, ◌<◌, ◌≤◌, IfOk, IfSome, length, map, option_map};
 ghost use Rattle.toml.specs.View.{view, table_view};
-ghost use Rattle.flat_net.specs.Net.{net_count};
 ghost use Rattle.flat_net.specs.Nodes.{number_of};
-ghost use Rattle.schedule_replay.specs.Document.{entry_of, entry_in as entry_in_of, node_named};
+ghost use Rattle.schedule_replay.specs.Document.{entry_of, entry_in as entry_in_of, struck_named};
 ghost use Rattle.schedule_replay.specs.Entries.{plain_entry};
+ghost use Rattle.schedule_replay.specs.Reading.{CanBeStruck};
 
 use crate::document::{bit_at, has_upset_keys, number_at, text_at};
 use flat_net::FlatNet;
@@ -47,12 +47,16 @@ pub fn read_entry(value: &Value) -> Option<Written<'_>>
     }
 }
 
-/// The node with this name.
+/// The net with this name, if it may be struck: in version 1 that is a node.
 #[tactic(auto, using(certificate::proofs::Names::names))]
-pub fn find_node(alloc: Global, h: &FlatNet, name: &str) -> Result<Option<NetId>, OutOfMemory>
-    ensures node { IfOk result (λ x. option_map number_of x ≡ node_named h.now.net name.now) }
-    ensures low { IfOk result (λ x. IfSome x (λ x. length h.now.net.inputs ≤ x.0)) }
-    ensures high { IfOk result (λ x. IfSome x (λ x. x.0 < net_count h.now.net)) }
+pub fn find_net(
+    alloc: Global,
+    version: u8,
+    h: &FlatNet,
+    name: &str,
+) -> Result<Option<NetId>, OutOfMemory>
+    ensures net { IfOk result (λ x. option_map number_of x ≡ struck_named version h.now.net name.now) }
+    ensures struck { IfOk result (λ x. IfSome x (λ x. CanBeStruck version h.now.net x.0)) }
 {
     let inputs = h.input_count();
     match Name::read(alloc, name.as_bytes()) {
@@ -60,7 +64,13 @@ pub fn find_node(alloc: Global, h: &FlatNet, name: &str) -> Result<Option<NetId>
         Err(NameFault::Bad) => Ok(None),
         Ok(name) => match h.find(&name) {
             None => Ok(None),
-            Some(x) => { if x.0 < inputs { Ok(None) } else { Ok(Some(x)) } }
+            Some(x) => {
+                if version != 1 || inputs <= x.0 {
+                    Ok(Some(x))
+                } else {
+                    Ok(None)
+                }
+            }
         },
     }
 }

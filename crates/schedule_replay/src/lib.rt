@@ -13,11 +13,15 @@ mod outcome;
 mod reading;
 mod replaying;
 mod rows;
+mod running;
 mod schedule;
+mod starts;
+mod waving;
 
 pub use allowing::is_allowed;
 pub use fault::ScheduleFault;
 pub use outcome::{Difference, Outcome};
-pub use reading::read_schedule;
-pub use replaying::replay;
+pub use reading::{read_schedule, read_schedule_free};
+pub use replaying::{replay, replay_free, replay_wide};
 pub use schedule::Schedule;
+pub use waving::wave_values;

@@ -1,34 +1,28 @@
 //! Replays a schedule on a design and its hardened form.
-ghost use Rattle.std.specs.Prelude.{◌≡◌, ◌+◌, ◌*◌, ◌<◌, ◌≤◌, ℕ, List, Bool, All, OnOk, IfOk, None, length, replicate};
+ghost use Rattle.std.specs.Prelude.{◌≡◌, ◌+◌, ◌*◌, ◌<◌, ◌≤◌, ℕ, List, Bool, All, OnOk, IfOk, IsTrue, None, [], length};
+ghost use Rattle.flat_net.specs.Net.{net_count};
 ghost use Rattle.certificate.specs.Cert.{Fits};
-ghost use Rattle.net_meaning.specs.Meaning.{IsTrace, IsFaultTrace, spread};
-ghost use Rattle.schedule_replay.specs.Outcome.{IsOutcome};
+ghost use Rattle.net_meaning.specs.Meaning.{IsFreeTrace, IsFreeFaultTrace, spread};
+ghost use Rattle.validator.specs.Masking.{Masks, FreeMasks};
+ghost use Rattle.schedule_replay.specs.Many.{HaveOneLength, AreReplaysOf};
+ghost use Rattle.schedule_replay.specs.Outcome.{IsReplayOf, IsFreeReplay};
+ghost use Rattle.schedule_replay.specs.Reading.{IsNodeOf};
 ghost use Rattle.schedule_replay.specs.OutcomeView.{plain_outcome};
-ghost use Rattle.schedule_replay.specs.Running.{IsReady, HasCounted, IsBounded};
+ghost use Rattle.schedule_replay.specs.Running.{IsReady, HasRun, HasCounted, IsBounded};
+ghost use Rattle.schedule_replay.specs.Starts.{MarksRegisters, AreStarts};
 
 use crate::comparing::{compare_nodes, compare_outputs};
-use crate::rows::{take_upsets, write_row};
+use crate::running::{Running, advance, start};
+use crate::starts::{Starts, no_starts, starts_of};
 use crate::{Outcome, Schedule, is_allowed};
 use certificate::Certificate;
-use flat_net::FlatNet;
-use net_simulator::Sim;
+use flat_net::{FlatNet, FreeNet};
+use net_meaning::free_traces_are_unique;
 use std::alloc::Global;
-use tmr_base::{NetId, OutOfMemory};
+use tmr_base::OutOfMemory;
 
-/// Two simulators, and what they are given in a cycle.
-#[derive(Drop)]
-struct Running<'a> {
-    original: Sim<'a>,
-    hardened: Sim<'a>,
-    row: Vec<bool>,
-    spread: Vec<bool>,
-    struck: Vec<(NetId, bool)>,
-    lasts: Vec<u32>,
-    next: u32,
-}
-
-/// Runs cycle t.
-fn run_cycle(
+/// Runs cycle t, and counts.
+fn count_cycle(
     n: &FlatNet,
     h: &FlatNet,
     c: &Certificate,
@@ -41,73 +35,66 @@ fn run_cycle(
     requires inputs { length h.now.net.inputs ≡ 3 * length n.now.net.inputs }
     requires outputs { length h.now.net.outputs ≡ 3 * length n.now.net.outputs }
     requires rows { s.now.inputs ≡ length n.now.net.inputs }
-    requires low { All (λ u. c.now.hardened_inputs ≤ u.net.0) s.now.upsets }
-    requires high { All (λ u. u.net.0 < c.now.hardened_inputs + length c.now.roles) s.now.upsets }
+    requires nets { All (λ u. u.net.0 < net_count h.now.net) s.now.upsets }
     requires t { t < length s.now.rows }
     requires ready { IsReady n.now.net h.now.net c.now s.now.upsets t r.old }
     requires bounded { IsBounded t o.old }
     ensures ready { OnOk result (IsReady n.now.net h.now.net c.now s.now.upsets (t + 1) r.new) }
-    ensures counted { OnOk result ((tr ft : List (List Bool)) → IsTrace n.now.net s.now.rows tr → IsFaultTrace h.now.net (spread s.now.rows) s.now.upsets ft →
-        HasCounted n.now.net h.now.net c.now s.now.upsets tr ft t r.old o.old → HasCounted n.now.net h.now.net c.now s.now.upsets tr ft (t + 1) r.new o.new) }
+    ensures ran { OnOk result ((f w g u : List Bool) (tr ft : List (List Bool)) → MarksRegisters n.now.net f → MarksRegisters h.now.net g → IsFreeTrace n.now.net f w s.now.rows tr → IsFreeFaultTrace h.now.net g u (spread s.now.rows) s.now.upsets ft →
+        HasRun n.now.net f w h.now.net g u tr ft t r.old → HasRun n.now.net f w h.now.net g u tr ft (t + 1) r.new) }
+    ensures counted { OnOk result ((f w g u : List Bool) (tr ft : List (List Bool)) → HasRun n.now.net f w h.now.net g u tr ft (t + 1) r.new →
+        HasCounted n.now.net h.now.net c.now s.now.upsets tr ft t o.old → HasCounted n.now.net h.now.net c.now s.now.upsets tr ft (t + 1) o.new) }
     ensures bounded { OnOk result (IsBounded (t + 1) o.new) }
     ensures allowed { OnOk result (o.new.allowed ≡ o.old.allowed) }
 {
-    let _cycles = s.cycles();
-    let _hardened = h.input_count();
-    write_row(s, t, n.input_count(), &mut r.row, &mut r.spread);
-    r.next = take_upsets(s, c, t, r.next, &mut r.struck, &mut r.lasts)?;
-    r.original.step(&r.row, &[]);
-    r.hardened.step(&r.spread, &r.struck);
+    let _known = (s.cycles(), n.input_count());
+    advance(n, h, c, s, t, r)?;
     compare_outputs(n, h, t, &r.original, &r.hardened, o)?;
     o.late += compare_nodes(n, h, c, t, &r.original, &r.hardened, &r.lasts);
     Ok(())
 }
 
-/// Two simulators before the first cycle.
-fn start<'a>(
+/// The outcome where the nodes of `starts` begin with these values.
+#[tactic(auto, using(crate::proofs::Starting::upsets_in_range))]
+fn replay_from(
     alloc: Global,
-    n: &'a FlatNet,
-    h: &'a FlatNet,
+    n: &FlatNet,
+    h: &FlatNet,
     c: &Certificate,
-    us: &Schedule,
-) -> Result<Running<'a>, OutOfMemory>
-    ensures ready { IfOk result (λ r. IsReady n.now.net h.now.net c.now us.now.upsets 0 r) }
-    ensures original { IfOk result (λ r. r.original.last ≡ None) }
-    ensures hardened { IfOk result (λ r. r.hardened.last ≡ None) }
+    s: &Schedule,
+    starts: Starts,
+) -> Result<Outcome, OutOfMemory>
+    requires fits { Fits n.now.net h.now.net c.now }
+    requires inputs { length h.now.net.inputs ≡ 3 * length n.now.net.inputs }
+    requires outputs { length h.now.net.outputs ≡ 3 * length n.now.net.outputs }
+    requires rows { s.now.inputs ≡ length n.now.net.inputs }
+    requires nets { All (λ u. u.net.0 < net_count h.now.net) s.now.upsets }
+    requires original { All (λ f. f.0.0 < net_count n.now.net) starts.original.items }
+    requires hardened { All (λ f. f.0.0 < net_count h.now.net) starts.hardened.items }
+    ensures { IfOk result (λ o. (f w g u : List Bool) → MarksRegisters n.now.net f → MarksRegisters h.now.net g → AreStarts n.now.net f w 0 starts.original.items → AreStarts h.now.net g u 0 starts.hardened.items →
+        IsReplayOf n.now.net f w h.now.net g u c.now s.now (plain_outcome o)) }
 {
-    let inputs = n.input_count() as usize;
-    let original = Sim::new(alloc, n)?;
-    let hardened = Sim::new(alloc, h)?;
-    let row = bits(alloc, inputs)?;
-    let spread = bits(alloc, 3 * inputs)?;
-    let lasts = no_strikes(alloc, c)?;
-    Ok(Running {
-        original,
-        hardened,
-        row,
-        spread,
-        struck: Vec::new(alloc),
-        lasts,
-        next: 0,
-    })
+    // What the two designs keep, and that there is one trace of each.
+    let _known = (n.input_count(), h.input_count());
+    free_traces_are_unique();
+    let allowed = is_allowed(alloc, s, c)?;
+    let mut running = start(alloc, n, h, c, s, starts)?;
+    let mut outcome = Outcome {
+        allowed,
+        first: Vec::new(alloc),
+        differences: 0,
+        wrong: 0,
+        late: 0,
+    };
+    for t in 0..s.cycles() {
+        count_cycle(n, h, c, s, t, &mut running, &mut outcome)?;
+    }
+    Ok(outcome)
 }
 
-/// So many bits that are 0.
-fn bits(alloc: Global, count: usize) -> Result<Vec<bool>, OutOfMemory>
-    ensures { IfOk result (λ v. length v.items ≡ count) }
-{
-    Ok(Vec::from_elem(alloc, false, count)?)
-}
-
-/// No partition was struck yet.
-fn no_strikes(alloc: Global, c: &Certificate) -> Result<Vec<u32>, OutOfMemory>
-    ensures items { IfOk result (λ v. v.items ≡ replicate (length c.now.depth) 0) }
-    ensures len { IfOk result (λ v. length v.items ≡ length c.now.depth) }
-{
-    Ok(Vec::from_elem(alloc, 0, c.parts() as usize)?)
-}
-
-/// What the schedule does to the hardened design, told by the one trace of each design.
+/// What the schedule does to the hardened design, told by the one trace of each design, where nodes alone are upset and
+/// no register begins with a free value.
+#[tactic(auto, using(crate::proofs::Starting::nodes_in_range))]
 pub fn replay(
     alloc: Global,
     n: &FlatNet,
@@ -119,22 +106,70 @@ pub fn replay(
     requires inputs { length h.now.net.inputs ≡ 3 * length n.now.net.inputs }
     requires outputs { length h.now.net.outputs ≡ 3 * length n.now.net.outputs }
     requires rows { s.now.inputs ≡ length n.now.net.inputs }
-    requires low { All (λ u. c.now.hardened_inputs ≤ u.net.0) s.now.upsets }
-    requires high { All (λ u. u.net.0 < c.now.hardened_inputs + length c.now.roles) s.now.upsets }
-    ensures { IfOk result (λ o. (tr ft : List (List Bool)) → IsTrace n.now.net s.now.rows tr → IsFaultTrace h.now.net (spread s.now.rows) s.now.upsets ft →
-        IsOutcome n.now.net h.now.net c.now s.now.upsets tr ft (length s.now.rows) (plain_outcome o)) }
+    requires nodes { All (λ u. IsNodeOf h.now.net u.net.0) s.now.upsets }
+    ensures outcome { IfOk result (λ o. IsReplayOf n.now.net [] [] h.now.net [] [] c.now s.now (plain_outcome o)) }
+    ensures masked { Masks n.now.net h.now.net c.now → IfOk result (λ o. IsTrue o.allowed → (o.wrong ≡ 0) × (o.late ≡ 0)) }
 {
-    let allowed = is_allowed(alloc, s, c)?;
-    let mut running = start(alloc, n, h, c, s)?;
-    let mut outcome = Outcome {
-        allowed,
-        first: Vec::new(alloc),
-        differences: 0,
-        wrong: 0,
-        late: 0,
-    };
-    for t in 0..s.cycles() {
-        run_cycle(n, h, c, s, t, &mut running, &mut outcome)?;
+    // What a schedule keeps.
+    let _cycles = s.cycles();
+    let starts = no_starts(alloc);
+    match replay_from(alloc, n, h, c, s, starts) {
+        Ok(outcome) => Ok(outcome),
+        Err(error) => Err(error),
     }
-    Ok(outcome)
+}
+
+/// The same for certificates of version 2: inputs may be upset, and the marked registers begin with the schedule's start
+/// values.
+pub fn replay_free(
+    alloc: Global,
+    n: &FreeNet,
+    h: &FreeNet,
+    c: &Certificate,
+    s: &Schedule,
+) -> Result<Outcome, OutOfMemory>
+    requires fits { Fits n.now.design.net h.now.design.net c.now }
+    requires version { c.now.version ≡ 2 }
+    requires inputs { length h.now.design.net.inputs ≡ 3 * length n.now.design.net.inputs }
+    requires outputs { length h.now.design.net.outputs ≡ 3 * length n.now.design.net.outputs }
+    requires rows { s.now.inputs ≡ length n.now.design.net.inputs }
+    requires nets { All (λ u. u.net.0 < net_count h.now.design.net) s.now.upsets }
+    ensures outcome { IfOk result (λ o. IsFreeReplay n.now.design.net n.now.free h.now.design.net h.now.free c.now s.now (plain_outcome o)) }
+    ensures masked { FreeMasks n.now.design.net n.now.free h.now.design.net h.now.free c.now → IfOk result (λ o. IsTrue o.allowed → (o.wrong ≡ 0) × (o.late ≡ 0)) }
+{
+    // What a schedule keeps.
+    let _cycles = s.cycles();
+    let starts = starts_of(alloc, n, h, c, s)?;
+    let original = n.net();
+    let hardened = h.net();
+    match replay_from(alloc, original, hardened, c, s, starts) {
+        Ok(outcome) => Ok(outcome),
+        Err(error) => Err(error),
+    }
+}
+
+/// What each of the schedules does: outcome j is that of schedule j, as `replay` tells it.
+pub fn replay_wide(
+    alloc: Global,
+    n: &FlatNet,
+    h: &FlatNet,
+    c: &Certificate,
+    list: &[Schedule],
+) -> Result<Vec<Outcome>, OutOfMemory>
+    requires fits { Fits n.now.net h.now.net c.now }
+    requires inputs { length h.now.net.inputs ≡ 3 * length n.now.net.inputs }
+    requires outputs { length h.now.net.outputs ≡ 3 * length n.now.net.outputs }
+    requires some { 0 < length list.now }
+    requires few { length list.now ≤ 64 }
+    requires rows { All (λ s. s.inputs ≡ length n.now.net.inputs) list.now }
+    requires cycles { HaveOneLength list.now }
+    requires nodes { All (λ s. All (λ u. IsNodeOf h.now.net u.net.0) s.upsets) list.now }
+    ensures { IfOk result (λ v. AreReplaysOf n.now.net h.now.net c.now list.now v.items) }
+{
+    let mut outcomes = Vec::new(alloc);
+    for j in 0..list.len() {
+        let outcome = replay(alloc, n, h, c, &list[j])?;
+        outcomes.push(outcome)?;
+    }
+    Ok(outcomes)
 }

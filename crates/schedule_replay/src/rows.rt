@@ -1,13 +1,13 @@
 //! The rows of inputs and the upsets of a cycle.
-ghost use Rattle.std.specs.Prelude.{◌≡◌, ◌+◌, ◌*◌, ◌<◌, ◌≤◌, ℕ, List, Bool, All, OnOk, IfOk, Some, length, slice_get};
+ghost use Rattle.std.specs.Prelude.{◌≡◌, ◌++◌, ◌+◌, ◌*◌, ◌<◌, ◌≤◌, ℕ, List, Bool, All, OnOk, IfOk, Some, length, slice_get};
 ghost use Rattle.net_meaning.specs.Meaning.{row_at, spread_row, value_at, upset_at};
-ghost use Rattle.certificate.specs.Cert.{PlainCert};
+ghost use Rattle.certificate.specs.Cert.{PlainCert, role_of};
 ghost use Rattle.net_simulator.specs.Cycle.{forced_to};
-ghost use Rattle.schedule_replay.specs.Schedule.{IsPlainSchedule};
-ghost use Rattle.schedule_replay.specs.Striking.{IsTaken, AreLatest};
+ghost use Rattle.schedule_replay.specs.Outcome.{part_of_role};
+ghost use Rattle.schedule_replay.specs.Striking.{IsTaken, AreLatest, with_strike};
 
 use crate::Schedule;
-use crate::allowing::domain;
+use crate::allowing::struck_part;
 use certificate::Certificate;
 use tmr_base::{NetId, OutOfMemory};
 
@@ -31,6 +31,19 @@ pub fn write_row(s: &Schedule, t: u32, inputs: u32, row: &mut [bool], spread: &m
     }
 }
 
+/// The partition of a net, if it is a node, was struck in cycle t.
+fn strike(c: &Certificate, h: NetId, t: u32, lasts: &mut [u32])
+    requires h { h.0 < c.now.hardened_inputs + length c.now.roles }
+    requires t { t < 4294967295 }
+    requires lasts { length lasts.old ≡ length c.now.depth }
+    ensures { lasts.new ≡ with_strike (part_of_role c.now (role_of c.now h.0)) (t + 1) lasts.old }
+{
+    match struck_part(c, h) {
+        None => {}
+        Some(p) => lasts[p.0 as usize] = t + 1,
+    }
+}
+
 /// Takes the upsets of cycle t, which begin at `from`; gives where those of the next cycle begin.
 pub fn take_upsets(
     s: &Schedule,
@@ -40,7 +53,6 @@ pub fn take_upsets(
     struck: &mut Vec<(NetId, bool)>,
     lasts: &mut [u32],
 ) -> Result<u32, OutOfMemory>
-    requires low { All (λ u. c.now.hardened_inputs ≤ u.net.0) s.now.upsets }
     requires high { All (λ u. u.net.0 < c.now.hardened_inputs + length c.now.roles) s.now.upsets }
     requires from { from ≤ length s.now.upsets }
     requires taken { IsTaken s.now.upsets t from }
@@ -49,10 +61,10 @@ pub fn take_upsets(
     ensures within { IfOk result (λ next. next ≤ length s.now.upsets) }
     ensures taken { IfOk result (λ next. IsTaken s.now.upsets (t + 1) next) }
     ensures struck { OnOk result ((x : ℕ) → forced_to struck.new.items x ≡ upset_at s.now.upsets t x) }
-    ensures nodes { OnOk result (All (λ f. (c.now.hardened_inputs ≤ f.0.0) × (f.0.0 < c.now.hardened_inputs + length c.now.roles)) struck.new.items) }
+    ensures nets { OnOk result (All (λ f. f.0.0 < c.now.hardened_inputs + length c.now.roles) struck.new.items) }
     ensures latest { IfOk result (λ next. AreLatest c.now s.now.upsets next lasts.new) }
 {
-    let _cycles = s.cycles();
+    let _known = (s.cycles(), c.parts());
     struck.clear();
     let mut next = from;
     for j in from..s.upset_count() {
@@ -61,9 +73,19 @@ pub fn take_upsets(
             break;
         }
         struck.push((u.net, u.value))?;
-        let (p, _) = domain(c, u.net);
-        lasts[p.0 as usize] = t + 1;
+        strike(c, u.net, t, lasts);
         next = j + 1;
     }
     Ok(next)
+}
+
+/// Adds start values behind the upsets, which come first.
+pub fn add_starts(
+    starts: &[(NetId, bool)],
+    struck: &mut Vec<(NetId, bool)>,
+) -> Result<(), OutOfMemory>
+    ensures { OnOk result (struck.new.items ≡ struck.old.items ++ starts.now) }
+{
+    struck.extend_from_slice(starts)?;
+    Ok(())
 }

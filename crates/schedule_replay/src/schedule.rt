@@ -8,12 +8,14 @@ use std::alloc::Global;
 use std::marker::Model;
 use tmr_base::{OutOfMemory, Upset};
 
-/// Rows of inputs, one for each cycle, and upsets in strictly ascending order of cycle and net.
+/// Rows of inputs, one for each cycle, start values of registers that have no initial value, and upsets in strictly
+/// ascending order of cycle and net.
 #[derive(Drop)]
 pub struct Schedule {
     inputs: u32,
     cycles: u32,
     bits: Vec<bool>,
+    starts: Vec<bool>,
     upsets: Vec<Upset>,
 }
 
@@ -30,14 +32,15 @@ impl Model for Schedule {
 }
 
 impl Schedule {
-    /// No cycles and no upsets.
+    /// No cycles, no start values and no upsets.
     pub fn new(alloc: Global, inputs: u32) -> Schedule
-        ensures { result ≡ record { inputs = inputs; rows = []; upsets = [] } }
+        ensures { result ≡ record { inputs = inputs; rows = []; starts = []; upsets = [] } }
     {
         Schedule {
             inputs,
             cycles: 0,
             bits: Vec::new(alloc),
+            starts: Vec::new(alloc),
             upsets: Vec::new(alloc),
         }
     }
@@ -59,6 +62,21 @@ impl Schedule {
         ensures { result ≡ value_at self.now.rows t i }
     {
         self.bits[t as usize * self.inputs as usize + i as usize]
+    }
+
+    /// How many start values there are.
+    pub fn start_count(&self) -> u32
+        ensures { result ≡ length self.now.starts }
+    {
+        self.starts.len() as u32
+    }
+
+    /// Start value j.
+    pub fn start(&self, j: u32) -> bool
+        requires { j < length self.now.starts }
+        ensures { slice_get self.now.starts j ≡ Some result }
+    {
+        self.starts[j as usize]
     }
 
     /// How many upsets there are.
@@ -88,6 +106,18 @@ impl Schedule {
                 self.cycles += 1;
                 Ok(())
             }
+            Err(_) => Err(OutOfMemory),
+        }
+    }
+
+    /// One start value more, behind the last one. After want of memory the schedule is unchanged.
+    pub fn push_start(&mut self, bit: bool) -> Result<(), OutOfMemory>
+        requires { length self.old.starts < 4294967295 }
+        ensures ok { OnOk result (self.new ≡ record self.old { starts = self.old.starts ++ bit ∷ [] }) }
+        ensures err { OnErr result (self.new ≡ self.old) }
+    {
+        match self.starts.push(bit) {
+            Ok(()) => Ok(()),
             Err(_) => Err(OutOfMemory),
         }
     }

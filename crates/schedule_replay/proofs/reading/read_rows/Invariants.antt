@@ -9,4 +9,5 @@ invariant-loop-t l = record {
   long : length l.s.rows ≡ l.t;
   inputs : l.s.inputs ≡ l.width;
   upsets : l.s.upsets ≡ l.fn.s.upsets;
+  starts : l.s.starts ≡ l.fn.s.starts;
 }

@@ -1,7 +1,7 @@
 use Rattle.std.proofs.Common.{◌≡◌, ◌<◌, ◌∙◌, Some, sym, ap, arith}
 use Rattle.std.specs.Prelude.{option_map}
 use Rattle.flat_net.specs.Nodes.{number_of}
-use Rattle.schedule_replay.specs.Document.{node_named}
+use Rattle.schedule_replay.specs.Document.{struck_named}
 use Rattle.schedule_replay.specs.Entries.{plain_entry}
 use Rattle.schedule_replay.proofs.Places.{doubled, fresh}
 use Rattle.schedule_replay.proofs.reading.read_upset.Goals as goal
@@ -9,11 +9,11 @@ use Rattle.schedule_replay.proofs.reading.read_upset.Goals as goal
 pub returns-then-contains_key-clause-upset : goal.returns-then-contains_key-clause-upset
 returns-then-contains_key-clause-upset c = λ earlier holds.
     let below : c.in-Some.entry.cycle < c.args.cycles = omega arith in
-    let named : Some c.in-Ok-Some.net.0 ≡ node_named c.args.h.now.net c.in-Some.entry.net.now = rw c.in-Ok-Some.field-0-is at c.in-Ok-Some.ensures.node in
-    doubled c.args.h.now.net c.args.cycles c.args.j earlier c.args.seen.now (plain_entry c.in-Some.entry) _ c.in-Ok-Some.net.0 (sym c.in-Some.ensures) (sym named) below holds (sym c.contains_key.ensures ∙ c.if-contains_key.true)
+    let named : Some c.in-Ok-Some.net.0 ≡ struck_named c.args.version c.args.h.now.net c.in-Some.entry.net.now = rw c.in-Ok-Some.field-0-is at c.in-Ok-Some.ensures.net in
+    doubled c.args.version c.args.h.now.net c.args.cycles c.args.j earlier c.args.seen.now (plain_entry c.in-Some.entry) _ c.in-Ok-Some.net.0 (sym c.in-Some.ensures) (sym named) below holds (sym c.contains_key.ensures ∙ c.if-contains_key.true)
 
 pub returns-else-contains_key-clause-upset : goal.returns-else-contains_key-clause-upset
 returns-else-contains_key-clause-upset c = λ earlier holds.
     let below : c.in-Some.entry.cycle < c.args.cycles = omega arith in
-    let named : Some c.in-Ok-Some.net.0 ≡ node_named c.args.h.now.net c.in-Some.entry.net.now = rw c.in-Ok-Some.field-0-is at c.in-Ok-Some.ensures.node in
-    fresh c.args.h.now.net c.args.cycles c.args.j earlier c.args.seen.now (plain_entry c.in-Some.entry) _ c.in-Ok-Some.net.0 (sym c.in-Some.ensures) (sym named) below holds (sym c.contains_key.ensures ∙ c.if-contains_key.false)
+    let named : Some c.in-Ok-Some.net.0 ≡ struck_named c.args.version c.args.h.now.net c.in-Some.entry.net.now = rw c.in-Ok-Some.field-0-is at c.in-Ok-Some.ensures.net in
+    fresh c.args.version c.args.h.now.net c.args.cycles c.args.j earlier c.args.seen.now (plain_entry c.in-Some.entry) _ c.in-Ok-Some.net.0 (sym c.in-Some.ensures) (sym named) below holds (sym c.contains_key.ensures ∙ c.if-contains_key.false)

@@ -8,4 +8,4 @@ use Rattle.schedule_replay.specs.Reading.{HasListed}
 use Rattle.schedule_replay.proofs.reading.read_upsets.Given as goal
 
 abbrev pub invariant-loop-j : goal.invariant-loop-j
-invariant-loop-j l = HasListed l.h.net l.cycles (map view l.entries) (map view (drop l.j l.entries)) l.j l.seen
+invariant-loop-j l = HasListed l.version l.h.net l.cycles (map view l.entries) (map view (drop l.j l.entries)) l.j l.seen

@@ -9,7 +9,8 @@ abbrev pub invariant-loop-j : goal.invariant-loop-j
 invariant-loop-j l = record {
   next : l.next ≡ l.j;
   struck : (x : ℕ) → forced_to l.struck.items x ≡ upset_at (take l.j l.s.upsets) l.t x;
-  nodes : All (λ f. (l.c.hardened_inputs ≤ f.0.0) × (f.0.0 < l.c.hardened_inputs + length l.c.roles)) l.struck.items;
+  nets : All (λ f. f.0.0 < l.c.hardened_inputs + length l.c.roles) l.struck.items;
   before : IsUpTo l.s.upsets l.t l.j;
+  long : length l.lasts ≡ length l.c.depth;
   latest : AreLatest l.c l.s.upsets l.j l.lasts;
 }

@@ -1,6 +1,6 @@
 use Rattle.std.proofs.Common.{◌≡◌, ◌*◌, ◌∙◌, length, arith}
 use Rattle.schedule_replay.proofs.Quiet.{none_struck, none_taken}
-use Rattle.schedule_replay.proofs.replaying.start.Goals as goal
+use Rattle.schedule_replay.proofs.running.start.Goals as goal
 
 pub returns-clause-ready : goal.returns-clause-ready
 returns-clause-ready c = record {
@@ -12,4 +12,6 @@ returns-clause-ready c = record {
   next = omega arith;
   taken = none_taken c.args.us.now.upsets;
   latest = none_struck c.args.c.now c.args.us.now.upsets c.in_ok-lasts.lasts.items c.in_ok-lasts.ensures.items;
+  original_range = c.requires.original;
+  hardened_range = c.requires.hardened;
 }

@@ -1,0 +1,81 @@
+//! What is answered, as text.
+
+use flat_net::FlatNet;
+use schedule_replay::{Difference, Outcome, Schedule, ScheduleFault};
+use std::alloc::{AllocError, Global};
+
+/// 0 or 1.
+fn digit(bit: bool) -> char {
+    if bit { '1' } else { '0' }
+}
+
+/// The bytes of an output's name.
+fn output_name(n: &FlatNet, k: u32) -> &[u8] {
+    if k < n.output_count() {
+        n.name(n.output(k)).bytes()
+    } else {
+        b"?"
+    }
+}
+
+fn put_difference(text: &mut String, n: &FlatNet, d: &Difference) -> Result<(), AllocError> {
+    write!(text, "differ {} ", d.cycle)?;
+    for b in output_name(n, d.output) {
+        text.push(char::from(*b))?;
+    }
+    let [a, b, c] = d.copies;
+    write!(text, " {} {} {} {} / ", digit(d.original), digit(a), digit(b), digit(c))
+}
+
+fn yes_or_no(is: bool) -> &'static str {
+    if is { "yes" } else { "no" }
+}
+
+/// The differences and the six lines of a replay.
+pub fn replay_text(
+    alloc: Global,
+    n: &FlatNet,
+    s: &Schedule,
+    o: &Outcome,
+) -> Result<String, AllocError> {
+    let mut text = String::new(alloc);
+    for d in o.first.as_slice() {
+        put_difference(&mut text, n, d)?;
+    }
+    write!(text, "cycles {} / upsets {} / ", s.cycles(), s.upset_count())?;
+    write!(text, "allowed {} / differences {} / ", yes_or_no(o.allowed), o.differences)?;
+    write!(text, "wrong {} / late {}", o.wrong, o.late)?;
+    Ok(text)
+}
+
+/// How many cycles and upsets there are, and the start values.
+pub fn schedule_text(alloc: Global, s: &Schedule) -> Result<String, AllocError> {
+    let mut text = String::new(alloc);
+    write!(text, "cycles {} upsets {} starts ", s.cycles(), s.upset_count())?;
+    for j in 0..s.start_count() {
+        text.push(digit(s.start(j)))?;
+    }
+    Ok(text)
+}
+
+/// The fault by its name.
+pub fn fault_text(alloc: Global, fault: ScheduleFault) -> Result<String, AllocError> {
+    format!(in alloc; "{fault:?}")
+}
+
+/// Bits, in groups of four.
+pub fn wave_text(alloc: Global, values: &[bool]) -> Result<String, AllocError> {
+    let mut text = String::new(alloc);
+    for i in 0..values.len() {
+        if i % 4 == 0 && i > 0 {
+            text.push(' ')?;
+        }
+        text.push(digit(values[i]))?;
+    }
+    Ok(text)
+}
+
+/// Whether a schedule is allowed.
+pub fn allowed_text(alloc: Global, allowed: bool) -> Result<String, AllocError> {
+    format!(in alloc; "allowed {}", yes_or_no(allowed))
+}

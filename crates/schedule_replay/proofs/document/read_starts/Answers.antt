@@ -1,0 +1,10 @@
+use Rattle.std.proofs.Common.{◌≡◌, Option, Some, sym, ap, subst, ◌∙◌, option_map, codes}
+use Rattle.std.specs.Prelude.{IfOk}
+use Rattle.toml.specs.Data.{Data, get_member}
+use Rattle.toml.specs.View.{view, table_view}
+use Rattle.schedule_replay.specs.Document.{starts_in}
+use Rattle.schedule_replay.proofs.document.read_starts.Goals as goal
+
+pub returns-in-Some-clause-bits : goal.returns-in-Some-clause-bits
+returns-in-Some-clause-bits c =
+    subst (λ (d : Option Data). IfOk c.text_bits.result (λ o. option_map (λ v. v.items) o ≡ starts_in c.args.count d)) (sym (ap (option_map (λ x. view x.now)) c.in-Some.is) ∙ c.member.ensures) c.text_bits.ensures.bits
