@@ -1,5 +1,5 @@
 -- The lists that are made are the hardened design and its certificate.
-use Rattle.std.proofs.Common.{◌≡◌, ℕ, ◌+◌, ◌*◌, ◌<◌, ◌++◌, [], ◌∷◌, List, length, map, take, slice_get, Some, refl, sym, ap, ◌∙◌, arith, append-nil, Bool, Option}
+use Rattle.std.proofs.Common.{◌≡◌, ℕ, ◌+◌, ◌*◌, ◌++◌, [], ◌∷◌, List, length, map, take, slice_get, Some, refl, sym, ap, ◌∙◌, arith, append-nil, Bool}
 use Rattle.std.specs.List.{flat_map, range_with_len}
 use Rattle.std.proofs.lemmas.List.{take_more}
 use Rattle.std.proofs.lemmas.List.Concat.{flat_map-append}
@@ -14,7 +14,8 @@ use Rattle.flat_net.specs.declared.wiring.Wiring.TheInside.{Inside}
 use Rattle.flat_net.proofs.PacksLaws.{IsAssembled}
 use Rattle.certificate.specs.declared.role.Role.{Role}
 use Rattle.certificate.specs.Cert.{PlainCert}
-use Rattle.triplicate.specs.Labels.{Labeling, version_of}
+use Rattle.triplicate.specs.Labels.{Labeling}
+use Rattle.triplicate.specs.Form.{version_of}
 use Rattle.triplicate.specs.Blocks.{threefold, hardened_roles, hardened_clock}
 use Rattle.triplicate.specs.Numbers.{copy_net}
 use Rattle.triplicate.specs.Construction.{hardened_net, hardened_cert, three_copies, three_labels}

@@ -1,17 +1,15 @@
 -- What hardening makes is made from what it has to be.
-use Rattle.std.proofs.Common.{◌≡◌, ◌+◌, ◌*◌, ◌<◌, ◌≤◌, ℕ, Bool, false, List, length, refl, sym, subst, ap, ◌∙◌, arith}
-use Rattle.std.specs.Prelude.{◌↔◌, IsTrue}
+use Rattle.std.proofs.Common.{◌≡◌, ◌+◌, ◌<◌, ◌≤◌, ℕ, Bool, List, length, sym, subst, arith}
 use Rattle.tmr_base.specs.Parts.{PlainParts}
 use Rattle.flat_net.specs.Net.{Net, net_count, pin_total, IsValid}
 use Rattle.flat_net.specs.Free.{AreMarks}
 use Rattle.certificate.specs.Cert.{PlainCert, Fits}
-use Rattle.certificate.specs.Starts.{spread_start}
+use Rattle.certificate.specs.Starts.{counted, spread_start}
 use Rattle.feedback_cut.specs.Cut.{CutMeets}
 use Rattle.recovery_depth.specs.Depths.{PlainDepths, AreDepths}
-use Rattle.recovery_depth.specs.Extra.{is_extra, is_cut_or_extra, AreExtra}
-use Rattle.partitioner.specs.Cost.{cost}
+use Rattle.recovery_depth.specs.Extra.{is_extra, is_cut_or_extra}
 use Rattle.partitioner.specs.Sizes.{plain_parts}
-use Rattle.partitioner.specs.Refining.{refined, IsMinimal}
+use Rattle.partitioner.specs.Refining.{refined}
 use Rattle.triplicate.specs.declared.hardened.Hardened.{Hardened}
 use Rattle.triplicate.specs.Labels.{labeling}
 use Rattle.triplicate.specs.Pins.{PlainVotes, pin_is_voted}
@@ -21,7 +19,7 @@ use Rattle.triplicate.specs.Built.{IsBuilt}
 use Rattle.triplicate.proofs.PartRanges.{AreRanged, ranged}
 use Rattle.triplicate.proofs.Votes.{votes, labels}
 use Rattle.triplicate.proofs.Certified.{cert_fits}
-use Rattle.triplicate.proofs.Marked.{marks_are_marks}
+use Rattle.triplicate.proofs.Marked.{counted_marks, marks_are_marks}
 use Rattle.triplicate.proofs.Sizes.{roles_counted, few_voters, few_hardened_pins, outputs_few}
 
 pub ranges_of : (n : Net) (size : ℕ) (parts : PlainParts) → 0 < size → parts ≡ refined n size (plain_parts n size) 8 → AreRanged (length n.nodes) parts
@@ -50,7 +48,9 @@ built_fits n size inputs most r b =
     (cert_fits n b.parts (pin_is_voted n b.parts b.votes) (labeling b.votes.inputs b.table) b.given))
 
 -- the marks that it spreads are marks
-pub built_marks : (n : Net) (size : ℕ) (inputs : Bool) (most : ℕ) (r : Hardened) (free : List Bool) → IsBuilt n size inputs most r → AreMarks n free → AreMarks r.net.net (spread_start r.cert free)
+pub built_marks : (n : Net) (size : ℕ) (inputs : Bool) (most : ℕ) (r : Hardened) (free : List Bool) → IsBuilt n size inputs most r → AreMarks n free → AreMarks r.net.net (spread_start r.cert (counted r.cert free))
 built_marks n size inputs most r free b marks =
-    subst (λ (h : Net). AreMarks h (spread_start r.cert free)) (sym b.net) (subst (λ (k : PlainCert). AreMarks (hardened_net n b.parts (pin_is_voted n b.parts b.votes)) (spread_start k free)) (sym b.cert)
-    (marks_are_marks n b.parts (pin_is_voted n b.parts b.votes) (labeling b.votes.inputs b.table) b.given free marks))
+    subst (λ (h : Net). AreMarks h (spread_start r.cert (counted r.cert free))) (sym b.net)
+    (subst (λ (k : PlainCert). AreMarks (hardened_net n b.parts (pin_is_voted n b.parts b.votes)) (spread_start k (counted k free))) (sym b.cert)
+    (marks_are_marks n b.parts (pin_is_voted n b.parts b.votes) (labeling b.votes.inputs b.table) b.given (counted (hardened_cert n b.parts (pin_is_voted n b.parts b.votes) (labeling b.votes.inputs b.table)) free)
+    (counted_marks n free (hardened_cert n b.parts (pin_is_voted n b.parts b.votes) (labeling b.votes.inputs b.table)) marks.registers)))

@@ -1,18 +1,16 @@
 -- The hardened design's certificate is one, and it fits.
-use Rattle.std.proofs.Common.{◌≡◌, ◌≢◌, ℕ, ◌+◌, ◌-◌, ◌*◌, ◌<◌, ◌≤◌, ◌⊎◌, inl, inr, List, length, map, Some, None, refl, sym, ap, ◌∙◌, subst, arith, Bool, true, false, All, ◌^◌}
-use Rattle.std.specs.Prelude.{slice_index}
-use Rattle.std.specs.List.{range_with_len}
+use Rattle.std.proofs.Common.{◌≡◌, ℕ, ◌<◌, ◌≤◌, ◌⊎◌, inl, inr, length, refl, sym, ap, ◌∙◌, arith, Bool, true, false, All, ◌^◌}
 use Rattle.std.proofs.lemmas.Bool.{cases_lt, false≢true}
 use Rattle.std.proofs.lemmas.List.{length-map}
 use Rattle.std.proofs.lemmas.List.Elements.{All-map}
 use Rattle.std.proofs.lemmas.List.FromFn.{length-map-range_with_len}
-use Rattle.tmr_base.specs.declared.copies.CopyNo.{CopyNo}
 use Rattle.tmr_base.specs.Parts.{PlainParts}
 use Rattle.flat_net.specs.Net.{Net, net_count}
 use Rattle.certificate.specs.declared.role.Role.{Role}
 use Rattle.certificate.specs.declared.role.Role.TheVariants.{Copy, Voter}
-use Rattle.certificate.specs.Cert.{PlainCert, role_of, copy_of, RoleIsInRange, IsCert, Fits}
-use Rattle.triplicate.specs.Labels.{Labeling, version_of}
+use Rattle.certificate.specs.Cert.{role_of, RoleIsInRange, IsCert, Fits}
+use Rattle.triplicate.specs.Labels.{Labeling}
+use Rattle.triplicate.specs.Form.{version_of}
 use Rattle.triplicate.specs.Blocks.{hardened_roles}
 use Rattle.triplicate.specs.Voting.{needs_voter}
 use Rattle.triplicate.specs.Construction.{hardened_net, hardened_cert, three_copies, three_labels, role_node}

@@ -1,40 +1,36 @@
 -- The hardened design corresponds to its original: the eight rules.
-use Rattle.std.proofs.Common.{◌≡◌, ◌≢◌, ℕ, ◌+◌, ◌-◌, ◌*◌, ◌<◌, ◌≤◌, ◌⊎◌, inl, inr, List, [], ◌∷◌, length, map, get_or, Option, Some, None, slice_get, refl, sym, ap, ◌∙◌, subst, arith, Bool, true, false, All, cond}
+use Rattle.std.proofs.Common.{◌≡◌, ℕ, ◌+◌, ◌-◌, ◌*◌, ◌<◌, ◌≤◌, ◌⊎◌, inl, inr, List, [], ◌∷◌, length, map, Option, Some, None, slice_get, refl, sym, ap, ◌∙◌, subst, arith, Bool, true, false, cond}
 use Rattle.std.specs.Prelude.{slice_index}
 use Rattle.std.specs.List.{flat_map, range_with_len}
-use Rattle.std.proofs.lemmas.Bool.{cases_lt, cases_eq, false≢true}
-use Rattle.std.proofs.lemmas.List.Elements.{All-get_or}
+use Rattle.std.proofs.lemmas.Bool.{cases_lt}
 use Rattle.std.proofs.lemmas.List.FromFn.{get_or-map-range_with_len, length-map-range_with_len}
 use Rattle.std.proofs.lemmas.Option.{slice_get_within, get_or_from_slice_get}
 use Rattle.tmr_base.specs.declared.copies.CopyNo.{CopyNo}
 use Rattle.tmr_base.specs.declared.copies.CopyNo.TheVariants.{First, Second, Third}
 use Rattle.tmr_base.specs.declared.ids.Edge.{Edge}
-use Rattle.tmr_base.specs.Copies.{copy_number}
 use Rattle.tmr_base.specs.Parts.{PlainParts}
 use Rattle.table_cover.specs.Cover.{IsMajority, cover_value, majority_of}
 use Rattle.flat_net.specs.Net.{Net, Node, Table, Register, net_count, node_of, pins_at}
 use Rattle.flat_net.specs.Free.{node_bit}
 use Rattle.flat_net.proofs.Slots.{slot_there}
-use Rattle.certificate.specs.declared.role.Role.{Role}
 use Rattle.certificate.specs.declared.role.Role.TheVariants.{Copy, Voter}
-use Rattle.certificate.specs.Cert.{PlainCert, role_of, part_of, copy_of, label_of, depth_of, count_of, role_count, Fits}
+use Rattle.certificate.specs.Cert.{role_of, copy_of, label_of, count_of, role_count, Fits}
 use Rattle.certificate.specs.Reads.{Reads}
 use Rattle.triplicate.specs.Labels.{Labeling}
 use Rattle.triplicate.proofs.Certified.{cert_fits}
 use Rattle.triplicate.proofs.Marks.{copy_marked}
-use Rattle.certificate.specs.Rules.{SameEdge, CopiesTable, CopiesRegister, Votes, LabelReaches, Rule3, Rule4, Rule5, Rule6, Rule7, Rule8, Holds, AllHold}
+use Rattle.certificate.specs.Rules.{SameEdge, CopiesTable, CopiesRegister, LabelReaches, Rule3, Rule4, Rule5, Rule6, Rule7, Rule8, AllHold}
 use Rattle.certificate.specs.Starts.{spread_start}
 use Rattle.feedback_cut.specs.Inner.{node_pins}
 use Rattle.feedback_cut.specs.Cut.{ReadsUnvoted}
 use Rattle.recovery_depth.specs.Depths.{own_register, is_some_register}
-use Rattle.recovery_depth.specs.Walks.{IsReach}
 use Rattle.triplicate.specs.Voting.{ReadsNet}
 use Rattle.triplicate.specs.Blocks.{threefold, hardened_clock}
 use Rattle.triplicate.specs.Form.{majority_cover}
 use Rattle.triplicate.specs.Numbers.{copy_net}
-use Rattle.triplicate.specs.Construction.{pin_net, node_copy, role_node, hardened_net, hardened_cert}
+use Rattle.triplicate.specs.Construction.{pin_net, node_copy, hardened_net, hardened_cert}
 use Rattle.triplicate.specs.Given.{IsGiven}
-use Rattle.triplicate.proofs.Lists.{length-threes, threes_at, copy_number_few}
+use Rattle.triplicate.proofs.Lists.{length-threes, threes_at}
 use Rattle.triplicate.proofs.Tripled.{node_of_role, number_of, part_of_node, copy_listed, label_listed, length-hardened_inputs}
 use Rattle.triplicate.proofs.Reading.{read_in_range, read_together, voted_role, unvoted_role, input_role, pin_reads}
 use Rattle.triplicate.proofs.WalkLaws.{reach_starts, reach_goes_on}

@@ -1,39 +1,34 @@
 -- The hardened design and its certificate have the hardened form.
-use Rattle.std.proofs.Common.{◌≡◌, ◌≢◌, ℕ, zero, suc, ◌+◌, ◌-◌, ◌*◌, ◌<◌, ◌≤◌, ◌⊎◌, inl, inr, List, [], ◌∷◌, ◌++◌, length, map, filter, get_or, Option, Some, None, slice_get, refl, sym, ap, ◌∙◌, subst, arith, Bool, true, false, not, eqb, cond, ◌&&◌, ◌||◌, if◌then◌else◌}
+use Rattle.std.proofs.Common.{◌≡◌, ℕ, zero, suc, ◌+◌, ◌-◌, ◌*◌, ◌<◌, ◌≤◌, ◌⊎◌, inl, inr, List, [], ◌∷◌, ◌++◌, length, map, filter, Option, Some, None, slice_get, refl, sym, ap, ◌∙◌, subst, arith, Bool, true, false, eqb, ◌&&◌, ◌||◌}
 use Rattle.std.specs.Prelude.{slice_index}
 use Rattle.std.specs.List.{flat_map, range_with_len, list_any}
-use Rattle.std.proofs.lemmas.Bool.{cases_lt, cases_eq, false≢true}
-use Rattle.std.proofs.lemmas.List.{length-map, length-append, get_or-map, get_or-append_right}
+use Rattle.std.proofs.lemmas.Bool.{cases_lt}
+use Rattle.std.proofs.lemmas.List.{get_or-map, get_or-append_right}
 use Rattle.std.proofs.lemmas.List.Folds.{list_any-append}
 use Rattle.std.proofs.lemmas.List.FromFn.{get_or-map-range_with_len, length-map-range_with_len}
-use Rattle.std.proofs.lemmas.Option.{slice_get_within, get_or_from_slice_get, slice_get-get_or}
+use Rattle.std.proofs.lemmas.Option.{slice_get_within, get_or_from_slice_get}
 use Rattle.partitioner.proofs.Numbers.{numbers_more}
 use Rattle.tmr_base.specs.declared.copies.CopyNo.{CopyNo}
 use Rattle.tmr_base.specs.declared.copies.CopyNo.TheVariants.{First, Second, Third}
-use Rattle.tmr_base.specs.Copies.{copy_number}
-use Rattle.tmr_base.specs.Names.{copy_text, voter_text}
+use Rattle.tmr_base.specs.Names.{copy_text}
 use Rattle.tmr_base.specs.Parts.{PlainParts}
-use Rattle.flat_net.specs.Net.{Net, Node, Table, Register, net_count, slot, node_of, node_name, net_names, name_of, pins_at, IsCoverOf}
-use Rattle.flat_net.proofs.Slots.{slot_at, slot_within, slot_there, slice_get_there}
+use Rattle.flat_net.specs.Net.{Net, Node, Table, Register, net_count, node_of, node_name, name_of, pins_at, IsCoverOf}
+use Rattle.flat_net.proofs.Slots.{slot_at, slot_within, slot_there}
 use Rattle.certificate.specs.declared.role.Role.{Role}
 use Rattle.certificate.specs.declared.role.Role.TheVariants.{Copy, Voter}
-use Rattle.certificate.specs.Cert.{PlainCert, role_of, part_of, copy_of, label_of, depth_of}
-use Rattle.feedback_cut.specs.Inner.{node_pins, ReadsInside}
-use Rattle.recovery_depth.specs.Depths.{own_register, is_some_register, IsDepth}
-use Rattle.recovery_depth.specs.Walks.{IsReach}
-use Rattle.recovery_depth.specs.Hardened.{role_at, node_at, is_copy, ReadsCopy, own_original, original_of}
+use Rattle.certificate.specs.Cert.{role_of, copy_of}
+use Rattle.feedback_cut.specs.Inner.{node_pins}
 use Rattle.triplicate.specs.Labels.{Labeling}
-use Rattle.triplicate.specs.Voting.{ReadsNet, votes_for, needs_voter, voting_parts, VotesFor}
-use Rattle.triplicate.specs.Blocks.{threefold, copies_of, voters_for, block, hardened_roles, role_name}
-use Rattle.triplicate.specs.Form.{parts_of, is_voter, reads_voter, is_voted, majority_cover, IsTripled, VotesAlike, VotesAsNeeded, IsGreatestLabel, AreLeastLabels}
+use Rattle.triplicate.specs.Voting.{ReadsNet, votes_for, needs_voter, VotesFor}
+use Rattle.triplicate.specs.Blocks.{threefold, copies_of, voters_for, hardened_roles, role_name}
+use Rattle.triplicate.specs.Form.{parts_of, is_voter, reads_voter, is_voted, majority_cover, IsTripled, VotesAsNeeded}
 use Rattle.triplicate.specs.Numbers.{copy_net}
 use Rattle.triplicate.specs.Construction.{pin_net, node_copy, role_node, hardened_net, hardened_cert}
 use Rattle.triplicate.specs.Given.{IsGiven}
 use Rattle.triplicate.proofs.Numbering.{number_of_role}
-use Rattle.triplicate.proofs.Tripled.{node_of_role, number_of, role_of_copy, part_of_node, part_at_node, copy_listed, label_listed, length-hardened_inputs}
+use Rattle.triplicate.proofs.Tripled.{node_of_role, role_of_copy, copy_listed}
 use Rattle.triplicate.proofs.Certified.{cert_fits}
-use Rattle.triplicate.proofs.Reading.{read_in_range, voted_role, unvoted_role, input_role}
-use Rattle.triplicate.proofs.WalkLaws.{AreAlike, reach_alike}
+use Rattle.triplicate.proofs.Reading.{voted_role, unvoted_role, input_role}
 
 -- ---- tests that agree where they are asked
 

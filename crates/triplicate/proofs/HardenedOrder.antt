@@ -1,5 +1,5 @@
 -- The hardened design's nodes in an order in which each table stands behind each table that it reads.
-use Rattle.std.proofs.Common.{◌≡◌, ◌≢◌, ℕ, zero, suc, ◌+◌, ◌-◌, ◌*◌, ◌<◌, ◌≤◌, ◌⊎◌, inl, inr, List, [], ◌∷◌, length, map, get_or, Option, Some, None, slice_get, refl, sym, ap, ◌∙◌, subst, arith, Bool, true, false, if◌then◌else◌}
+use Rattle.std.proofs.Common.{◌≡◌, ℕ, ◌+◌, ◌-◌, ◌*◌, ◌<◌, ◌≤◌, ◌⊎◌, inl, inr, List, length, map, Option, Some, None, slice_get, refl, sym, ap, ◌∙◌, subst, arith, Bool, true, false, if◌then◌else◌}
 use Rattle.std.specs.Prelude.{slice_index}
 use Rattle.std.specs.List.{flat_map, range_with_len}
 use Rattle.std.proofs.lemmas.Bool.{cases_lt}
@@ -8,7 +8,7 @@ use Rattle.std.proofs.lemmas.Option.{slice_get-get_or, slice_get_within, get_or_
 use Rattle.tmr_base.specs.declared.copies.CopyNo.{CopyNo}
 use Rattle.tmr_base.specs.Copies.{copy_number}
 use Rattle.tmr_base.specs.Parts.{PlainParts}
-use Rattle.flat_net.specs.Net.{Net, Node, Table, Register, net_count, slot, node_of, table_pins, pins_at, IsTable, ComesBefore, IsOrder}
+use Rattle.flat_net.specs.Net.{Net, Node, Table, Register, net_count, node_of, table_pins, pins_at, IsTable, ComesBefore, IsOrder}
 use Rattle.flat_net.proofs.Slots.{slot_within, slot_below, slice_get_there}
 use Rattle.certificate.specs.declared.role.Role.{Role}
 use Rattle.certificate.specs.declared.role.Role.TheVariants.{Copy, Voter}
@@ -21,11 +21,11 @@ use Rattle.triplicate.specs.Numbers.{block_start, copy_net, voter_net, voter_ran
 use Rattle.triplicate.specs.Construction.{pin_net, node_copy, role_node, hardened_net, hardened_cert, block_nets, net_order, hardened_order}
 use Rattle.triplicate.specs.Given.{IsGiven}
 use Rattle.triplicate.proofs.Lists.{copy_number_few, copy_numbered, threefold_at}
-use Rattle.triplicate.proofs.Numbering.{HasNumber, owner, in_block, block_of_role, role_in_block, one_block, start_behind, copies_of_node, copy_net_node, copy_net_input, voter_net_is, InBlock}
-use Rattle.triplicate.proofs.Tripled.{node_of_role, number_of, role_of_copy, role_of_input_copy, length-hardened_inputs}
+use Rattle.triplicate.proofs.Numbering.{owner, in_block, block_of_role, role_in_block, one_block, copies_of_node, copy_net_node, copy_net_input, voter_net_is, InBlock}
+use Rattle.triplicate.proofs.Tripled.{node_of_role, role_of_input_copy, length-hardened_inputs}
 use Rattle.triplicate.proofs.Reading.{voted_role, unvoted_role, input_role}
 use Rattle.triplicate.proofs.Named.{hardened_count, role_there}
-use Rattle.triplicate.proofs.Orders.{blocks_before, blocks_at, InBlocks, in_blocks, blocks_ascend}
+use Rattle.triplicate.proofs.Orders.{blocks_before, blocks_at, in_blocks, blocks_ascend}
 use Rattle.triplicate.proofs.NetOrder.{IsNetOrder, net_ordered}
 
 module _ (n : Net) (parts : PlainParts) (voted : ℕ → ℕ → Bool) (t : Labeling) (is : IsGiven n parts voted t) (order : List ℕ) (ordered : IsOrder n order) where

@@ -1,14 +1,14 @@
 -- The labels of the hardened design are the most registers of its walks.
-use Rattle.std.proofs.Common.{◌≡◌, ◌≢◌, ℕ, zero, suc, ◌+◌, ◌-◌, ◌*◌, ◌<◌, ◌≤◌, ◌⊎◌, inl, inr, List, [], ◌∷◌, length, get_or, Option, Some, None, refl, sym, ap, ◌∙◌, subst, arith, Bool, true, false, cond, if◌then◌else◌}
+use Rattle.std.proofs.Common.{◌≡◌, ℕ, ◌+◌, ◌-◌, ◌*◌, ◌<◌, ◌≤◌, ◌⊎◌, inl, inr, [], ◌∷◌, length, Option, Some, None, refl, sym, ap, ◌∙◌, subst, arith, Bool, true, false, cond, if◌then◌else◌}
 use Rattle.std.specs.Prelude.{slice_index}
 use Rattle.std.proofs.lemmas.Bool.{cases_lt, false≢true}
 use Rattle.tmr_base.specs.declared.copies.CopyNo.{CopyNo}
 use Rattle.tmr_base.specs.declared.copies.CopyNo.TheVariants.{First}
 use Rattle.tmr_base.specs.Parts.{PlainParts}
-use Rattle.flat_net.specs.Net.{Net, Node, Table, Register, net_count, slot, node_of, pins_at}
+use Rattle.flat_net.specs.Net.{Net, Node, Table, Register, net_count, node_of, pins_at}
 use Rattle.flat_net.proofs.Slots.{slot_within, slot_there}
 use Rattle.certificate.specs.declared.role.Role.{Role}
-use Rattle.certificate.specs.declared.role.Role.TheVariants.{Copy, Voter}
+use Rattle.certificate.specs.declared.role.Role.TheVariants.{Copy}
 use Rattle.certificate.specs.Cert.{PlainCert, role_of, part_of, label_of, depth_of}
 use Rattle.feedback_cut.specs.Inner.{node_pins}
 use Rattle.feedback_cut.specs.Cut.{ReadsUnvoted}
@@ -22,7 +22,6 @@ use Rattle.triplicate.specs.Form.{IsGreatestLabel, AreLeastLabels}
 use Rattle.triplicate.specs.Numbers.{copy_net, voter_net}
 use Rattle.triplicate.specs.Construction.{pin_net, node_copy, hardened_net, hardened_cert}
 use Rattle.triplicate.specs.Given.{IsGiven}
-use Rattle.triplicate.proofs.Numbering.{HasNumber}
 use Rattle.triplicate.proofs.Tripled.{node_of_role, number_of, role_of_copy, part_of_node, part_at_node, label_listed, length-hardened_inputs}
 use Rattle.triplicate.proofs.Reading.{read_in_range, read_together, voted_role, unvoted_role, input_role}
 use Rattle.triplicate.proofs.Formed.{copy_pin}

@@ -1,5 +1,6 @@
 -- Marks of registers whose first value is free.
-use Rattle.std.proofs.Common.{◌≡◌, ℕ, ◌+◌, ◌-◌, ◌<◌, ◌≤◌, Bool, false, List, [], ◌∷◌, ◌++◌, length, take, sym, ◌∙◌, ap, map, slice_get, arith, Option, Some}
+use Rattle.std.proofs.Common.{◌≡◌, ℕ, ◌+◌, ◌-◌, ◌<◌, ◌≤◌, Bool, true, false, List, [], ◌∷◌, ◌++◌, length, take, sym, ◌∙◌, ap, map, slice_get, arith, Option, Some, None, refl}
+use Rattle.std.specs.Prelude.{nat_lt, if◌then◌else◌}
 use Rattle.std.specs.Option.{unwrap_or, option_map}
 use Rattle.std.proofs.lemmas.List.{take_more, take_all, map-append}
 use Rattle.std.proofs.lemmas.Option.{slice_get-map, get_or_from_slice_get}
@@ -11,6 +12,14 @@ use Rattle.certificate.specs.declared.role.Role.{Role}
 use Rattle.certificate.specs.declared.role.Role.TheVariants.{Copy}
 use Rattle.certificate.specs.Cert.{PlainCert, role_of}
 use Rattle.certificate.specs.Starts.{role_start, spread_start}
+
+pub node_bit_none : (start x : ℕ) → node_bit start [] x ≡ false
+unfolding slot
+node_bit_none start x = go (nat_lt x start)
+  where
+    go : (b : Bool) → unwrap_or (if b then None else slice_get [] (x - start)) false ≡ false
+    go true = refl
+    go false = refl
 
 -- an entry, seen by f
 pub slot_of_some : {A B : Type 0} (f : A → B) (start : ℕ) (xs : List A) (x : ℕ) (a : A) → slot start xs x ≡ Some a → slot start (map f xs) x ≡ Some (f a)

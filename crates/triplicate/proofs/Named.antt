@@ -1,5 +1,5 @@
 -- The names of the hardened design's nets differ.
-use Rattle.std.proofs.Common.{◌≡◌, ◌≢◌, ℕ, zero, suc, ◌+◌, ◌-◌, ◌*◌, ◌^◌, ◌<◌, ◌≤◌, ◌⊎◌, inl, inr, Bool, true, List, [], ◌∷◌, ◌++◌, length, map, get_or, Option, Some, None, slice_get, refl, sym, ap, ◌∙◌, subst, arith}
+use Rattle.std.proofs.Common.{◌≡◌, ℕ, ◌+◌, ◌-◌, ◌*◌, ◌^◌, ◌<◌, ◌≤◌, ◌⊎◌, inl, inr, Bool, true, List, [], length, map, get_or, Some, slice_get, sym, ap, ◌∙◌, arith}
 use Rattle.std.proofs.lemmas.Bool.{cases_lt}
 use Rattle.std.proofs.lemmas.List.{length-map, get_or_append_left}
 use Rattle.std.proofs.lemmas.Option.{slice_get-get_or, get_or_from_slice_get, slice_get_within}
@@ -7,13 +7,13 @@ use Rattle.tmr_base.specs.declared.copies.CopyNo.{CopyNo}
 use Rattle.tmr_base.specs.Copies.{copy_number}
 use Rattle.tmr_base.specs.Names.{is_name, copy_text, voter_text}
 use Rattle.tmr_base.specs.Parts.{PlainParts}
-use Rattle.flat_net.specs.Net.{Net, Node, net_count, slot, node_of, node_name, net_names, name_of}
+use Rattle.flat_net.specs.Net.{Net, net_count, node_name, name_of}
 use Rattle.flat_net.proofs.Slots.{slot_at, slot_within, slot_there}
 use Rattle.certificate.specs.declared.role.Role.{Role}
 use Rattle.certificate.specs.declared.role.Role.TheVariants.{Copy, Voter}
 use Rattle.certificate.specs.Cert.{role_of}
 use Rattle.triplicate.specs.Labels.{Labeling}
-use Rattle.triplicate.specs.Blocks.{threefold, hardened_roles, hardened_inputs, role_name}
+use Rattle.triplicate.specs.Blocks.{hardened_roles, hardened_inputs, role_name}
 use Rattle.triplicate.specs.Numbers.{copy_net, voter_net}
 use Rattle.triplicate.specs.Construction.{role_node, hardened_net, hardened_cert}
 use Rattle.triplicate.specs.Given.{IsGiven}

@@ -1,17 +1,16 @@
 -- An order of a design's nets in which each table stands behind all that it reads.
-use Rattle.std.proofs.Common.{◌≡◌, ◌≢◌, ℕ, zero, suc, ◌+◌, ◌-◌, ◌<◌, ◌≤◌, ◌⊎◌, inl, inr, List, [], ◌∷◌, ◌++◌, length, filter, get_or, Option, Some, None, slice_get, refl, sym, ap, ◌∙◌, subst, arith, Bool, true, false, not}
+use Rattle.std.proofs.Common.{◌≡◌, ℕ, ◌+◌, ◌-◌, ◌<◌, ◌≤◌, ◌⊎◌, inl, inr, List, ◌++◌, length, filter, Option, Some, None, slice_get, refl, sym, ap, ◌∙◌, subst, arith, Bool, true, false, not}
 use Rattle.std.specs.Prelude.{slice_index}
 use Rattle.std.specs.List.{range_with_len}
 use Rattle.std.proofs.lemmas.Bool.{cases_lt, false≢true}
-use Rattle.std.proofs.lemmas.List.{length-append}
 use Rattle.std.proofs.lemmas.List.FromFn.{length-range_with_len, get_or-range_with_len}
 use Rattle.std.proofs.lemmas.Option.{slice_get-get_or, slice_get_within, get_or_from_slice_get}
-use Rattle.flat_net.specs.Net.{Net, Node, Table, Register, net_count, node_of, table_pins, pins_at, IsTable, IsOrder, IsValid}
-use Rattle.flat_net.proofs.Slots.{slot_there, slot_within, slot_below, slice_get_there}
+use Rattle.flat_net.specs.Net.{Net, Node, Table, Register, net_count, node_of, table_pins, IsTable, IsOrder, IsValid}
+use Rattle.flat_net.proofs.Slots.{slot_there, slot_below}
 use Rattle.recovery_depth.specs.Depths.{is_some_register}
 use Rattle.triplicate.specs.Construction.{is_register_net, net_order}
 use Rattle.triplicate.proofs.Lists.{get_before, get_after}
-use Rattle.triplicate.proofs.Orders.{kept_before, kept_at, IsKept, kept_place, kept_rises}
+use Rattle.triplicate.proofs.Orders.{kept_before, kept_at, kept_place, kept_rises}
 
 -- ℓ lists all nets, each once, and each table behind all that it reads
 pub record IsNetOrder (n : Net) (xs : List ℕ) : Type 0 where

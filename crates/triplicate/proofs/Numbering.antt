@@ -1,5 +1,5 @@
 -- Which role the numbers of copies and voters have, and which number each role has.
-use Rattle.std.proofs.Common.{◌≡◌, ℕ, zero, suc, ◌+◌, ◌-◌, ◌*◌, ◌<◌, ◌≤◌, ◌⊎◌, inl, inr, List, [], ◌∷◌, ◌++◌, length, map, filter, Option, Some, None, slice_get, refl, sym, ap, ◌∙◌, subst, arith, Bool, true, false}
+use Rattle.std.proofs.Common.{◌≡◌, ℕ, ◌+◌, ◌-◌, ◌*◌, ◌<◌, ◌≤◌, ◌⊎◌, inl, inr, List, [], length, Some, slice_get, refl, sym, ap, ◌∙◌, subst, arith, Bool, true}
 use Rattle.std.specs.List.{flat_map, range_with_len}
 use Rattle.std.proofs.lemmas.Bool.{cases_lt}
 use Rattle.std.proofs.lemmas.Bool.Decides.{nat_tests}
@@ -15,7 +15,7 @@ use Rattle.certificate.specs.declared.role.Role.TheVariants.{Copy, Voter}
 use Rattle.triplicate.specs.Voting.{needs_voter, voting_parts}
 use Rattle.triplicate.specs.Blocks.{threefold, copies_of, voters_for, block, hardened_roles}
 use Rattle.triplicate.specs.Numbers.{block_start, copy_net, voter_net, voter_rank}
-use Rattle.triplicate.proofs.Lists.{get_before, get_after, block_at, Place, place_of, threefold_at, copy_number_few, copy_numbered, length-threes, threes_at, in_threes, passing_at, passing_place, blocks_rise}
+use Rattle.triplicate.proofs.Lists.{get_before, get_after, block_at, place_of, threefold_at, copy_number_few, copy_numbered, length-threes, threes_at, in_threes, passing_at, passing_place, blocks_rise}
 
 -- where a role stands
 abbrev pub HasNumber : Net → PlainParts → (ℕ → ℕ → Bool) → Role → ℕ → Type 0

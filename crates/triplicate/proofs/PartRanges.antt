@@ -1,11 +1,11 @@
 -- Refined partitions are in range.
-use Rattle.std.proofs.Common.{◌≡◌, ℕ, zero, suc, ◌<◌, ◌≤◌, length, get_or, refl, ap, ◌∙◌, arith, All, ◌+◌, ◌/◌}
+use Rattle.std.proofs.Common.{◌≡◌, ℕ, zero, suc, ◌<◌, ◌≤◌, length, ◌∙◌, arith, All, ◌/◌}
 use Rattle.std.proofs.lemmas.List.{length-set}
 use Rattle.std.proofs.lemmas.List.Elements.{All-set}
 use Rattle.tmr_base.specs.Parts.{PlainParts}
 use Rattle.flat_net.specs.Net.{Net}
 use Rattle.partitioner.specs.Sizes.{plain_parts}
-use Rattle.partitioner.specs.Refining.{put, place, move, moves, pass, refined}
+use Rattle.partitioner.specs.Refining.{place, move, moves, refined}
 use Rattle.partitioner.proofs.RefineLaws.{place_in_range}
 use Rattle.partitioner.proofs.PlainLaws.{plain_in_range}
 use Rattle.std.proofs.lemmas.List.FromFn.{length-map-range_with_len}

@@ -1,23 +1,21 @@
 -- What the pins of the hardened design read.
-use Rattle.std.proofs.Common.{◌≡◌, ◌≢◌, ℕ, ◌+◌, ◌-◌, ◌*◌, ◌<◌, ◌≤◌, ◌⊎◌, inl, inr, List, [], ◌∷◌, length, map, get_or, Option, Some, None, refl, sym, ap, ◌∙◌, subst, arith, Bool, true, false, All, if◌then◌else◌, cond}
+use Rattle.std.proofs.Common.{◌≡◌, ℕ, ◌+◌, ◌-◌, ◌*◌, ◌<◌, ◌≤◌, ◌⊎◌, inl, inr, List, [], ◌∷◌, length, Option, Some, None, refl, sym, ap, ◌∙◌, subst, arith, Bool, true, false, if◌then◌else◌}
 use Rattle.std.specs.Prelude.{slice_index}
-use Rattle.std.specs.List.{range_with_len}
-use Rattle.std.proofs.lemmas.Bool.{cases_lt, cases_eq, false≢true, cond-true, cond-false}
-use Rattle.std.proofs.lemmas.List.Elements.{All-get_or}
-use Rattle.std.proofs.lemmas.List.FromFn.{get_or-map-range_with_len}
+use Rattle.std.proofs.lemmas.Bool.{cases_lt, cases_eq, false≢true}
 use Rattle.tmr_base.specs.declared.copies.CopyNo.{CopyNo}
 use Rattle.tmr_base.specs.Copies.{copy_number}
 use Rattle.tmr_base.specs.Parts.{PlainParts}
-use Rattle.flat_net.specs.Net.{Net, Node, Table, Register, net_count, node_of, pins_at, IsWired}
+use Rattle.flat_net.specs.Net.{Net, Node, Table, Register, net_count, node_of, pins_at}
 use Rattle.certificate.specs.declared.role.Role.{Role}
 use Rattle.certificate.specs.declared.role.Role.TheVariants.{Copy, Voter}
-use Rattle.certificate.specs.Cert.{PlainCert, role_of, part_of}
+use Rattle.certificate.specs.Cert.{role_of}
 use Rattle.certificate.specs.Reads.{Reads, RoleReads}
 use Rattle.feedback_cut.specs.Inner.{node_pins}
-use Rattle.triplicate.specs.Labels.{Labeling, version_of}
-use Rattle.triplicate.specs.Voting.{ReadsNet, needs_voter}
+use Rattle.triplicate.specs.Labels.{Labeling}
+use Rattle.triplicate.specs.Form.{version_of}
+use Rattle.triplicate.specs.Voting.{ReadsNet}
 use Rattle.triplicate.specs.Numbers.{copy_net, voter_net}
-use Rattle.triplicate.specs.Construction.{pin_net, hardened_net, hardened_cert}
+use Rattle.triplicate.specs.Construction.{pin_net, hardened_cert}
 use Rattle.triplicate.specs.Given.{IsGiven}
 use Rattle.triplicate.proofs.Numbering.{copy_net_input}
 use Rattle.triplicate.proofs.Tripled.{needs_from_pin, role_of_copy, role_of_input_copy, role_of_voter, part_at_node}

@@ -1,9 +1,9 @@
 -- One role more of the hardened design.
-use Rattle.std.proofs.Common.{◌≡◌, ◌≢◌, ℕ, zero, suc, ◌+◌, ◌-◌, ◌*◌, ◌<◌, ◌≤◌, ◌⊎◌, inl, inr, List, [], ◌∷◌, ◌++◌, length, map, take, drop, get_or, Option, Some, None, slice_get, refl, sym, ap, ◌∙◌, subst, arith, append_assoc, append-nil, Bool, true, false, All, if◌then◌else◌}
-use Rattle.std.specs.Prelude.{slice_index, sum_by, count_by}
+use Rattle.std.proofs.Common.{◌≡◌, ℕ, zero, suc, ◌+◌, ◌-◌, ◌*◌, ◌<◌, ◌≤◌, List, [], ◌∷◌, ◌++◌, length, map, take, drop, get_or, Option, Some, None, refl, sym, ap, ◌∙◌, subst, arith, append_assoc, append-nil, Bool, true, false, All, if◌then◌else◌}
+use Rattle.std.specs.Prelude.{slice_index, sum_by}
 use Rattle.std.specs.List.{range_with_len, flat_map}
 use Rattle.std.specs.Str.{bytes_eq}
-use Rattle.std.proofs.lemmas.List.{length-append, length-map, map-append, get_or_append_left, get_or-append-add, get_or-map}
+use Rattle.std.proofs.lemmas.List.{length-append, length-map, map-append, get_or_append_left, get_or-append-add}
 use Rattle.std.proofs.lemmas.List.FromFn.{get_or-map-range_with_len, length-map-range_with_len}
 use Rattle.std.proofs.lemmas.List.Sums.{sum_by-append, sum_by-cons, count_by-le-length}
 use Rattle.tmr_base.specs.declared.copies.CopyNo.{CopyNo}
@@ -12,7 +12,7 @@ use Rattle.tmr_base.specs.Copies.{copy_number}
 use Rattle.tmr_base.specs.Names.{copy_text, voter_text}
 use Rattle.tmr_base.specs.Parts.{PlainParts}
 use Rattle.table_cover.specs.Cover.{PlainCover}
-use Rattle.flat_net.specs.Net.{Net, Node, Table, Register, net_count, node_of, node_name, name_of, pins_of, pins_at, pin_total, is_register, IsValid, IsTable, IsRegister, IsCoverOf, IsInitOf}
+use Rattle.flat_net.specs.Net.{Net, Node, Table, Register, net_count, node_of, node_name, name_of, pins_of, pins_at, is_register, IsValid, IsTable, IsRegister, IsCoverOf, IsInitOf}
 use Rattle.flat_net.specs.Kinds.{kind_of}
 use Rattle.flat_net.specs.declared.kind.Kind.TheVariants as kind
 use Rattle.flat_net.specs.declared.nodes.PackedNodes.{PackedNodes}

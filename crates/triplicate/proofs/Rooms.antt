@@ -1,9 +1,8 @@
 -- The hardened design has room, and its names are those of its roles.
-use Rattle.std.proofs.Common.{◌≡◌, ◌≢◌, ℕ, ◌+◌, ◌*◌, ◌<◌, ◌≤◌, List, [], ◌++◌, length, map, get_or, refl, sym, ap, ◌∙◌, subst, arith, Bool, All}
+use Rattle.std.proofs.Common.{◌≡◌, ℕ, ◌<◌, List, [], ◌++◌, map, get_or, sym, ap, ◌∙◌, subst, arith, Bool}
 use Rattle.std.proofs.lemmas.List.{length-append, length-map}
-use Rattle.tmr_base.specs.Parts.{PlainParts, AreParts}
+use Rattle.tmr_base.specs.Parts.{PlainParts}
 use Rattle.flat_net.specs.Net.{Net, net_names, node_name, net_count, name_of}
-use Rattle.flat_net.specs.Draft.{AreDistinct}
 use Rattle.flat_net.specs.Packs.{Packs}
 use Rattle.triplicate.specs.Labels.{Labeling}
 use Rattle.triplicate.specs.declared.tripling.Made.{Made}

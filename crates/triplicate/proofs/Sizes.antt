@@ -1,12 +1,12 @@
 -- How large the hardened design is.
-use Rattle.std.proofs.Common.{◌≡◌, ◌≢◌, ℕ, zero, suc, ◌+◌, ◌-◌, ◌*◌, ◌<◌, ◌≤◌, ◌⊎◌, inl, inr, List, [], ◌∷◌, ◌++◌, length, map, refl, sym, ap, ◌∙◌, subst, arith, append-nil, Bool, true, false, if◌then◌else◌, get_or, slice_get, Option, Some, take, set, filter, replicate, cond, All, Any, eqb, ltb}
+use Rattle.std.proofs.Common.{◌≡◌, ◌≢◌, ℕ, zero, suc, ◌+◌, ◌-◌, ◌*◌, ◌<◌, ◌≤◌, ◌⊎◌, inl, inr, List, [], ◌∷◌, ◌++◌, length, map, refl, sym, ap, ◌∙◌, arith, append-nil, Bool, true, false, if◌then◌else◌, get_or, slice_get, Option, Some, take, set, filter, replicate, cond, All, Any, eqb, ltb}
 use Rattle.std.specs.Prelude.{sum_by, count_by}
 use Rattle.std.specs.List.{flat_map, range_with_len}
 use Rattle.std.proofs.lemmas.Bool.{cases_lt, cases_eq, ne_eqb, eq-eqb, eqb-true, ltb-true, lt-ltb, false≢true}
 use Rattle.std.proofs.lemmas.Map.Keys.{IsDistinct-from_apart}
 use Rattle.std.proofs.lemmas.Map.Steps.{length-le_from_distinct_below}
 use Rattle.std.proofs.lemmas.List.Folds.{Any-from_list_any}
-use Rattle.std.proofs.lemmas.List.{length-append, length-map, map-append, get_or_default, length_push, take_all, length-replicate}
+use Rattle.std.proofs.lemmas.List.{length-append, map-append, get_or_default, length_push, take_all, length-replicate}
 use Rattle.std.proofs.lemmas.List.Sums.{sum_by-append, sum_by-cons, sum_by_push, sum_by_more, sum_by-set}
 use Rattle.std.proofs.lemmas.Option.{get_or_from_slice_get}
 use Rattle.std.specs.Prelude.{slice_index}
@@ -22,7 +22,7 @@ use Rattle.partitioner.proofs.Numbers.{numbers_more}
 use Rattle.tmr_base.specs.Parts.{PlainParts}
 use Rattle.flat_net.specs.Net.{Net, Node, net_count, node_of, pins_of, pins_at, pin_total, IsValid}
 use Rattle.certificate.specs.declared.role.Role.{Role}
-use Rattle.certificate.specs.declared.role.Role.TheVariants.{Copy, Voter}
+use Rattle.certificate.specs.declared.role.Role.TheVariants.{Copy}
 use Rattle.triplicate.specs.Voting.{voting_parts}
 use Rattle.triplicate.specs.Blocks.{copies_of, voters_for, block, hardened_roles}
 use Rattle.triplicate.specs.Construction.{hardened_net, role_node}

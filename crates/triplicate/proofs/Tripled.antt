@@ -1,31 +1,28 @@
 -- The nodes of the hardened design, and what their pins read.
-use Rattle.std.proofs.Common.{◌≡◌, ◌≢◌, ℕ, zero, suc, ◌+◌, ◌-◌, ◌*◌, ◌<◌, ◌≤◌, ◌⊎◌, inl, inr, List, [], ◌∷◌, ◌++◌, length, map, get_or, Option, Some, None, slice_get, refl, sym, ap, ◌∙◌, subst, arith, Bool, true, false, eqb, Any}
+use Rattle.std.proofs.Common.{◌≡◌, ℕ, ◌+◌, ◌-◌, ◌*◌, ◌<◌, ◌≤◌, ◌⊎◌, inl, inr, List, length, map, get_or, Some, None, refl, sym, ap, ◌∙◌, subst, arith, Bool, true, eqb, Any}
 use Rattle.std.specs.Prelude.{slice_index, ◌&&◌}
-use Rattle.std.specs.List.{flat_map, range_with_len, list_any}
+use Rattle.std.specs.List.{range_with_len, list_any}
 use Rattle.std.specs.Option.{option_map}
-use Rattle.std.proofs.lemmas.Bool.{cases_lt, cases_eq, eq-eqb, and_from, and_parts, eqb-true}
-use Rattle.std.proofs.lemmas.Bool.Decides.{nat_tests}
-use Rattle.std.proofs.lemmas.List.{length-map, get_or-map}
-use Rattle.std.proofs.lemmas.List.FromFn.{get_or-map-range_with_len, length-map-range_with_len, get_or-range_with_len, length-range_with_len}
+use Rattle.std.proofs.lemmas.Bool.{cases_lt, eq-eqb, and_from, and_parts, eqb-true}
+use Rattle.std.proofs.lemmas.List.FromFn.{get_or-range_with_len, length-range_with_len}
 use Rattle.std.proofs.lemmas.List.Folds.{list_any-from_Any, Any-from_list_any}
 use Rattle.std.proofs.lemmas.Option.{slice_get-map, slice_get-get_or, get_or_from_slice_get}
 use Rattle.tmr_base.specs.declared.copies.CopyNo.{CopyNo}
 use Rattle.tmr_base.specs.declared.copies.CopyNo.TheVariants.{First, Second, Third}
-use Rattle.tmr_base.specs.Copies.{Three, copy_number, of_copy}
+use Rattle.tmr_base.specs.Copies.{of_copy}
 use Rattle.tmr_base.specs.Names.{copy_text}
-use Rattle.tmr_base.specs.Parts.{PlainParts, AreParts}
-use Rattle.flat_net.specs.Net.{Net, Node, Table, Register, net_count, slot, node_of, pins_at, IsValid}
-use Rattle.flat_net.proofs.Slots.{slot_at, slot_below, slot_within, slot_there, slot_read, slot_map_read}
+use Rattle.tmr_base.specs.Parts.{PlainParts}
+use Rattle.flat_net.specs.Net.{Net, net_count, slot, node_of}
+use Rattle.flat_net.proofs.Slots.{slot_at, slot_below, slot_within, slot_map_read}
 use Rattle.certificate.specs.declared.role.Role.{Role}
 use Rattle.certificate.specs.declared.role.Role.TheVariants.{Copy, Voter}
-use Rattle.certificate.specs.Cert.{PlainCert, role_of, part_of, copy_of, label_of, three_or_input}
-use Rattle.certificate.specs.Reads.{Reads}
+use Rattle.certificate.specs.Cert.{role_of, part_of, copy_of, label_of, three_or_input}
 use Rattle.feedback_cut.specs.Inner.{node_pins}
 use Rattle.triplicate.specs.Labels.{Labeling}
-use Rattle.triplicate.specs.Voting.{ReadsNet, votes_for, needs_voter, VotesFor}
-use Rattle.triplicate.specs.Blocks.{threefold, hardened_roles, hardened_inputs}
+use Rattle.triplicate.specs.Voting.{ReadsNet, votes_for, needs_voter}
+use Rattle.triplicate.specs.Blocks.{hardened_roles, hardened_inputs}
 use Rattle.triplicate.specs.Numbers.{copy_net, voter_net}
-use Rattle.triplicate.specs.Construction.{pin_net, node_copy, role_node, hardened_net, hardened_cert, three_copies, three_labels}
+use Rattle.triplicate.specs.Construction.{role_node, hardened_net, hardened_cert, three_copies, three_labels}
 use Rattle.triplicate.proofs.Lists.{length-threes, copy_number_few}
 use Rattle.triplicate.proofs.Numbering.{copy_net_input, copy_role, voter_role, number_of_role, HasNumber}
 

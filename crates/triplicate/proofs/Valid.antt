@@ -1,22 +1,20 @@
 -- The hardened design is valid.
-use Rattle.std.proofs.Common.{◌≡◌, ◌≢◌, ℕ, zero, suc, ◌+◌, ◌-◌, ◌*◌, ◌^◌, ◌<◌, ◌≤◌, ◌⊎◌, inl, inr, List, [], ◌∷◌, ◌++◌, length, map, get_or, Option, Some, None, slice_get, refl, sym, ap, ◌∙◌, subst, arith, Bool, true, false, All, if◌then◌else◌}
-use Rattle.std.specs.Prelude.{slice_index, count_by, codes, Contains}
-use Rattle.std.specs.List.{flat_map, range_with_len}
+use Rattle.std.proofs.Common.{◌≡◌, ◌≢◌, ℕ, zero, suc, ◌+◌, ◌-◌, ◌*◌, ◌<◌, ◌≤◌, ◌⊎◌, inl, inr, List, [], ◌∷◌, length, map, Option, Some, None, slice_get, refl, sym, ap, ◌∙◌, subst, arith, Bool, true, false, All, if◌then◌else◌}
+use Rattle.std.specs.Prelude.{slice_index, count_by, Contains}
+use Rattle.std.specs.List.{flat_map}
 use Rattle.std.proofs.lemmas.Bool.{cases_lt, false≢true}
 use Rattle.std.proofs.lemmas.List.{length-map, length-append, get_or_default}
 use Rattle.std.proofs.lemmas.List.Sums.{sum_by-cons}
-use Rattle.std.proofs.lemmas.List.Elements.{All-map}
 use Rattle.std.proofs.lemmas.List.FromFn.{get_or-map-range_with_len, length-map-range_with_len}
-use Rattle.std.proofs.lemmas.Option.{slice_get-get_or, slice_get_within, get_or_from_slice_get, slice_get-map}
-use Rattle.std.specs.Option.{option_map}
+use Rattle.std.proofs.lemmas.Option.{slice_get_within, get_or_from_slice_get}
 use Rattle.tmr_base.specs.declared.copies.CopyNo.{CopyNo}
 use Rattle.tmr_base.specs.declared.copies.CopyNo.TheVariants.{First, Second, Third}
 use Rattle.tmr_base.specs.declared.ids.Edge.{Edge}
 use Rattle.tmr_base.specs.Copies.{copy_number}
-use Rattle.tmr_base.specs.Names.{is_name, clock_text}
+use Rattle.tmr_base.specs.Names.{clock_text}
 use Rattle.tmr_base.specs.Parts.{PlainParts}
 use Rattle.table_cover.specs.Cover.{IsCover, IsRow}
-use Rattle.flat_net.specs.Net.{node_name, Net, Node, Table, Register, net_count, slot, node_of, net_names, name_of, pin_total, pins_at, is_register, register_count, IsWired, IsClockOf, IsOrder, IsValid}
+use Rattle.flat_net.specs.Net.{node_name, Net, Node, Table, Register, net_count, node_of, net_names, name_of, pins_at, is_register, register_count, IsWired, IsClockOf, IsOrder, IsValid}
 use Rattle.flat_net.proofs.Slots.{slot_at, slot_within, slot_below, slot_there, slice_get_there}
 use Rattle.certificate.specs.declared.role.Role.{Role}
 use Rattle.certificate.specs.declared.role.Role.TheVariants.{Copy, Voter}
@@ -32,7 +30,7 @@ use Rattle.triplicate.specs.Given.{IsGiven}
 use Rattle.triplicate.proofs.Lists.{copy_number_few, same_copy, length-threes, threes_at, in_threes}
 use Rattle.triplicate.proofs.Numbering.{HasNumber, copy_net_input, copy_net_node, start_behind}
 use Rattle.triplicate.proofs.Tripled.{node_of_role, number_of, role_of_copy, length-hardened_inputs}
-use Rattle.triplicate.proofs.Reading.{read_in_range, voted_role, unvoted_role}
+use Rattle.triplicate.proofs.Reading.{read_in_range, voted_role}
 use Rattle.triplicate.proofs.Named.{hardened_count, role_there, stands_for, IsCopyNet, IsVoterNet, names_differ, names_are_names}
 use Rattle.triplicate.proofs.Texts.{copy_is_no_clock, voter_is_no_clock, clock_is_not_nil, clock_is_name}
 

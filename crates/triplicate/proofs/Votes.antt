@@ -1,11 +1,10 @@
 -- The pins that hardening votes are those that have to be.
-use Rattle.std.proofs.Common.{◌≡◌, ◌≢◌, ℕ, ◌+◌, ◌-◌, ◌<◌, ◌≤◌, ◌⊎◌, inl, inr, List, length, refl, sym, ap, ◌∙◌, subst, arith, Bool, true, false, not, eqb, ◌||◌, cond, ltb}
+use Rattle.std.proofs.Common.{◌≡◌, ◌≢◌, ℕ, ◌+◌, ◌-◌, ◌<◌, ◌≤◌, length, sym, ap, ◌∙◌, arith, Bool, true, not, eqb, ◌||◌}
 use Rattle.std.specs.Prelude.{slice_index}
-use Rattle.std.proofs.lemmas.Bool.{cases_eq, false≢true, ne_eqb, eq-eqb, cond-true, cond-false, lt-ltb}
+use Rattle.std.proofs.lemmas.Bool.{ne_eqb, eq-eqb}
 use Rattle.std.proofs.lemmas.Bool.Decides.{nat_tests}
 use Rattle.tmr_base.specs.Parts.{PlainParts}
 use Rattle.flat_net.specs.Net.{Net}
-use Rattle.feedback_cut.specs.Inner.{node_pins, ReadsInside}
 use Rattle.feedback_cut.specs.Cut.{CutMeets}
 use Rattle.recovery_depth.specs.Depths.{PlainDepths, AreDepths}
 use Rattle.recovery_depth.specs.Extra.{is_extra, is_cut_or_extra}

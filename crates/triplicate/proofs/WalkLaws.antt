@@ -1,5 +1,5 @@
 -- The most registers of walks.
-use Rattle.std.proofs.Common.{◌≡◌, ℕ, ◌+◌, ◌≤◌, List, ◌++◌, length, refl, sym, ap, ◌∙◌, arith}
+use Rattle.std.proofs.Common.{◌≡◌, ℕ, ◌+◌, ◌≤◌, List, ◌++◌, length, sym, ◌∙◌, arith}
 use Rattle.std.proofs.lemmas.List.{length-append}
 use Rattle.recovery_depth.specs.Walks.{Walk, IsReach}
 use Rattle.recovery_depth.specs.Walks.Walk.{starts, goes_on}

@@ -1,29 +1,28 @@
 -- The pair that hardening makes has the hardened form.
-use Rattle.std.proofs.Common.{◌≡◌, ℕ, ◌+◌, ◌*◌, ◌<◌, ◌∙◌, refl, sym, ap, subst, arith, Bool, true, false, List, [], length}
-use Rattle.std.specs.Prelude.{◌↔◌, IsTrue, count_by}
+use Rattle.std.proofs.Common.{◌≡◌, ℕ, ◌<◌, ◌≤◌, ◌⊎◌, inl, inr, ◌∙◌, refl, sym, ap, subst, arith, Bool, true, false, List, [], length}
+use Rattle.std.specs.Prelude.{◌↔◌, IsTrue, count_by, nat_eq, slice_index, if◌then◌else◌}
 use Rattle.std.proofs.lemmas.List.{length-map}
-use Rattle.certificate.specs.Cert.{PlainCert}
+use Rattle.certificate.specs.Cert.{PlainCert, depth_of}
 use Rattle.certificate.specs.Rules.{AllHold}
-use Rattle.certificate.specs.Starts.{spread_start}
+use Rattle.certificate.specs.Starts.{counted, spread_start}
 use Rattle.certificate.proofs.Unmarked.{without_marks}
-use Rattle.feedback_cut.specs.Cut.{CutMeets}
 use Rattle.recovery_depth.specs.Extra.{PlainExtra, is_extra, AreExtra}
 use Rattle.flat_net.specs.Free.{FreeDesign}
 use Rattle.partitioner.specs.Cost.{cost}
-use Rattle.triplicate.specs.Labels.{Labeling, version_of, labeling}
+use Rattle.triplicate.specs.Labels.{Labeling, labeling}
 use Rattle.triplicate.specs.declared.hardened.Hardened.{Hardened}
-use Rattle.triplicate.specs.declared.hardened.FreeHardened.{FreeHardened}
+use Rattle.triplicate.specs.declared.hardened.HardenedFree.{HardenedFree}
 use Rattle.triplicate.specs.Blocks.{hardened_roles}
-use Rattle.triplicate.specs.Result.{IsHardened, IsFreeHardened, is_voter_role}
+use Rattle.triplicate.specs.Result.{IsHardened, IsFreeHardened, IsBounded, is_voter_role}
 use Rattle.triplicate.proofs.Sizes.{roles_counted}
 use Rattle.tmr_base.specs.Parts.{PlainParts}
 use Rattle.flat_net.specs.Net.{Net}
 use Rattle.partitioner.specs.Sizes.{plain_parts}
 use Rattle.partitioner.specs.Refining.{refined, IsMinimal}
-use Rattle.triplicate.specs.Voting.{none_extra, VotesFor}
+use Rattle.triplicate.specs.Voting.{none_extra}
 use Rattle.triplicate.specs.Pins.{pin_is_voted}
 use Rattle.triplicate.specs.Built.{IsBuilt}
-use Rattle.triplicate.specs.Form.{HasForm, FreeHardenedForm, parts_of}
+use Rattle.triplicate.specs.Form.{version_of, HasForm, BoundedForm, parts_of}
 use Rattle.triplicate.specs.Construction.{role_node, hardened_net, hardened_cert}
 use Rattle.triplicate.specs.Given.{IsGiven}
 use Rattle.triplicate.proofs.Corresponding.{corresponds}
@@ -42,6 +41,37 @@ cert_version : (n : Net) (parts : PlainParts) (voted : ℕ → ℕ → Bool) (t 
 unfolding hardened_cert
 cert_version n parts voted t = refl
 
+cert_depths : (n : Net) (parts : PlainParts) (voted : ℕ → ℕ → Bool) (t : Labeling) → (hardened_cert n parts voted t).depth ≡ t.depths
+unfolding hardened_cert
+cert_depths n parts voted t = refl
+
+-- no depth is above the bound of the labels
+cert_within : (n : Net) (parts : PlainParts) (voted : ℕ → ℕ → Bool) (t : Labeling) (cut : List (List Bool)) (most : ℕ) (e : PlainExtra) → t.depths ≡ e.table.depths → AreExtra n parts cut most e → (p : ℕ) → p < length (hardened_cert n parts voted t).depth → depth_of (hardened_cert n parts voted t) p ≤ most
+cert_within n parts voted t cut most e same is p below = go (is.depths.depths p (omega (arith, below, ap (λ (ds : List ℕ). length ds) depths, is.depths.parts_long))).some
+  where
+    depths : (hardened_cert n parts voted t).depth ≡ e.table.depths
+    depths = cert_depths n parts voted t ∙ same
+
+    go : (slice_index e.table.depths p ≡ 0) ⊎ ((x : ℕ) × (x < length n.nodes) × (slice_index parts.of x ≡ p) × (slice_index e.table.labels x ≡ slice_index e.table.depths p)) → depth_of (hardened_cert n parts voted t) p ≤ most
+    go (inl zero) = omega (arith, zero, ap (λ (ds : List ℕ). slice_index ds p) depths)
+    go (inr (x, l, own, label)) = omega (arith, label, is.bounded x l, ap (λ (ds : List ℕ). slice_index ds p) depths)
+
+-- the rules hold with the marks that count
+counted_rules : (n h : Net) (f : List Bool) (k : PlainCert) → ((f : List Bool) → AllHold n f h (spread_start k f) k) → AllHold n (counted k f) h (counted k (spread_start k (counted k f))) k
+counted_rules n h f k all = go (nat_eq k.version 1)
+  where
+    go : (b : Bool) → AllHold n (if b then [] else f) h (if b then [] else spread_start k (if b then [] else f)) k
+    go true = without_marks n h [] (spread_start k []) k (all [])
+    go false = all f
+
+version_is : (version : ℕ) → (version ≡ 1) ⊎ (version ≡ 2) → version_of (nat_eq version 2) ≡ version
+version_is version (inl e) = ap (λ v. version_of (nat_eq v 2)) e ∙ sym e
+version_is version (inr e) = ap (λ v. version_of (nat_eq v 2)) e ∙ sym e
+
+-- in version 2 all marks count
+counted_all : (k : PlainCert) (f : List Bool) → k.version ≡ 2 → counted k f ≡ f
+counted_all k f e = ap (λ v. if nat_eq v 1 then [] else f) e
+
 module _ (n : Net) (size : ℕ) (parts : PlainParts) (voted : ℕ → ℕ → Bool) (t : Labeling) (is : IsGiven n parts voted t) (exact : parts ≡ refined n size (plain_parts n size) 8) where
   pub has_form : (f g : List Bool) → AllHold n f (hardened_net n parts voted) g (hardened_cert n parts voted t) → HasForm n f size (hardened_net n parts voted) g (hardened_cert n parts voted t) t.inputs is.extra
   has_form f g rules = record {
@@ -56,12 +86,12 @@ module _ (n : Net) (size : ℕ) (parts : PlainParts) (voted : ℕ → ℕ → Bo
   pub plain_form : HasForm n [] size (hardened_net n parts voted) [] (hardened_cert n parts voted t) t.inputs is.extra
   plain_form = has_form [] [] (without_marks n (hardened_net n parts voted) [] (spread_start (hardened_cert n parts voted t) []) (hardened_cert n parts voted t) (corresponds n parts voted t is []))
 
-  pub free_form : (f : List Bool) → HasForm n f size (hardened_net n parts voted) (spread_start (hardened_cert n parts voted t) f) (hardened_cert n parts voted t) t.inputs is.extra
-  free_form f = has_form f (spread_start (hardened_cert n parts voted t) f) (corresponds n parts voted t is f)
+  pub counted_form : (f : List Bool) → HasForm n (counted (hardened_cert n parts voted t) f) size (hardened_net n parts voted) (counted (hardened_cert n parts voted t) (spread_start (hardened_cert n parts voted t) (counted (hardened_cert n parts voted t) f))) (hardened_cert n parts voted t) t.inputs is.extra
+  counted_form f = has_form (counted (hardened_cert n parts voted t) f) (counted (hardened_cert n parts voted t) (spread_start (hardened_cert n parts voted t) (counted (hardened_cert n parts voted t) f))) (counted_rules n (hardened_net n parts voted) f (hardened_cert n parts voted t) (corresponds n parts voted t is))
 
-  pub free_cut : (f : List Bool) → (free_form f).voted.cut ≡ is.cut
-  unfolding free_form has_form
-  free_cut f = cut_needed n parts voted t is
+  pub counted_cut : (f : List Bool) → (counted_form f).voted.cut ≡ is.cut
+  unfolding counted_form has_form
+  counted_cut f = cut_needed n parts voted t is
 
 -- what is told of a pair beside its form
 module _ (n : Net) (size : ℕ) (inputs : Bool) (most : ℕ) (r : Hardened) (b : IsBuilt n size inputs most r) where
@@ -102,16 +132,16 @@ pub record FormWith (n : Net) (f : List Bool) (size most : ℕ) (h : Net) (g : L
   pub form : HasForm n f size h g k inputs x
   pub bound : AreExtra n (parts_of k) form.voted.cut most e
 
--- the answer of hardening to version 2
-pub free_hardened_is : (n : FreeDesign) (size most : ℕ) (r : Hardened) (f : FreeHardened) → IsBuilt n.design.net size true most r → f.net.design.net ≡ r.net.net → f.cert ≡ r.cert → f.net.free ≡ spread_start r.cert n.free →
-    f.cost ≡ r.cost → f.plain ≡ r.plain → f.minimal ≡ r.minimal → f.voters ≡ r.voters → IsFreeHardened n size most f
-free_hardened_is n size most r f b net cert marks pairs plain minimal voters = record {
-  form = subst (λ (h : Net). FreeHardenedForm n.design.net n.free size most h f.net.free f.cert) (sym (net ∙ b.net)) (subst (λ (k : PlainCert). FreeHardenedForm n.design.net n.free size most (hardened_net n.design.net b.parts voted) f.net.free k) (sym (cert ∙ b.cert)) made);
-  unbounded = λ few. subst (λ (h : Net). HasForm n.design.net n.free size h f.net.free f.cert true none_extra) (sym (net ∙ b.net)) (subst (λ (c : PlainCert). HasForm n.design.net n.free size (hardened_net n.design.net b.parts voted) f.net.free c true none_extra) (sym (cert ∙ b.cert)) (none_added few));
-  pairs = pairs ∙ (pairs_are n.design.net size true most r b ∙ ap (λ (k : PlainCert). cost n.design.net (parts_of k)) (sym cert));
+-- the answer of hardening to either version, with a bound
+pub bounded_is : (n : FreeDesign) (size version most : ℕ) (r : Hardened) (f : HardenedFree) → (version ≡ 1) ⊎ (version ≡ 2) → IsBuilt n.design.net size (nat_eq version 2) most r → f.net.design.net ≡ r.net.net → f.cert ≡ r.cert → f.net.free ≡ spread_start r.cert (counted r.cert n.free) →
+    f.cost ≡ r.cost → f.plain ≡ r.plain → f.minimal ≡ r.minimal → f.voters ≡ r.voters → IsBounded n size version most f
+bounded_is n size version most r f known b net cert marks pairs plain minimal voters = record {
+  form = subst (λ (h : Net). BoundedForm n.design.net n.free size version most h f.net.free f.cert) (sym (net ∙ b.net)) (subst (λ (k : PlainCert). BoundedForm n.design.net n.free size version most h f.net.free k) (sym (cert ∙ b.cert)) made);
+  unbounded = λ few. subst (λ (h : Net). HasForm n.design.net (counted f.cert n.free) size h (counted f.cert f.net.free) f.cert (nat_eq version 2) none_extra) (sym (net ∙ b.net)) (subst (λ (c : PlainCert). HasForm n.design.net (counted c n.free) size h (counted c f.net.free) c (nat_eq version 2) none_extra) (sym (cert ∙ b.cert)) (none_added few));
+  pairs = pairs ∙ (pairs_are n.design.net size (nat_eq version 2) most r b ∙ ap (λ (k : PlainCert). cost n.design.net (parts_of k)) (sym cert));
   plain_pairs = plain ∙ b.plain_pairs;
-  minimal = subst (λ (m : Bool). IsTrue m ↔ IsMinimal n.design.net size (parts_of f.cert)) (sym minimal) (subst (λ (k : PlainCert). IsTrue r.minimal ↔ IsMinimal n.design.net size (parts_of k)) (sym cert) (minimal_is n.design.net size true most r b));
-  voters = voters ∙ (voters_are n.design.net size true most r b ∙ ap (λ (k : PlainCert). count_by is_voter_role k.roles) (sym cert));
+  minimal = subst (λ (m : Bool). IsTrue m ↔ IsMinimal n.design.net size (parts_of f.cert)) (sym minimal) (subst (λ (k : PlainCert). IsTrue r.minimal ↔ IsMinimal n.design.net size (parts_of k)) (sym cert) (minimal_is n.design.net size (nat_eq version 2) most r b));
+  voters = voters ∙ (voters_are n.design.net size (nat_eq version 2) most r b ∙ ap (λ (k : PlainCert). count_by is_voter_role k.roles) (sym cert));
 }
   where
     voted : ℕ → ℕ → Bool
@@ -120,30 +150,53 @@ free_hardened_is n size most r f b net cert marks pairs plain minimal voters = r
     t : Labeling
     t = labeling b.votes.inputs b.table
 
+    h : Net
+    h = hardened_net n.design.net b.parts (pin_is_voted n.design.net b.parts b.votes)
+
     k : PlainCert
     k = hardened_cert n.design.net b.parts (pin_is_voted n.design.net b.parts b.votes) (labeling b.votes.inputs b.table)
 
     extra : PlainExtra
     extra = record { marks = b.votes.marks; table = b.table }
 
-    with_cut : FormWith n.design.net n.free size most (hardened_net n.design.net b.parts voted) (spread_start k n.free) k t.inputs b.given.extra extra
+    with_cut : FormWith n.design.net (counted k n.free) size most h (counted k (spread_start k (counted k n.free))) k t.inputs b.given.extra extra
     with_cut = record {
-      form = free_form n.design.net size b.parts voted t b.given b.exact n.free;
-      bound = subst (λ (p : PlainParts). AreExtra n.design.net p (free_form n.design.net size b.parts voted t b.given b.exact n.free).voted.cut most extra) (sym (same_parts n.design.net b.parts voted t b.given)) (subst (λ (c : List (List Bool)). AreExtra n.design.net b.parts c most extra) (sym (free_cut n.design.net size b.parts voted t b.given b.exact n.free ∙ b.cut_is)) b.bound);
+      form = counted_form n.design.net size b.parts voted t b.given b.exact n.free;
+      bound = subst (λ (p : PlainParts). AreExtra n.design.net p (counted_form n.design.net size b.parts voted t b.given b.exact n.free).voted.cut most extra) (sym (same_parts n.design.net b.parts voted t b.given)) (subst (λ (c : List (List Bool)). AreExtra n.design.net b.parts c most extra) (sym (counted_cut n.design.net size b.parts voted t b.given b.exact n.free ∙ b.cut_is)) b.bound);
     }
 
-    last : FormWith n.design.net n.free size most (hardened_net n.design.net b.parts voted) (spread_start k n.free) k true (is_extra b.votes.marks) extra
-    last = subst (λ (inputs : Bool). FormWith n.design.net n.free size most (hardened_net n.design.net b.parts voted) (spread_start k n.free) k inputs (is_extra b.votes.marks) extra) b.inputs_are
-        (subst (λ (x : ℕ → ℕ → Bool). FormWith n.design.net n.free size most (hardened_net n.design.net b.parts voted) (spread_start k n.free) k t.inputs x extra) b.extra_is with_cut)
+    last : FormWith n.design.net (counted k n.free) size most h (counted k (spread_start k (counted k n.free))) k (nat_eq version 2) (is_extra b.votes.marks) extra
+    last = subst (λ (inputs : Bool). FormWith n.design.net (counted k n.free) size most h (counted k (spread_start k (counted k n.free))) k inputs (is_extra b.votes.marks) extra) b.inputs_are
+        (subst (λ (x : ℕ → ℕ → Bool). FormWith n.design.net (counted k n.free) size most h (counted k (spread_start k (counted k n.free))) k t.inputs x extra) b.extra_is with_cut)
 
-    marks_are : spread_start k n.free ≡ f.net.free
-    marks_are = ap (λ (c : PlainCert). spread_start c n.free) (sym b.cert) ∙ sym marks
+    marks_are : spread_start k (counted k n.free) ≡ f.net.free
+    marks_are = ap (λ (c : PlainCert). spread_start c (counted c n.free)) (sym b.cert) ∙ sym marks
 
-    made : FreeHardenedForm n.design.net n.free size most (hardened_net n.design.net b.parts voted) f.net.free k
-    made = subst (λ (g : List Bool). FreeHardenedForm n.design.net n.free size most (hardened_net n.design.net b.parts voted) g k) marks_are
-        (record { extra = extra; form = last.form; bound = last.bound; marks = refl })
+    made : BoundedForm n.design.net n.free size version most h f.net.free k
+    made = subst (λ (g : List Bool). BoundedForm n.design.net n.free size version most h g k) marks_are (record {
+      has_version = cert_version n.design.net b.parts voted t ∙ (ap version_of b.inputs_are ∙ version_is version known);
+      extra = extra;
+      form = last.form;
+      bound = last.bound;
+      within = cert_within n.design.net b.parts voted t b.votes.cut most extra refl b.bound;
+      marks = refl;
+    })
 
-    none_added : length n.design.net.nodes < most → HasForm n.design.net n.free size (hardened_net n.design.net b.parts voted) f.net.free k true none_extra
+    none_added : length n.design.net.nodes < most → HasForm n.design.net (counted k n.free) size h (counted k f.net.free) k (nat_eq version 2) none_extra
     none_added few =
-        subst (λ (g : List Bool). HasForm n.design.net n.free size (hardened_net n.design.net b.parts voted) g k true none_extra) marks_are
-        (subst (λ (x : ℕ → ℕ → Bool). HasForm n.design.net n.free size (hardened_net n.design.net b.parts voted) (spread_start k n.free) k true x) (λ i y j. b.none few y j i) last.form)
+        subst (λ (g : List Bool). HasForm n.design.net (counted k n.free) size h (counted k g) k (nat_eq version 2) none_extra) marks_are
+        (subst (λ (x : ℕ → ℕ → Bool). HasForm n.design.net (counted k n.free) size h (counted k (spread_start k (counted k n.free))) k (nat_eq version 2) x) (λ i y j. b.none few y j i) last.form)
+
+-- the answer of hardening to version 2
+pub free_hardened_is : (n : FreeDesign) (size most : ℕ) (r : HardenedFree) → length n.design.net.nodes < most → IsBounded n size 2 most r → IsFreeHardened n size r
+free_hardened_is n size most r few b = record {
+  form = record {
+    form = subst (λ (g : List Bool). HasForm n.design.net n.free size r.net.design.net g r.cert true none_extra) (counted_all r.cert r.net.free b.form.has_version)
+        (subst (λ (f : List Bool). HasForm n.design.net f size r.net.design.net (counted r.cert r.net.free) r.cert true none_extra) (counted_all r.cert n.free b.form.has_version) (b.unbounded few));
+    marks = b.form.marks ∙ ap (spread_start r.cert) (counted_all r.cert n.free b.form.has_version);
+  };
+  pairs = b.pairs;
+  plain_pairs = b.plain_pairs;
+  minimal = b.minimal;
+  voters = b.voters;
+}

@@ -1,6 +1,6 @@
 -- The nodes of the hardened design in their order: for each net of the original its copies, if it is a node, and then its
 -- voters in ascending partitions. (The copies of an input are inputs.)
-use Rattle.std.specs.Prelude.{ℕ, ◌+◌, Bool, nat_lt, List, [], ◌∷◌, ◌++◌, length, map, Option, Some, None, if◌then◌else◌}
+use Rattle.std.specs.Prelude.{ℕ, Bool, nat_lt, List, [], ◌∷◌, ◌++◌, length, Option, if◌then◌else◌}
 use Rattle.std.specs.List.{flat_map, range_with_len}
 use Rattle.std.specs.Option.{option_map}
 use Rattle.tmr_base.specs.declared.copies.CopyNo.{CopyNo}

@@ -1,4 +1,4 @@
--- A hardened design as it is made, whatever its version.
+-- Only private functions cite this: a hardened design as it is made, whatever its version.
 use Rattle.std.specs.Prelude.{◌≡◌, ◌↔◌, ℕ, ◌+◌, ◌*◌, ◌<◌, Bool, false, IsTrue, length}
 use Rattle.tmr_base.specs.Parts.{PlainParts}
 use Rattle.flat_net.specs.Net.{Net}

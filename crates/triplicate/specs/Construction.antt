@@ -1,20 +1,20 @@
--- The hardened design and its certificate, made of lists.
-use Rattle.std.specs.Prelude.{ℕ, ◌+◌, ◌-◌, ◌*◌, Bool, true, not, nat_lt, List, [], ◌∷◌, ◌++◌, length, map, filter, slice_index, Option, Some, None, if◌then◌else◌, false}
+-- Only private functions cite this: the hardened design and its certificate, made of lists.
+use Rattle.std.specs.Prelude.{ℕ, ◌-◌, ◌*◌, Bool, true, not, List, [], ◌++◌, length, map, filter, slice_index, Option, Some, None, if◌then◌else◌, false}
 use Rattle.std.specs.List.{flat_map, range_with_len}
 use Rattle.tmr_base.specs.declared.copies.CopyNo.{CopyNo}
 use Rattle.tmr_base.specs.declared.copies.CopyNo.TheVariants.{First, Second, Third}
-use Rattle.tmr_base.specs.Copies.{Three, copy_number}
+use Rattle.tmr_base.specs.Copies.{Three}
 use Rattle.tmr_base.specs.Names.{copy_text, voter_text}
 use Rattle.tmr_base.specs.Parts.{PlainParts}
-use Rattle.flat_net.specs.Net.{Net, Node, Table, Register, Design, node_of, name_of, is_register}
+use Rattle.flat_net.specs.Net.{Net, Node, Table, Register, node_of, name_of}
 use Rattle.certificate.specs.declared.role.Role.{Role}
 use Rattle.certificate.specs.declared.role.Role.TheVariants.{Copy, Voter}
 use Rattle.certificate.specs.Cert.{PlainCert}
 use Rattle.feedback_cut.specs.Inner.{node_pins}
 use Rattle.recovery_depth.specs.Depths.{is_some_register}
-use Rattle.triplicate.specs.Labels.{Labeling, version_of}
+use Rattle.triplicate.specs.Labels.{Labeling}
 use Rattle.triplicate.specs.Blocks.{threefold, block, hardened_roles, hardened_inputs, hardened_clock}
-use Rattle.triplicate.specs.Form.{majority_cover}
+use Rattle.triplicate.specs.Form.{majority_cover, version_of}
 use Rattle.triplicate.specs.Numbers.{block_start, copy_net, voter_net}
 
 -- what copy c of node y reads at pin j, where node y reads net x there
@@ -29,7 +29,8 @@ first_pins_to n parts voted y count = map (λ j. pin_net n parts voted y First j
 -- copy c of node y
 abbrev pub node_copy : Net → PlainParts → (ℕ → ℕ → Bool) → ℕ → CopyNo → Option Node → Node
 node_copy n parts voted y c None = Register [] false 0
-node_copy n parts voted y c (Some (Table name cover pins)) = Table (copy_text name c) cover (map (λ j. pin_net n parts voted y c j (slice_index pins j)) (range_with_len 0 (length pins)))
+node_copy n parts voted y c (Some (Table name cover pins)) =
+    Table (copy_text name c) cover (map (λ j. pin_net n parts voted y c j (slice_index pins j)) (range_with_len 0 (length pins)))
 node_copy n parts voted y c (Some (Register name init pin)) = Register (copy_text name c) init (pin_net n parts voted y c 0 pin)
 
 -- the node of a role
@@ -47,7 +48,11 @@ hardened_net n parts voted = record {
 }
 
 abbrev pub three_copies : Net → PlainParts → (ℕ → ℕ → Bool) → ℕ → Three
-three_copies n parts voted x = record { first = copy_net n parts voted x First; second = copy_net n parts voted x Second; third = copy_net n parts voted x Third }
+three_copies n parts voted x = record {
+  first = copy_net n parts voted x First;
+  second = copy_net n parts voted x Second;
+  third = copy_net n parts voted x Third;
+}
 
 -- the same label for each copy
 abbrev pub three_labels : ℕ → Three

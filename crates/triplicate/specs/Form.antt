@@ -1,5 +1,5 @@
 -- The hardened form: what a hardened design and its certificate are, for an original design and a size of partitions.
-use Rattle.std.specs.Prelude.{◌≡◌, ℕ, ◌+◌, ◌<◌, ◌≤◌, ◌⊎◌, Bool, true, false, List, [], ◌∷◌, length, map, codes, slice_index, Option, Some, None}
+use Rattle.std.specs.Prelude.{◌≡◌, ℕ, ◌+◌, ◌<◌, ◌≤◌, ◌⊎◌, Bool, true, false, nat_eq, List, [], ◌∷◌, length, map, codes, slice_index, Option, Some, None}
 use Rattle.std.specs.List.{flat_map}
 use Rattle.tmr_base.specs.declared.copies.CopyNo.{CopyNo}
 use Rattle.tmr_base.specs.declared.copies.CopyNo.TheVariants.{First}
@@ -10,14 +10,13 @@ use Rattle.certificate.specs.declared.role.Role.{Role}
 use Rattle.certificate.specs.declared.role.Role.TheVariants.{Copy, Voter}
 use Rattle.certificate.specs.Cert.{PlainCert, Fits, role_of, part_of, depth_of, copy_of, label_of}
 use Rattle.certificate.specs.Rules.{AllHold}
-use Rattle.certificate.specs.Starts.{spread_start}
+use Rattle.certificate.specs.Starts.{spread_start, counted}
 use Rattle.feedback_cut.specs.Inner.{node_pins}
 use Rattle.recovery_depth.specs.Walks.{IsReach}
 use Rattle.recovery_depth.specs.Extra.{PlainExtra, is_extra, AreExtra}
 use Rattle.recovery_depth.specs.Hardened.{role_at, ReadsCopy, own_original}
 use Rattle.partitioner.specs.Sizes.{plain_parts}
 use Rattle.partitioner.specs.Refining.{refined}
-use Rattle.triplicate.specs.Labels.{version_of}
 use Rattle.triplicate.specs.Voting.{VotesFor, none_extra}
 use Rattle.triplicate.specs.Blocks.{threefold, hardened_roles, role_name, hardened_inputs, hardened_clock}
 
@@ -76,6 +75,11 @@ pub record AreLeastLabels (h : Net) (k : PlainCert) : Type 0 where
   pub labels : (g x : ℕ) (c : CopyNo) → role_at h k g ≡ Some (Copy (record { 0 = x }) c) → IsReach (ReadsCopy h k) (own_original h k) g (label_of k x c)
   pub depths : (p : ℕ) → p < length k.depth → IsGreatestLabel k p (depth_of k p)
 
+-- the version of a certificate: 2 where pins that read inputs are voted
+abbrev pub version_of : Bool → ℕ
+version_of false = 1
+version_of true = 2
+
 -- the hardened form of n, of which f are the marks, with the pins that are voted besides those that have to be; with
 -- `inputs` the certificate has version 2, and pins that read inputs are voted
 pub record HasForm (n : Net) (f : List Bool) (size : ℕ) (h : Net) (g : List Bool) (k : PlainCert) (inputs : Bool) (extra : ℕ → ℕ → Bool) : Type 0 where
@@ -90,10 +94,17 @@ pub record HasForm (n : Net) (f : List Bool) (size : ℕ) (h : Net) (g : List Bo
 abbrev pub HardenedForm : Net → ℕ → Net → PlainCert → Type 0
 HardenedForm n size h k = HasForm n [] size h [] k false none_extra
 
--- the hardened form in version 2: pins that read inputs are voted, copies are marked as their nodes are, and no label is
--- above `most`, as the pins of registers that would bring a greater one are voted too
-pub record FreeHardenedForm (n : Net) (f : List Bool) (size most : ℕ) (h : Net) (g : List Bool) (k : PlainCert) : Type 0 where
-  pub extra : PlainExtra
-  pub form : HasForm n f size h g k true (is_extra extra.marks)
-  pub bound : AreExtra n (parts_of k) form.voted.cut most extra
+-- the hardened form in version 2: pins that read inputs are voted, and copies are marked as their nodes are
+pub record FreeHardenedForm (n : Net) (f : List Bool) (size : ℕ) (h : Net) (g : List Bool) (k : PlainCert) : Type 0 where
+  pub form : HasForm n f size h g k true none_extra
   pub marks : g ≡ spread_start k f
+
+-- the hardened form in either version with no depth above `most`: the pins of registers that would bring a greater label are
+-- voted too. In version 2 copies are marked as their nodes are, and in version 1 none is
+pub record BoundedForm (n : Net) (f : List Bool) (size version most : ℕ) (h : Net) (g : List Bool) (k : PlainCert) : Type 0 where
+  pub has_version : k.version ≡ version
+  pub extra : PlainExtra
+  pub form : HasForm n (counted k f) size h (counted k g) k (nat_eq version 2) (is_extra extra.marks)
+  pub bound : AreExtra n (parts_of k) form.voted.cut most extra
+  pub within : (p : ℕ) → p < length k.depth → depth_of k p ≤ most
+  pub marks : g ≡ spread_start k (counted k f)

@@ -1,5 +1,5 @@
--- What the hardened design is made from.
-use Rattle.std.specs.Prelude.{◌≡◌, ℕ, ◌+◌, ◌*◌, ◌<◌, ◌≤◌, Bool, false, List, length}
+-- Only private functions cite this: what the hardened design is made from.
+use Rattle.std.specs.Prelude.{◌≡◌, ℕ, ◌+◌, ◌*◌, ◌<◌, ◌≤◌, Bool, List, length}
 use Rattle.tmr_base.specs.Parts.{PlainParts, AreParts}
 use Rattle.flat_net.specs.Net.{Net, pin_total, IsValid}
 use Rattle.triplicate.specs.Voting.{VotesFor}

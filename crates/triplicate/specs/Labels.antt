@@ -1,5 +1,5 @@
--- What a certificate is made of besides partitions and roles.
-use Rattle.std.specs.Prelude.{ℕ, Bool, true, false, List}
+-- Only private functions cite this: what a certificate is made of besides partitions and roles.
+use Rattle.std.specs.Prelude.{ℕ, Bool, List}
 use Rattle.recovery_depth.specs.Depths.{PlainDepths}
 
 -- whether pins that read inputs are voted, which is so in version 2 alone; and labels and depths
@@ -7,11 +7,6 @@ pub record Labeling : Type 0 where
   pub inputs : Bool
   pub labels : List ℕ
   pub depths : List ℕ
-
--- the version of a certificate
-abbrev pub version_of : Bool → ℕ
-version_of false = 1
-version_of true = 2
 
 abbrev pub labeling : Bool → PlainDepths → Labeling
 labeling inputs t = record { inputs = inputs; labels = t.labels; depths = t.depths }

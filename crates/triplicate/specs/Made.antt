@@ -1,4 +1,4 @@
--- A part of the hardened design: names, nodes and roles.
+-- Only private functions cite this: a part of the hardened design: names, nodes and roles.
 use Rattle.std.specs.Prelude.{◌≡◌, ℕ, ◌+◌, ◌*◌, ◌<◌, Bool, false, List, [], ◌++◌, length, map, slice_index, Option, Some, None}
 use Rattle.tmr_base.specs.declared.copies.CopyNo.{CopyNo}
 use Rattle.tmr_base.specs.Copies.{copy_number}

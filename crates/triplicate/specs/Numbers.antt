@@ -1,6 +1,5 @@
--- The numbers of the hardened design's nets. Partition rows: `rows` lists, for each net of the original, the partitions that
--- need a voter of it, ascending.
-use Rattle.std.specs.Prelude.{ℕ, ◌+◌, ◌*◌, Bool, nat_lt, List, [], length, filter, if◌then◌else◌}
+-- Only private functions cite this: the numbers of the hardened design's nets.
+use Rattle.std.specs.Prelude.{ℕ, ◌+◌, ◌*◌, Bool, nat_lt, length, filter, if◌then◌else◌}
 use Rattle.std.specs.List.{flat_map, range_with_len}
 use Rattle.tmr_base.specs.declared.copies.CopyNo.{CopyNo}
 use Rattle.tmr_base.specs.Copies.{copy_number}

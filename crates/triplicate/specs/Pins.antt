@@ -1,4 +1,4 @@
--- Which pins hardening votes.
+-- Only private functions cite this: which pins hardening votes.
 use Rattle.std.specs.Prelude.{ℕ, ◌-◌, ◌==◌, ◌||◌, not, nat_lt, Bool, List, length, slice_index, if◌then◌else◌}
 use Rattle.tmr_base.specs.Parts.{PlainParts}
 use Rattle.flat_net.specs.Net.{Net}

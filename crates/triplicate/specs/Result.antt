@@ -1,15 +1,15 @@
 -- What hardening answers.
-use Rattle.std.specs.Prelude.{◌≡◌, ◌↔◌, ◌<◌, ℕ, Some, Bool, true, IsTrue, length, count_by}
+use Rattle.std.specs.Prelude.{◌≡◌, ◌↔◌, ◌<◌, ℕ, Some, nat_eq, Bool, IsTrue, length, count_by}
 use Rattle.flat_net.specs.Net.{Net}
 use Rattle.flat_net.specs.Free.{FreeDesign}
-use Rattle.certificate.specs.Cert.{PlainCert}
+use Rattle.certificate.specs.Starts.{counted}
 use Rattle.certificate.specs.declared.role.Role.{Role}
 use Rattle.partitioner.specs.Cost.{cost}
 use Rattle.partitioner.specs.Sizes.{plain_parts}
 use Rattle.partitioner.specs.Refining.{IsMinimal}
 use Rattle.triplicate.specs.declared.hardened.Hardened.{Hardened}
-use Rattle.triplicate.specs.declared.hardened.FreeHardened.{FreeHardened}
-use Rattle.triplicate.specs.Form.{HasForm, HardenedForm, FreeHardenedForm, parts_of, is_voter}
+use Rattle.triplicate.specs.declared.hardened.HardenedFree.{HardenedFree}
+use Rattle.triplicate.specs.Form.{HasForm, HardenedForm, FreeHardenedForm, BoundedForm, parts_of, is_voter}
 use Rattle.triplicate.specs.Voting.{none_extra}
 
 abbrev pub is_voter_role : Role → Bool
@@ -24,10 +24,19 @@ pub record IsHardened (n : Net) (size : ℕ) (r : Hardened) : Type 0 where
   pub minimal : IsTrue r.minimal ↔ IsMinimal n size (parts_of r.cert)
   pub voters : r.voters ≡ count_by is_voter_role r.cert.roles
 
--- the same in version 2, with no label above `most`; a bound above the number of nodes adds no voters
-pub record IsFreeHardened (n : FreeDesign) (size most : ℕ) (r : FreeHardened) : Type 0 where
-  pub form : FreeHardenedForm n.design.net n.free size most r.net.design.net r.net.free r.cert
-  pub unbounded : length n.design.net.nodes < most → HasForm n.design.net n.free size r.net.design.net r.net.free r.cert true none_extra
+-- the same in version 2
+pub record IsFreeHardened (n : FreeDesign) (size : ℕ) (r : HardenedFree) : Type 0 where
+  pub form : FreeHardenedForm n.design.net n.free size r.net.design.net r.net.free r.cert
+  pub pairs : r.cost ≡ cost n.design.net (parts_of r.cert)
+  pub plain_pairs : r.plain ≡ cost n.design.net (plain_parts n.design.net size)
+  pub minimal : IsTrue r.minimal ↔ IsMinimal n.design.net size (parts_of r.cert)
+  pub voters : r.voters ≡ count_by is_voter_role r.cert.roles
+
+-- the same in either version, with no depth above `most`; a bound above the number of nodes adds no voters
+pub record IsBounded (n : FreeDesign) (size version most : ℕ) (r : HardenedFree) : Type 0 where
+  pub form : BoundedForm n.design.net n.free size version most r.net.design.net r.net.free r.cert
+  pub unbounded : length n.design.net.nodes < most →
+      HasForm n.design.net (counted r.cert n.free) size r.net.design.net (counted r.cert r.net.free) r.cert (nat_eq version 2) none_extra
   pub pairs : r.cost ≡ cost n.design.net (parts_of r.cert)
   pub plain_pairs : r.plain ≡ cost n.design.net (plain_parts n.design.net size)
   pub minimal : IsTrue r.minimal ↔ IsMinimal n.design.net size (parts_of r.cert)

@@ -1,4 +1,4 @@
--- Where each net's copies and voters stand, and which partitions need voters, as lists.
+-- Only private functions cite this: where each net's copies and voters stand, and which partitions need voters, as lists.
 use Rattle.std.specs.Prelude.{◌≡◌, ℕ, ◌+◌, ◌≤◌, Bool, List, length, slice_index}
 use Rattle.tmr_base.specs.Parts.{PlainParts}
 use Rattle.flat_net.specs.Net.{Net, net_count}

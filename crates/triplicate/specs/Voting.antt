@@ -11,21 +11,23 @@ pub record ReadsNet (n : Net) (y j x : ℕ) : Type 0 where
   pub pin : j < length (node_pins n y)
   pub is : slice_index (node_pins n y) j ≡ x
 
--- pin j of node y reads a voted net of partition p: the test of one pin
+-- pin j of node y is voted and reads net x
 abbrev pub votes_for : Net → (ℕ → ℕ → Bool) → ℕ → ℕ → ℕ → Bool
 votes_for n voted x y j = voted y j && slice_index (node_pins n y) j == x
 
 -- a voted pin of a node of partition p reads net x
 unfoldable pub needs_voter : Net → PlainParts → (ℕ → ℕ → Bool) → ℕ → ℕ → Bool
 needs_voter n parts voted x p =
-    list_any (λ y. slice_index parts.of y == p && list_any (votes_for n voted x y) (range_with_len 0 (length (node_pins n y)))) (range_with_len 0 (length n.nodes))
+    list_any (λ y. slice_index parts.of y == p && list_any (votes_for n voted x y) (range_with_len 0 (length (node_pins n y))))
+    (range_with_len 0 (length n.nodes))
 
 -- the partitions that need a voter of net x, ascending
 abbrev pub voting_parts : Net → PlainParts → (ℕ → ℕ → Bool) → ℕ → List ℕ
 voting_parts n parts voted x = filter (needs_voter n parts voted x) (range_with_len 0 parts.count)
 
 -- a pin that reads an input is voted or not, by `inputs`; one that reads a node of another partition is voted; and of those
--- that read a node of their own partition, the pins of a cut of all loops are voted, and extra ones
+-- that read a node of their own partition, the pins of a cut of all loops are voted, and extra ones, and
+-- no others
 pub record VotesFor (n : Net) (parts : PlainParts) (inputs : Bool) (cut : List (List Bool)) (extra voted : ℕ → ℕ → Bool) : Type 0 where
   pub at_inputs : (y j x : ℕ) → ReadsNet n y j x → x < length n.inputs → voted y j ≡ inputs
   pub foreign : (y j x : ℕ) → ReadsNet n y j (length n.inputs + x) → slice_index parts.of x ≢ slice_index parts.of y → voted y j ≡ true

@@ -9,7 +9,7 @@ ghost use Rattle.certificate.specs.Threes.{three_of, three_ids};
 ghost use Rattle.triplicate.specs.Pins.{pin_is_voted};
 ghost use Rattle.triplicate.specs.Blocks.{hardened_roles};
 ghost use Rattle.triplicate.specs.Construction.{three_copies, three_labels, hardened_cert};
-ghost use Rattle.triplicate.specs.Labels.{version_of};
+ghost use Rattle.triplicate.specs.Form.{version_of};
 ghost use Rattle.triplicate.specs.Starts.{AreStarts};
 
 use crate::pins::first_copy;

@@ -15,9 +15,9 @@ pub struct Hardened {
     pub voters: u32,
 }
 
-/// The same in version 2: the hardened design has marks too.
+/// The same where the hardened design has marks too.
 #[derive(Drop)]
-pub struct FreeHardened {
+pub struct HardenedFree {
     pub net: FreeNet,
     pub cert: Certificate,
     pub cost: u64,

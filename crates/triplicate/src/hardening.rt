@@ -1,14 +1,13 @@
 //! Hardening.
-ghost use Rattle.std.specs.Prelude.{◌≡◌, ◌+◌, ◌<◌, ◌≤◌, length, IfOk};
+ghost use Rattle.std.specs.Prelude.{◌≡◌, ◌+◌, ◌<◌, ◌≤◌, ◌⊎◌, length, IfOk};
 ghost use Rattle.flat_net.specs.Net.{net_count, pin_total};
 ghost use Rattle.feedback_cut.specs.Cut.{CutMeets};
-ghost use Rattle.certificate.specs.Starts.{spread_start};
 ghost use Rattle.triplicate.specs.Pins.{pin_is_voted};
 ghost use Rattle.triplicate.specs.Construction.{hardened_net, hardened_cert};
 ghost use Rattle.triplicate.specs.Given.{IsGiven};
 ghost use Rattle.triplicate.specs.Labels.{labeling};
 ghost use Rattle.triplicate.specs.Built.{IsBuilt};
-ghost use Rattle.triplicate.specs.Result.{IsHardened, IsFreeHardened};
+ghost use Rattle.triplicate.specs.Result.{IsHardened, IsFreeHardened, IsBounded};
 
 use crate::assembling::{assembled, certified};
 use crate::blocks::block_starts;
@@ -16,7 +15,7 @@ use crate::marking::hardened_marks;
 use crate::tripling::make_tripled;
 use crate::voters::voting_parts;
 use crate::voting::{VotedPins, nodes_of};
-use crate::{FreeHardened, Hardened};
+use crate::{Hardened, HardenedFree};
 use certificate::Certificate;
 use feedback_cut::cut;
 use flat_net::{FlatNet, FreeNet};
@@ -49,7 +48,7 @@ fn triplicate(
     Ok((net, cert))
 }
 
-/// The pair, whatever its version; no label is above `most`. The one refusal is want of memory.
+/// The pair, whatever its version; with `inputs` pins that read inputs are voted too; no label is above `most`. The one refusal is want of memory.
 fn build(
     alloc: Global,
     n: &FlatNet,
@@ -99,24 +98,26 @@ pub fn harden(alloc: Global, n: &FlatNet, size: u32) -> Result<Hardened, OutOfMe
     Ok(hardened)
 }
 
-/// The same with a certificate of version 2: pins that read inputs are voted too, and copies are marked as their
-/// nodes are. No label is above `most`, since the pins of registers that would bring a greater one are voted too; a
-/// bound above the number of nodes adds none.
-pub fn harden_free(
+/// The same in either version, with no depth above `most`, since the pins of registers that would bring a greater
+/// label are voted too; a bound above the number of nodes adds no voters. In version 2 pins that read inputs are voted
+/// too, and copies are marked as their nodes are; in version 1 no copy is marked. The one refusal is want of memory.
+pub fn harden_deep(
     alloc: Global,
     n: &FreeNet,
     size: u32,
+    version: u8,
     most: u32,
-) -> Result<FreeHardened, OutOfMemory>
+) -> Result<HardenedFree, OutOfMemory>
     requires size { 0 < size }
+    requires version { (version ≡ 1) ⊎ (version ≡ 2) }
     requires most { 0 < most }
     requires few { net_count n.now.design.net + pin_total n.now.design.net ≤ 16777216 }
-    ensures { IfOk result (λ r. IsFreeHardened n.now size most r) }
+    ensures { IfOk result (λ r. IsBounded n.now size version most r) }
 {
     let original = n.net();
-    let hardened = build(alloc, original, size, true, most)?;
+    let hardened = build(alloc, original, size, version == 2, most)?;
     let marks = hardened_marks(alloc, n, &hardened.net, &hardened.cert)?;
-    Ok(FreeHardened {
+    Ok(HardenedFree {
         net: FreeNet::make(hardened.net, marks),
         cert: hardened.cert,
         cost: hardened.cost,
@@ -124,4 +125,14 @@ pub fn harden_free(
         minimal: hardened.minimal,
         voters: hardened.voters,
     })
+}
+
+/// The same in version 2, without a bound. The one refusal is want of memory.
+pub fn harden_free(alloc: Global, n: &FreeNet, size: u32) -> Result<HardenedFree, OutOfMemory>
+    requires size { 0 < size }
+    requires few { net_count n.now.design.net + pin_total n.now.design.net ≤ 16777216 }
+    ensures { IfOk result (λ r. IsFreeHardened n.now size r) }
+{
+    let hardened = harden_deep(alloc, n, size, 2, 4294967295)?;
+    Ok(hardened)
 }

@@ -1,7 +1,7 @@
 //! Hardening: a design made threefold, with voters where upsets would spread, and its certificate.
 //!
 //! The layers above may rely on this: `harden` answers a pair in the hardened form, or want of memory;
-//! `harden_free` does so with a certificate of version 2 and a bound on labels.
+//! `harden_free` does so with a certificate of version 2, and `harden_deep` in either version with a bound on depths.
 #![tactic(auto)]
 
 mod assembling;
@@ -17,5 +17,5 @@ mod tripling;
 mod voters;
 mod voting;
 
-pub use hardened::{FreeHardened, Hardened};
-pub use hardening::{harden, harden_free};
+pub use hardened::{Hardened, HardenedFree};
+pub use hardening::{harden, harden_deep, harden_free};

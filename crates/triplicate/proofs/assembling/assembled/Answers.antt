@@ -1,4 +1,4 @@
-use Rattle.std.proofs.Common.{◌≡◌, ◌*◌, ℕ, List, map, sym, subst, ap, ◌∙◌}
+use Rattle.std.proofs.Common.{◌*◌, ℕ, List, map, sym, subst, ap, ◌∙◌}
 use Rattle.flat_net.specs.Net.{Net, Design, IsOrder}
 use Rattle.flat_net.specs.Nodes.{number_of}
 use Rattle.flat_net.proofs.PacksLaws.{net_assembled, wiring_assembled, unordered_from_valid}

@@ -1,10 +1,6 @@
-use Rattle.std.proofs.Common.{◌≡◌, ◌+◌, ◌*◌, ◌<◌, ◌≤◌, ℕ, length, ap, sym, ◌∙◌, arith, rules}
-use Rattle.std.specs.Prelude.{slice_index}
-use Rattle.std.proofs.lemmas.Grind.{common_steps}
-use Rattle.flat_net.specs.Net.{net_count}
+use Rattle.std.proofs.Common.{◌≡◌, ◌+◌, length, ap, ◌∙◌, arith, rules}
 use Rattle.triplicate.specs.Pins.{pin_is_voted}
 use Rattle.triplicate.specs.Voting.{voting_parts}
-use Rattle.triplicate.specs.Blocks.{copies_of}
 use Rattle.triplicate.specs.Numbers.{block_start}
 use Rattle.std.proofs.lemmas.List.{length_push}
 use Rattle.triplicate.proofs.Places.{pushed_all, start_none, start_more, start_few}

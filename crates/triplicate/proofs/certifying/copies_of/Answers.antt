@@ -1,9 +1,8 @@
-use Rattle.std.proofs.Common.{◌≡◌, ◌+◌, ◌<◌, ◌++◌, [], ◌∷◌, ℕ, List, map, length, sym, ap, ◌∙◌, arith}
+use Rattle.std.proofs.Common.{◌+◌, ◌++◌, [], ◌∷◌, List, map, length, sym, ap, ◌∙◌, arith}
 use Rattle.std.specs.List.{range_with_len}
 use Rattle.std.proofs.lemmas.List.{map-append}
 use Rattle.std.proofs.lemmas.List.FromFn.{map-range_with_len_more}
 use Rattle.tmr_base.specs.Copies.{Three}
-use Rattle.flat_net.specs.Net.{net_count}
 use Rattle.certificate.specs.Threes.{three_ids}
 use Rattle.triplicate.specs.Pins.{pin_is_voted}
 use Rattle.triplicate.specs.Construction.{three_copies}

@@ -1,11 +1,10 @@
-use Rattle.std.proofs.Common.{◌≡◌, ◌+◌, ◌*◌, ◌<◌, ◌≤◌, ℕ, length, refl, sym, subst, ap, ◌∙◌, arith}
+use Rattle.std.proofs.Common.{◌≡◌, length, refl, ap, ◌∙◌, arith}
 use Rattle.tmr_base.specs.Parts.{PlainParts}
-use Rattle.flat_net.specs.Net.{Net, net_count, pin_total}
+use Rattle.flat_net.specs.Net.{Net}
 use Rattle.partitioner.specs.Cost.{cost}
 use Rattle.partitioner.specs.Sizes.{plain_parts}
 use Rattle.partitioner.specs.Refining.{refined}
 use Rattle.triplicate.specs.Pins.{PlainVotes, pin_is_voted}
-use Rattle.triplicate.specs.Built.{IsBuilt}
 use Rattle.triplicate.proofs.Building.{given_of}
 use Rattle.triplicate.proofs.Sizes.{roles_counted}
 use Rattle.triplicate.proofs.Whole.{nodes_long}

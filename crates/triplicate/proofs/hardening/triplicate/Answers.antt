@@ -1,4 +1,3 @@
-use Rattle.std.proofs.Common.{◌≡◌, ◌∙◌}
 use Rattle.triplicate.specs.Labels.{labeling}
 use Rattle.triplicate.specs.Pins.{pin_is_voted}
 use Rattle.triplicate.specs.Construction.{hardened_order}

@@ -1,11 +1,11 @@
-use Rattle.std.proofs.Common.{◌≡◌, ◌+◌, ◌*◌, ◌<◌, ℕ, List, [], length, take, get_or, Some, slice_get, sym, ap, ◌∙◌, arith}
+use Rattle.std.proofs.Common.{◌≡◌, ◌+◌, ◌*◌, ℕ, List, [], take, get_or, Some, slice_get, sym, ap, ◌∙◌}
 use Rattle.std.specs.Str.{bytes_eq}
 use Rattle.std.proofs.lemmas.Option.{slice_get-get_or, get_or_from_slice_get, slice_get_within}
 use Rattle.std.proofs.lemmas.List.{get_or_append_left}
 use Rattle.indexmap.specs.IndexSet.{insert_key}
 use Rattle.tmr_base.specs.Copies.{copy_number}
 use Rattle.tmr_base.specs.Names.{copy_text}
-use Rattle.flat_net.specs.Net.{node_name, name_of}
+use Rattle.flat_net.specs.Net.{name_of}
 use Rattle.flat_net.proofs.Names.{insert_next}
 use Rattle.triplicate.specs.Blocks.{hardened_inputs}
 use Rattle.triplicate.proofs.Lists.{threes_at}

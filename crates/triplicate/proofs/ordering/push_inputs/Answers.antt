@@ -1,4 +1,4 @@
-use Rattle.std.proofs.Common.{◌≡◌, map}
+use Rattle.std.proofs.Common.{map}
 use Rattle.flat_net.specs.Nodes.{number_of}
 use Rattle.triplicate.specs.Pins.{pin_is_voted}
 use Rattle.triplicate.specs.Construction.{block_nets}

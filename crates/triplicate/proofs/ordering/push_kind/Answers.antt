@@ -1,4 +1,4 @@
-use Rattle.std.proofs.Common.{◌≡◌, ◌≤◌, ◌++◌, map, filter, take, length, ap, ◌∙◌, arith, List, ℕ}
+use Rattle.std.proofs.Common.{◌++◌, map, filter, ap, ◌∙◌, arith, List, ℕ}
 use Rattle.std.specs.List.{flat_map}
 use Rattle.std.proofs.lemmas.List.{take_all}
 use Rattle.flat_net.specs.Nodes.{number_of}

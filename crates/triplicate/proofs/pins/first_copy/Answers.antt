@@ -1,6 +1,5 @@
-use Rattle.std.proofs.Common.{◌≡◌, ◌+◌, ◌*◌, ◌<◌, ◌≤◌, ℕ, length, sym, ◌∙◌, arith}
+use Rattle.std.proofs.Common.{sym, ◌∙◌, arith}
 use Rattle.tmr_base.specs.declared.copies.CopyNo.TheVariants.{First}
-use Rattle.flat_net.specs.Net.{net_count}
 use Rattle.triplicate.specs.Pins.{pin_is_voted}
 use Rattle.triplicate.proofs.Numbering.{copy_net_input}
 use Rattle.triplicate.proofs.Places.{first_is_start}

@@ -1,4 +1,4 @@
-use Rattle.std.proofs.Common.{◌≡◌, ◌+◌, ◌<◌, ℕ, length, sym, ap, ◌∙◌, subst, arith, true, rules}
+use Rattle.std.proofs.Common.{◌≡◌, ◌+◌, ℕ, sym, ap, ◌∙◌, subst, true, rules}
 use Rattle.std.specs.Prelude.{slice_index}
 use Rattle.flat_net.specs.Net.{node_of, pins_at}
 use Rattle.feedback_cut.specs.Inner.{node_pins}

@@ -1,6 +1,6 @@
-use Rattle.std.proofs.Common.{◌≡◌, ◌++◌, [], ◌∷◌, List, map, sym, subst, ap, ◌∙◌}
+use Rattle.std.proofs.Common.{◌++◌, [], ◌∷◌, map, sym, subst, ap, ◌∙◌}
 use Rattle.table_cover.specs.Cover.{PlainCover}
-use Rattle.flat_net.specs.Net.{Node, Table, node_of, node_name, IsCoverOf}
+use Rattle.flat_net.specs.Net.{Node, node_of, node_name, IsCoverOf}
 use Rattle.flat_net.specs.Nodes.{number_of}
 use Rattle.flat_net.specs.Packs.{Packs}
 use Rattle.triplicate.specs.Made.{shifted_node}

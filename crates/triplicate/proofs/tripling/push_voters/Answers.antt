@@ -1,4 +1,3 @@
-use Rattle.std.proofs.Common.{◌≡◌}
 use Rattle.triplicate.specs.Pins.{pin_is_voted}
 use Rattle.triplicate.specs.Blocks.{voters_for}
 use Rattle.triplicate.proofs.RoleSteps.{next_in_row}

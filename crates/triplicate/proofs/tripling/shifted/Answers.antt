@@ -1,6 +1,5 @@
-use Rattle.std.proofs.Common.{◌≡◌, ◌+◌, ◌<◌, ◌≤◌, ◌++◌, [], ◌∷◌, ℕ, List, map, take, get_or, length, sym, ap, ◌∙◌, arith, rules}
+use Rattle.std.proofs.Common.{◌+◌, ◌++◌, [], ◌∷◌, ℕ, List, map, take, get_or, sym, ap, ◌∙◌, arith}
 use Rattle.std.proofs.lemmas.List.{take_all, take_more, map-append}
-use Rattle.tmr_base.specs.Copies.{copy_number}
 use Rattle.flat_net.specs.Nodes.{number_of}
 use Rattle.triplicate.proofs.tripling.shifted.Goals as goal
 

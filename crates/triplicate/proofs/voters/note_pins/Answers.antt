@@ -1,9 +1,5 @@
-use Rattle.std.proofs.Common.{◌≡◌, ◌+◌, ℕ, length, sym, subst, ap, ◌∙◌, arith}
-use Rattle.std.specs.Prelude.{slice_index}
-use Rattle.flat_net.specs.Net.{node_of, pins_at, net_count}
-use Rattle.feedback_cut.specs.Inner.{node_pins}
+use Rattle.std.proofs.Common.{length, ap, ◌∙◌}
 use Rattle.triplicate.specs.Pins.{pin_is_voted}
-use Rattle.triplicate.specs.Noted.{pins_noted}
 use Rattle.triplicate.proofs.VoterRows.{length-pins_noted}
 use Rattle.triplicate.proofs.voters.note_pins.Goals as goal
 

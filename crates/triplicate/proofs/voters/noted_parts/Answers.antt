@@ -1,5 +1,4 @@
-use Rattle.std.proofs.Common.{◌≡◌, ◌+◌, ◌<◌, ℕ, List, [], length, replicate, sym, subst, ap, ◌∙◌, arith, All, refl, rules}
-use Rattle.std.specs.Prelude.{slice_index_or}
+use Rattle.std.proofs.Common.{◌≡◌, ◌+◌, ◌<◌, ℕ, List, [], length, replicate, sym, subst, ap, ◌∙◌, arith, All}
 use Rattle.std.proofs.lemmas.List.{length-replicate}
 use Rattle.flat_net.specs.Net.{net_count}
 use Rattle.partitioner.specs.Noting.{Lists}
