@@ -32,6 +32,10 @@ pub err_gives : {T E : Type 0} (r : Result T E) (y : E) (P : E → Type 0) → I
 err_gives (Ok value) y P is holds = absurd is
 err_gives (Err error) y P is holds = subst P (sym is) holds
 
+pub match_err : {T E : Type 0} (r : Result T E) (y : E) (P : T → Type 0) (Q : Type 0) → IsErrAnd r (λ x. x ≡ y) → Q → MatchResult r P (λ _. Q)
+match_err (Ok value) y P Q is holds = absurd is
+match_err (Err error) y P Q is holds = holds
+
 pub match_since : {T E : Type 0} (r : Result T E) (P P' : T → Type 0) (Q Q' : E → Type 0) → ((x : T) → P x → P' x) → ((e : E) → Q e → Q' e) → MatchResult r P Q → MatchResult r P' Q'
 match_since (Ok value) P P' Q Q' ok err holds = ok value holds
 match_since (Err error) P P' Q Q' ok err holds = err error holds

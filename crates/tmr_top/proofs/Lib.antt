@@ -1,4 +1,5 @@
-pub mod PlainWords
+pub mod WordLaws
+pub mod LineLaws
 pub mod ChangeLaws
 pub mod LoadLaws
 pub mod SaveLaws
@@ -6,7 +7,9 @@ pub mod TextLaws
 pub mod DesignLaws
 pub mod PairLaws
 pub mod FlatLaws
+pub mod HardenLaws
 pub mod PerformLaws
 pub mod RunLaws
 pub mod OutcomeLaws
 pub mod RunClauses
+pub mod LeaveLaws

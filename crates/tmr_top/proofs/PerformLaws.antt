@@ -117,6 +117,11 @@ save_fails c old new w ns vs ts name why text is these those done failed stop sa
     at : IsSaveStop (read_words vs) (texts_in w.saves.items) old new (save_stop.Failed name)
     at = subst (λ (s : SaveStop). IsSaveStop (read_words vs) (texts_in w.saves.items) old new s) failed (subst (λ (t : List (Vec ℕ Global)). IsSaveStop (read_words vs) (texts_in t) old new why) those stop)
 
+-- there was no memory to name it
+pub save_wants : (c : Command) (old new : FilesSeen) (w : Work) (ns vs : List (Bor (List ℕ))) (ts : List (Vec ℕ Global)) (why : SaveStop) → read_words ns ≡ saves_of c → vs ≡ ns → ts ≡ w.saves.items → w.verdict ≡ verdict.Done → IsSaveStop (read_words vs) (texts_in ts) old new why → IfSome old.contents (λ held. Comes c held w) → Leaves c old new
+save_wants c old new w ns vs ts why is these those done stop comes =
+    inr (broken c old new w (read_words vs) (ap read_words these ∙ is) done comes why (subst (λ (t : List (Vec ℕ Global)). IsSaveStop (read_words vs) (texts_in t) old new why) those stop))
+
 pub ruleset saving = (changes_none)
 
 -- ---- verdicts

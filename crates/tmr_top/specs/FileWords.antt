@@ -6,18 +6,30 @@ use Rattle.tmr_top.specs.declared.file_words.LoadWords.{LoadWords}
 use Rattle.tmr_top.specs.Loads.{Load}
 use Rattle.tmr_top.specs.declared.line.PairWords.{PairWords}
 use Rattle.tmr_top.specs.declared.line.FlatWords.{FlatWords}
+use Rattle.tmr_top.specs.declared.harden_words.HardenWords.{HardenWords}
 use Rattle.tmr_top.specs.declared.line.CommandWords.{CommandWords}
 use Rattle.tmr_top.specs.declared.line.CommandWords.TheVariants as words
-use Rattle.tmr_top.specs.Line.{Pair, Flattening, Command, Validate, Flatten}
+use Rattle.tmr_top.specs.Line.{Pair, Hardening, Flattening, Command, Validate, Harden, Flatten}
 
 abbrev pub pair_in : PairWords → Pair
 pair_in words = record { original = words.original.now; hardened = words.hardened.now; certificate = words.certificate.now }
+
+abbrev pub hardening_in : HardenWords → Hardening
+hardening_in words = record {
+  original = words.original.now;
+  hardened = words.hardened.now;
+  certificate = words.certificate.now;
+  size = words.size;
+  version = words.version;
+  most = words.most;
+}
 
 abbrev pub flattening_in : FlatWords → Flattening
 flattening_in words = record { original = words.original.now; flat = words.flat.now }
 
 abbrev pub command_in : CommandWords → Command
 command_in (words.Validate pair) = Validate (pair_in pair)
+command_in (words.Harden harden) = Harden (hardening_in harden)
 command_in (words.Flatten flat) = Flatten (flattening_in flat)
 
 -- words without where they lie in memory

@@ -1,18 +1,25 @@
--- How the words of a command line are read.
-use Rattle.std.specs.Prelude.{ℕ, ◌==◌, ◌&&◌, nat_lt, Bool, List, [], ◌∷◌, map, length, Option, Some, None, codes, slice_index, string_bytes, String, if◌then◌else◌}
-use Rattle.std.specs.Option.{option_map}
+-- What the words of a command line mean.
+use Rattle.std.specs.Prelude.{ℕ, ◌&&◌, nat_lt, nat_eq, not, Bool, List, [], ◌∷◌, length, Option, Some, None, codes, String, if◌then◌else◌}
+use Rattle.std.specs.Option.{option_and_then}
 use Rattle.std.specs.Str.{bytes_eq}
 use Rattle.std.specs.declared.alloc.Global.{Global}
-
--- the words as lists of bytes
-abbrev pub texts : List (String Global) → List (List ℕ)
-texts words = map string_bytes words
+use Rattle.tmr_base.specs.Numbers.{number_of}
+use Rattle.tmr_top.specs.Words.{texts, Words, has_no_options, words_of}
 
 -- the three files of `validate ORIG HARD CERT`
 pub record Pair : Type 0 where
   pub original : List ℕ
   pub hardened : List ℕ
   pub certificate : List ℕ
+
+-- the three files of `harden ORIG HARD CERT`, the size of partitions, the version of the certificate, and the most that a depth may be
+pub record Hardening : Type 0 where
+  pub original : List ℕ
+  pub hardened : List ℕ
+  pub certificate : List ℕ
+  pub size : ℕ
+  pub version : ℕ
+  pub most : ℕ
 
 -- the two files of `flatten ORIG FLAT`
 pub record Flattening : Type 0 where
@@ -22,19 +29,8 @@ pub record Flattening : Type 0 where
 -- what the words of a command line can mean
 pub data Command : Type 0 where
   Validate : Pair → Command
+  Harden : Hardening → Command
   Flatten : Flattening → Command
-
--- a word of two or more bytes that begins with `-`
-abbrev pub is_option : List ℕ → Bool
-is_option word = nat_lt 1 (length word) && slice_index word 0 == 45
-
--- The plain words. Before the first `--` no word may be an option; that `--` is no plain word, and behind it all words are plain.
-unfoldable pub plain_words : List (List ℕ) → Option (List (List ℕ))
-plain_words [] = Some []
-plain_words (word ∷ words) =
-    if bytes_eq word (codes "--") then Some words
-    else if is_option word then None
-    else option_map (λ rest. word ∷ rest) (plain_words words)
 
 -- a file word is not empty
 abbrev pub is_file : List ℕ → Bool
@@ -54,16 +50,49 @@ flattening_of (original ∷ flat ∷ []) =
     else None
 flattening_of words = None
 
-abbrev pub of_plain : (List (List ℕ) → Option Command) → Option (List (List ℕ)) → Option Command
-of_plain meaning None = None
-of_plain meaning (Some words) = meaning words
+-- a number from 1 to 4,294,967,295, decimal and without leading zeros
+unfoldable pub positive_number : List ℕ → Option ℕ
+positive_number word = option_and_then (λ n. if nat_eq n 0 then None else Some n) (number_of 32 word)
 
--- what the words mean: a command with its files, or nothing
+-- `1` or `2`
+unfoldable pub version_number : List ℕ → Option ℕ
+version_number word = if bytes_eq word (codes "1") then Some 1 else if bytes_eq word (codes "2") then Some 2 else None
+
+-- what an option says that is given at most once; where it is not given, this number
+abbrev pub said : (List ℕ → Option ℕ) → ℕ → List (List ℕ) → Option ℕ
+said number default [] = Some default
+said number default (value ∷ []) = number value
+said number default (value ∷ other ∷ values) = None
+
+-- the hardened design and the certificate have two names
+unfoldable pub hardening_with : ℕ → ℕ → ℕ → List (List ℕ) → Option Command
+hardening_with size version most (original ∷ hardened ∷ certificate ∷ []) =
+    if is_file original && is_file hardened && is_file certificate && not (bytes_eq hardened certificate)
+    then Some (Harden (record { original = original; hardened = hardened; certificate = certificate; size = size; version = version; most = most }))
+    else None
+hardening_with size version most words = None
+
+-- without options the size is 64, the version 1, and a depth may be any
+unfoldable pub hardening_of : Words → Option Command
+hardening_of words =
+    option_and_then (λ size. option_and_then (λ version. option_and_then (λ most. hardening_with size version most words.plain)
+    (said positive_number 4294967295 words.depths)) (said version_number 1 words.versions)) (said positive_number 64 words.sizes)
+
+abbrev pub of_words : (Words → Option Command) → Option Words → Option Command
+of_words meaning None = None
+of_words meaning (Some words) = meaning words
+
+-- a command without options
+abbrev pub of_plain : (List (List ℕ) → Option Command) → Option Words → Option Command
+of_plain meaning = of_words (λ words. if has_no_options words then meaning words.plain else None)
+
+-- what the words mean: a command with its files and options, or nothing
 unfoldable pub line_of : List (List ℕ) → Option Command
 line_of [] = None
 line_of (command ∷ words) =
-    if bytes_eq command (codes "validate") then of_plain pair_of (plain_words words)
-    else if bytes_eq command (codes "flatten") then of_plain flattening_of (plain_words words)
+    if bytes_eq command (codes "validate") then of_plain pair_of (words_of words)
+    else if bytes_eq command (codes "harden") then of_words hardening_of (words_of words)
+    else if bytes_eq command (codes "flatten") then of_plain flattening_of (words_of words)
     else None
 
 -- what the words of a command line mean

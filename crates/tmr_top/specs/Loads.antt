@@ -2,7 +2,7 @@
 use Rattle.std.specs.Prelude.{ℕ, List, [], ◌∷◌, map, Option, Some, None}
 use Rattle.tmr_top.specs.declared.file_words.FileKind.{FileKind}
 use Rattle.tmr_top.specs.declared.file_words.FileKind.TheVariants.{Netlist, Bytes}
-use Rattle.tmr_top.specs.Line.{Command, Validate, Flatten}
+use Rattle.tmr_top.specs.Line.{Command, Validate, Harden, Flatten}
 
 -- a file to be loaded, and the most bytes that it may have; a netlist is read while it is loaded, and of other files the bytes are kept
 pub record Load : Type 0 where
@@ -25,11 +25,13 @@ certificate_file name = record { name = name; limit = 1073741824; kind = Bytes }
 -- the files that a command loads, in this order
 abbrev pub loads_of : Command → List Load
 loads_of (Validate p) = original_file p.original ∷ hardened_file p.hardened ∷ certificate_file p.certificate ∷ []
+loads_of (Harden w) = original_file w.original ∷ []
 loads_of (Flatten f) = original_file f.original ∷ []
 
 -- the names that a command saves, in this order
 abbrev pub saves_of : Command → List (List ℕ)
 saves_of (Validate p) = []
+saves_of (Harden w) = w.hardened ∷ w.certificate ∷ []
 saves_of (Flatten f) = f.flat ∷ []
 
 abbrev pub load_name : Load → List ℕ

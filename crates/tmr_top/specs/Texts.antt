@@ -16,13 +16,13 @@ greatest (d ∷ ds) = max d (greatest ds)
 
 -- in version 1 initial values that are left open are taken as 0, and in version 2 they are free
 abbrev pub open_word : ℕ → List ℕ
-open_word version = if nat_eq version 1 then codes " assumed " else codes " free "
+open_word version = if nat_eq version 1 then codes "assumed " else codes "free "
 
 -- how many partitions there are, the greatest certified depth, and how many initial values are left open in both designs
 unfoldable pub accepted_line : PlainCert → ℕ → ℕ → List ℕ
 accepted_line k count hardened_count =
     joined (codes "accepted partitions " ∷ decimal (length k.depth) ∷ codes " depth " ∷ decimal (greatest k.depth)
-    ∷ open_word k.version ∷ decimal count ∷ codes " " ∷ decimal hardened_count ∷ codes "\n" ∷ [])
+    ∷ codes " " ∷ open_word k.version ∷ decimal count ∷ codes " " ∷ decimal hardened_count ∷ codes "\n" ∷ [])
 
 abbrev pub counted_text : List ℕ → ℕ → List ℕ
 counted_text what count = what ++ decimal count
@@ -59,7 +59,7 @@ unfoldable pub save_fault_line : List ℕ → List ℕ
 save_fault_line file = joined (codes "fault: save " ∷ file ∷ codes "\n" ∷ [])
 
 unfoldable pub usage_text : List ℕ
-usage_text = codes "usage: tmr validate ORIG HARD CERT\n       tmr flatten ORIG FLAT\n"
+usage_text = codes "usage: tmr validate ORIG HARD CERT\n       tmr harden ORIG HARD CERT [--size S] [--cert V] [--depth D]\n       tmr flatten ORIG FLAT\n"
 
 unfoldable pub memory_text : List ℕ
 memory_text = codes "want of memory\n"

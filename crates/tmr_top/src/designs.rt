@@ -1,5 +1,6 @@
 //! Designs, read from the bytes of their files.
-ghost use Rattle.std.specs.Prelude.{◌≡◌, ◌≤◌, List, ℕ, IfOk, IfErr, MatchResult};
+ghost use Rattle.std.specs.Prelude.{◌≡◌, ◌≤◌, ◌+◌, ◌*◌, List, ℕ, IfOk, IfErr, MatchResult};
+ghost use Rattle.flat_net.specs.Net.{net_count, pin_total};
 ghost use Rattle.blif_text.specs.Reading.{reading};
 ghost use Rattle.blif_text.specs.Stands.{Reads};
 ghost use Rattle.tmr_top.specs.declared.designs.Unread.{Unread};
@@ -38,6 +39,7 @@ fn refused(reason: Result<Vec<u8>, OutOfMemory>) -> Unread
 fn design_of(alloc: Global, library: &Library, limit: u64) -> Result<FreeNet, Unread>
     requires { limit ≤ 1073741824 }
     ensures read { (bytes : List ℕ) → reading bytes ≡ Ok library.now → IfOk result (λ flat. IsFreeNetOf bytes limit flat.design.net flat.free) }
+    ensures few { IfOk result (λ flat. 2 * (net_count flat.design.net + pin_total flat.design.net) ≤ limit) }
     ensures unread { (bytes : List ℕ) → reading bytes ≡ Ok library.now → IfErr result (OnRefused (IsUnread limit bytes)) }
 {
     match flatten_free(alloc, library, limit) {
@@ -55,6 +57,7 @@ pub fn read_design(
 ) -> Result<FreeNet, Unread>
     requires { limit ≤ 1073741824 }
     ensures read { (bytes : List ℕ) → Reads text.now (reading bytes) → IfOk result (λ flat. IsFreeNetOf bytes limit flat.design.net flat.free) }
+    ensures few { IfOk result (λ flat. 2 * (net_count flat.design.net + pin_total flat.design.net) ≤ limit) }
     ensures unread { (bytes : List ℕ) → Reads text.now (reading bytes) → IfErr result (OnRefused (IsUnread limit bytes)) }
 {
     match text {

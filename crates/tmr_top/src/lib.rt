@@ -5,6 +5,9 @@ mod decision;
 mod designs;
 mod file_words;
 mod flattening;
+mod form_text;
+mod harden_words;
+mod hardening;
 mod line;
 mod loads;
 mod performing;
@@ -15,6 +18,7 @@ mod status;
 mod taker;
 mod texts;
 mod validation;
+mod words;
 
 pub use program::run;
 pub use status::Status;

@@ -1,11 +1,15 @@
-//! The words of the command line.
-ghost use Rattle.std.specs.Prelude.{◌≡◌, ◌++◌, Some, None, IfOk, IfSome, IsNone};
+//! What the words of the command line mean.
+ghost use Rattle.std.specs.Prelude.{◌≡◌, ◌<◌, IfOk, IfSome};
 ghost use Rattle.std.specs.Option.{option_map};
-ghost use Rattle.tmr_top.specs.Line.{texts, is_option, is_file, plain_words, pair_of, flattening_of, line_of};
-ghost use Rattle.tmr_top.specs.Steps.{step_of};
-ghost use Rattle.tmr_top.specs.FileWords.{command_in, read_words};
+ghost use Rattle.tmr_top.specs.Words.{texts};
+ghost use Rattle.tmr_top.specs.WordsRead.{words_in};
+ghost use Rattle.tmr_top.specs.Line.{is_file, pair_of, flattening_of, positive_number, version_number, said, hardening_with, hardening_of, line_of};
+ghost use Rattle.tmr_top.specs.FileWords.{command_in, read_words as read_texts};
 
+use crate::harden_words::HardenWords;
+use crate::words::{ReadWords, is_plain, read_words};
 use std::alloc::{AllocError, Global};
+use tmr_base::read_u32;
 
 /// The three file words of `validate ORIG HARD CERT`.
 #[derive(Clone, Copy, Drop)]
@@ -26,65 +30,14 @@ pub struct FlatWords<'a> {
 #[derive(Clone, Copy, Drop)]
 pub enum CommandWords<'a> {
     Validate(PairWords<'a>),
+    Harden(HardenWords<'a>),
     Flatten(FlatWords<'a>),
-}
-
-/// A word of two or more bytes that begins with `-`.
-fn is_option_word(word: &str) -> bool
-    ensures { result ≡ is_option word.now }
-{
-    let bytes = word.as_bytes();
-    bytes.len() > 1 && bytes[0] == b'-'
-}
-
-/// What a word is among the words of a command.
-#[derive(Clone, Copy, Drop)]
-enum Step {
-    Plain,
-    Mark,
-    Option,
-}
-
-/// What the word is, where the first `--` was met before it or not.
-fn next_step(all_plain: bool, word: &str) -> Step
-    ensures { result ≡ step_of all_plain word.now }
-{
-    if all_plain {
-        return Step::Plain;
-    }
-    if word == "--" {
-        return Step::Mark;
-    }
-    if is_option_word(word) {
-        Step::Option
-    } else {
-        Step::Plain
-    }
-}
-
-/// The plain words, or nothing where an option stands among them.
-fn read_plain_words<'a>(
-    alloc: Global,
-    words: &'a [String],
-) -> Result<Option<Vec<&'a str>>, AllocError>
-    ensures { IfOk result (λ plain. option_map (λ v. read_words v.items) plain ≡ plain_words (texts words.now)) }
-{
-    let mut plain = Vec::new(alloc);
-    let mut all_plain = false;
-    for word in words {
-        match next_step(all_plain, word.as_str()) {
-            Step::Mark => all_plain = true,
-            Step::Option => return Ok(None),
-            Step::Plain => plain.push(word.as_str())?,
-        }
-    }
-    Ok(Some(plain))
 }
 
 /// `validate`, where there are three words and none is empty.
 #[tactic(auto, unfolding(crate::specs::Line::pair_of))]
 fn read_pair<'a>(plain: &[&'a str]) -> Option<CommandWords<'a>>
-    ensures { option_map command_in result ≡ pair_of (read_words plain.now) }
+    ensures { option_map command_in result ≡ pair_of (read_texts plain.now) }
 {
     match plain {
         [original, hardened, certificate] => {
@@ -104,7 +57,7 @@ fn read_pair<'a>(plain: &[&'a str]) -> Option<CommandWords<'a>>
 /// `flatten`, where there are two words and none is empty.
 #[tactic(auto, unfolding(crate::specs::Line::flattening_of))]
 fn read_flattening<'a>(plain: &[&'a str]) -> Option<CommandWords<'a>>
-    ensures { option_map command_in result ≡ flattening_of (read_words plain.now) }
+    ensures { option_map command_in result ≡ flattening_of (read_texts plain.now) }
 {
     match plain {
         [original, flat] => {
@@ -120,6 +73,109 @@ fn read_flattening<'a>(plain: &[&'a str]) -> Option<CommandWords<'a>>
     }
 }
 
+/// The number that an option's value writes, from 1.
+#[tactic(auto, unfolding(crate::specs::Line::positive_number))]
+fn read_positive(value: &[u8]) -> Option<u32>
+    ensures range { IfSome result (λ number. 0 < number) }
+    ensures number { result ≡ positive_number value.now }
+{
+    match read_u32(value) {
+        None => None,
+        Some(number) => { if number == 0 { None } else { Some(number) } }
+    }
+}
+
+/// The version that an option's value writes.
+#[tactic(auto, unfolding(crate::specs::Line::version_number))]
+fn read_version(value: &[u8]) -> Option<u8>
+    ensures range { IfSome result (λ version. (0 < version) × (version < 3)) }
+    ensures number { result ≡ version_number value.now }
+{
+    if value == b"1".as_slice() {
+        return Some(1);
+    }
+    if value == b"2".as_slice() {
+        return Some(2);
+    }
+    None
+}
+
+/// What an option says that is given at most once; where it is not given, this number.
+fn said_number(default: u32, values: &[&[u8]]) -> Option<u32>
+    requires { 0 < default }
+    ensures range { IfSome result (λ number. 0 < number) }
+    ensures said { result ≡ said positive_number default (read_texts values.now) }
+{
+    match values {
+        [] => Some(default),
+        [value] => read_positive(value),
+        _ => None,
+    }
+}
+
+/// The version that is said; without the option it is 1.
+fn said_version(values: &[&[u8]]) -> Option<u8>
+    ensures range { IfSome result (λ version. (0 < version) × (version < 3)) }
+    ensures said { result ≡ said version_number 1 (read_texts values.now) }
+{
+    match values {
+        [] => Some(1),
+        [value] => read_version(value),
+        _ => None,
+    }
+}
+
+/// `harden`, where there are three words, none is empty, and the last two differ.
+#[tactic(auto, unfolding(crate::specs::Line::hardening_with))]
+fn hardening_words<'a>(
+    size: u32,
+    version: u8,
+    most: u32,
+    plain: &[&'a str],
+) -> Option<CommandWords<'a>>
+    requires size { 0 < size }
+    requires version { (0 < version) × (version < 3) }
+    requires most { 0 < most }
+    ensures { option_map command_in result ≡ hardening_with size version most (read_texts plain.now) }
+{
+    match plain {
+        [original, hardened, certificate] => {
+            if original.is_empty() || hardened.is_empty() || certificate.is_empty() {
+                return None;
+            }
+            if hardened == certificate {
+                return None;
+            }
+            Some(CommandWords::Harden(HardenWords {
+                original: *original,
+                hardened: *hardened,
+                certificate: *certificate,
+                size,
+                version,
+                most,
+            }))
+        }
+        _ => None,
+    }
+}
+
+/// `harden`, where its options and files can be read.
+#[tactic(auto, unfolding(crate::specs::Line::hardening_of))]
+fn read_hardening<'a>(words: &ReadWords<'a>) -> Option<CommandWords<'a>>
+    ensures { option_map command_in result ≡ hardening_of (words_in words.now) }
+{
+    match said_number(64, words.sizes.as_slice()) {
+        None => None,
+        Some(size) => match said_version(words.versions.as_slice()) {
+            None => None,
+            Some(version) => match said_number(4294967295, words.depths.as_slice()) {
+                None => None,
+                Some(most) => hardening_words(size, version, most, words.plain.as_slice()),
+            },
+        },
+    }
+}
+
 /// What the words mean: a command with its files, or nothing.
 #[tactic(auto, unfolding(crate::specs::Line::line_of))]
 pub fn read_line<'a>(
@@ -131,14 +187,20 @@ pub fn read_line<'a>(
     let Some((command, rest)) = words.split_first() else {
         return Ok(None);
     };
-    let Some(plain) = read_plain_words(alloc, rest)? else {
+    let Some(read) = read_words(alloc, rest)? else {
         return Ok(None);
     };
+    if command.as_str() == "harden" {
+        return Ok(read_hardening(&read));
+    }
+    if !is_plain(&read) {
+        return Ok(None);
+    }
     if command.as_str() == "validate" {
-        return Ok(read_pair(plain.as_slice()));
+        return Ok(read_pair(read.plain.as_slice()));
     }
     if command.as_str() == "flatten" {
-        return Ok(read_flattening(plain.as_slice()));
+        return Ok(read_flattening(read.plain.as_slice()));
     }
     Ok(None)
 }

@@ -88,6 +88,7 @@ pub fn list_loads<'a>(
             loads.push(hardened_file(pair.hardened))?;
             loads.push(certificate_file(pair.certificate))?;
         }
+        CommandWords::Harden(harden) => loads.push(original_file(harden.original))?,
         CommandWords::Flatten(flat) => loads.push(original_file(flat.original))?,
     }
     Ok(loads)

@@ -16,6 +16,7 @@ ghost use Rattle.tmr_top.specs.Runs.{Performs, Untouched};
 use crate::Status;
 use crate::decision::{Decision, Verdict, Work, stopped};
 use crate::flattening::flatten;
+use crate::hardening::harden;
 use crate::line::CommandWords;
 use crate::loads::{Loaded, list_loads, load_all};
 use crate::saves::{SaveStop, list_saves, save_all};
@@ -34,6 +35,7 @@ fn work(alloc: Global, words: &CommandWords, loaded: &[Loaded]) -> Result<Work, 
 {
     match words {
         CommandWords::Validate(pair) => validate(alloc, pair, loaded),
+        CommandWords::Harden(words) => harden(alloc, words, loaded),
         CommandWords::Flatten(flat) => flatten(alloc, flat, loaded),
     }
 }

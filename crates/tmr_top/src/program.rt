@@ -2,11 +2,12 @@
 ghost use Rattle.std.specs.Prelude.{◌≡◌, ◌≢◌, ◌≤◌, ◌⊎◌, Some, None, IfOk, IfSome, IsSomeAnd, MatchResult};
 ghost use Rattle.tmr_outside.specs.Counts.{Rose, NoneRose};
 ghost use Rattle.tmr_outside.specs.Seen.{IsTold};
-ghost use Rattle.tmr_top.specs.Line.{Pair, Validate, meaning};
+ghost use Rattle.tmr_top.specs.Line.{Pair, Hardening, Validate, Harden, meaning};
 ghost use Rattle.tmr_top.specs.Loads.{loaded_names, saved_names};
 ghost use Rattle.tmr_top.specs.Changes.{ChangesOnly, NoneFailed};
 ghost use Rattle.tmr_top.specs.Saves.{Completes};
 ghost use Rattle.tmr_top.specs.Pairs.{Masked};
+ghost use Rattle.tmr_top.specs.HardenedFiles.{LeavesHardened};
 ghost use Rattle.tmr_top.specs.Causes.{Where, OrMemory, SomeMissing, SomeLoadRose, SomeSaveRose, IsRefusable, Disagrees, Succeeds};
 ghost use Rattle.tmr_top.specs.Works.{LeavesLine};
 ghost use Rattle.tmr_top.specs.Runs.{Acts, Ends, Ran, Untouched};
@@ -106,8 +107,9 @@ fn decide_and_put<F: Files, S: Sink>(
 /// Runs the program once: reads the words (without the program's own name), loads the files, does
 /// the command, saves its texts, and puts its text.
 ///
-/// The commands are `validate ORIG HARD CERT`, which saves nothing, and `flatten ORIG FLAT`, which
-/// saves FLAT. Where memory is short, the answer may be `Memory` in place of any other.
+/// The commands are `validate ORIG HARD CERT`, which saves nothing, `harden ORIG HARD CERT`, which
+/// saves HARD and CERT, and `flatten ORIG FLAT`, which saves FLAT. Where memory is short, the answer
+/// may be `Memory` in place of any other.
 pub fn run<F: Files, S: Sink>(alloc: Global, words: &[String], files: &mut F, out: &mut S) -> Status
     // The headline. Where contents are told and the words are `validate ORIG HARD CERT`, the answer
     // Done says that the three names hold two designs and a certificate, that the eight rules hold
@@ -115,6 +117,13 @@ pub fn run<F: Files, S: Sink>(alloc: Global, words: &[String], files: &mut F, ou
     // inputs.
     ensures masks { (p : Pair) → meaning words.now ≡ Some (Validate p)
         → result ≡ Status.Done → IfSome (F.seen files.old).contents (λ held. Masked held p) }
+
+    // What `harden` leaves. Where contents are told, the answer Done says that HARD and CERT hold a
+    // hardened form of the design that ORIG held, which is what is read there, and where ORIG is
+    // neither of them, that `validate` of the three files comes to Done.
+    ensures hardens { (w : Hardening) → meaning words.now ≡ Some (Harden w)
+        → result ≡ Status.Done → IfSome (F.seen files.old).contents (λ held.
+        IsSomeAnd (F.seen files.new).contents (LeavesHardened w held)) }
 
     // What is decided, saved and printed.
     ensures ran { Ran (meaning words.now) (F.seen files.old) (F.seen files.new)

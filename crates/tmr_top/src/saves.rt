@@ -24,6 +24,10 @@ pub fn list_saves<'a>(alloc: Global, words: &CommandWords<'a>) -> Result<Vec<&'a
     let mut names = Vec::new(alloc);
     match words {
         CommandWords::Validate(_) => {}
+        CommandWords::Harden(harden) => {
+            names.push(harden.hardened)?;
+            names.push(harden.certificate)?;
+        }
         CommandWords::Flatten(flat) => names.push(flat.flat)?,
     }
     Ok(names)

@@ -17,7 +17,7 @@ use validator::Refusal;
 pub fn usage() -> &'static str
     ensures { result.now ≡ usage_text }
 {
-    "usage: tmr validate ORIG HARD CERT\n       tmr flatten ORIG FLAT\n"
+    "usage: tmr validate ORIG HARD CERT\n       tmr harden ORIG HARD CERT [--size S] [--cert V] [--depth D]\n       tmr flatten ORIG FLAT\n"
 }
 
 /// What is put where there was no memory.
@@ -42,7 +42,7 @@ pub fn join(alloc: Global, pieces: &[&[u8]]) -> Result<Vec<u8>, OutOfMemory>
 
 /// The greatest certified depth, or 0 where there is no partition.
 #[tactic(auto, using(crate::proofs::TextLaws::numbers))]
-fn greatest_depth(c: &Certificate) -> u32
+pub fn greatest_depth(c: &Certificate) -> u32
     ensures { result ≡ greatest c.now.depth }
 {
     let mut most = 0;
@@ -52,14 +52,14 @@ fn greatest_depth(c: &Certificate) -> u32
     most
 }
 
-/// What is said of open initial values.
-fn open_word(c: &Certificate) -> &'static [u8]
-    ensures { result.now ≡ open_word c.now.version }
+/// What is said of open initial values by certificates of this version.
+pub fn open_word(version: u8) -> &'static [u8]
+    ensures { result.now ≡ open_word version }
 {
-    if c.version() == 1 {
-        b" assumed ".as_slice()
+    if version == 1 {
+        b"assumed ".as_slice()
     } else {
-        b" free ".as_slice()
+        b"free ".as_slice()
     }
 }
 
@@ -84,7 +84,8 @@ pub fn accepted(
             parts.as_bytes(),
             b" depth ".as_slice(),
             depth.as_bytes(),
-            open_word(c),
+            b" ".as_slice(),
+            open_word(c.version()),
             first.as_bytes(),
             b" ".as_slice(),
             second.as_bytes(),
@@ -183,11 +184,11 @@ pub fn save_fault(alloc: Global, file: &str) -> Result<Vec<u8>, OutOfMemory>
 }
 
 /// What is counted, and how often it is there.
-fn counted(alloc: Global, what: &str, count: u32) -> Result<Vec<u8>, OutOfMemory>
+pub fn counted(alloc: Global, what: &[u8], count: u64) -> Result<Vec<u8>, OutOfMemory>
     ensures { IfOk result (λ text. text.items ≡ counted_text what.now count) }
 {
     let digits = count.to_string(alloc)?;
-    let mut text = what.as_bytes().to_vec(alloc)?;
+    let mut text = what.to_vec(alloc)?;
     text.extend_from_slice(digits.as_bytes())?;
     Ok(text)
 }
@@ -197,11 +198,11 @@ fn counted(alloc: Global, what: &str, count: u32) -> Result<Vec<u8>, OutOfMemory
 pub fn flattened(alloc: Global, net: &FlatNet, assumed: u32) -> Result<Vec<u8>, OutOfMemory>
     ensures { IfOk result (λ text. text.items ≡ flattened_line net.now.net assumed) }
 {
-    let inputs = counted(alloc, "flat inputs ", net.input_count())?;
-    let outputs = counted(alloc, " outputs ", net.output_count())?;
-    let nodes = counted(alloc, " nodes ", net.node_count())?;
-    let registers = counted(alloc, " registers ", net.register_count())?;
-    let open_values = counted(alloc, " assumed ", assumed)?;
+    let inputs = counted(alloc, b"flat inputs ", net.input_count() as u64)?;
+    let outputs = counted(alloc, b" outputs ", net.output_count() as u64)?;
+    let nodes = counted(alloc, b" nodes ", net.node_count() as u64)?;
+    let registers = counted(alloc, b" registers ", net.register_count() as u64)?;
+    let open_values = counted(alloc, b" assumed ", assumed as u64)?;
     join(
         alloc,
         &[

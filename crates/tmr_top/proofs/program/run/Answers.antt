@@ -1,4 +1,7 @@
 use Rattle.tmr_top.proofs.RunClauses.{usage, usage_only, fault, refused, refused_only, not_accepted, not_accepted_only, done, otherwise, complete, complete_steady, missing_only, untouched, load_failed}
+use Rattle.tmr_top.specs.Words.{texts}
+use Rattle.tmr_top.proofs.LineLaws.{two_names}
+use Rattle.tmr_top.proofs.LeaveLaws.{leaves}
 use Rattle.tmr_top.proofs.program.run.Goals as goal
 
 pub returns-clause-usage : goal.returns-clause-usage
@@ -42,3 +45,6 @@ returns-clause-load_failed g c = load_failed _ (g.F.Files.seen c.args.files.now)
 
 pub returns-clause-otherwise : goal.returns-clause-otherwise
 returns-clause-otherwise g c = otherwise _ _ _ _ _ _ c.decide_and_put.ensures.ran
+
+pub returns-clause-hardens : goal.returns-clause-hardens
+returns-clause-hardens g c = λ w is e. leaves _ w (g.F.Files.seen c.args.files.now) (g.F.Files.seen c.decide_and_put.new.files) is (two_names (texts c.args.words.now) w is) (done _ _ _ _ _ _ c.decide_and_put.ensures.ran e)

@@ -1,0 +1,103 @@
+-- What the words of `harden` mean.
+use Rattle.std.proofs.Common.{◌≡◌, ◌≢◌, ℕ, Bool, true, false, cond, ◌&&◌, List, [], ◌∷◌, Option, Some, None, refl, sym, ◌∙◌}
+use Rattle.std.specs.Prelude.{codes, not}
+use Rattle.std.specs.Option.{option_and_then}
+use Rattle.std.specs.Str.{bytes_eq}
+use Rattle.flat_net.proofs.Names.{eq_true}
+use Rattle.tmr_top.specs.Words.{Words, has_no_options, words_of}
+use Rattle.tmr_top.specs.Line.{Command, Pair, Hardening, Flattening, Validate, Harden, Flatten, is_file, said, positive_number, version_number, pair_of, flattening_of, hardening_with, hardening_of, of_words, of_plain, line_of}
+
+pub all_said : (words : Words) (size version most : ℕ) → said positive_number 64 words.sizes ≡ Some size → said version_number 1 words.versions ≡ Some version → said positive_number 4294967295 words.depths ≡ Some most → hardening_of words ≡ hardening_with size version most words.plain
+unfolding hardening_of
+all_said words size version most one two three = rw (one, two, three) refl
+
+-- ---- the two names of a hardening differ
+
+-- what is meant, where it is a hardening, has two names
+abbrev HasTwoNames : Option Command → Type 0
+HasTwoNames meant = (w : Hardening) → meant ≡ Some (Harden w) → w.hardened ≢ w.certificate
+
+none_has : HasTwoNames None
+none_has w is = absurd cc
+
+choice_has : (b : Bool) (x y : Option Command) → HasTwoNames x → HasTwoNames y → HasTwoNames (cond b x y)
+choice_has true x y one other = one
+choice_has false x y one other = other
+
+validate_has : (p : Pair) → HasTwoNames (Some (Validate p))
+validate_has p w is = absurd cc
+
+flatten_has : (f : Flattening) → HasTwoNames (Some (Flatten f))
+flatten_has f w is = absurd cc
+
+pair_has : (words : List (List ℕ)) → HasTwoNames (pair_of words)
+unfolding pair_of
+pair_has [] = none_has
+pair_has (a ∷ []) = none_has
+pair_has (a ∷ b ∷ []) = none_has
+pair_has (a ∷ b ∷ c ∷ []) = choice_has (is_file a && is_file b && is_file c) _ _ (validate_has _) none_has
+pair_has (a ∷ b ∷ c ∷ d ∷ words) = none_has
+
+flattening_has : (words : List (List ℕ)) → HasTwoNames (flattening_of words)
+unfolding flattening_of
+flattening_has [] = none_has
+flattening_has (a ∷ []) = none_has
+flattening_has (a ∷ b ∷ []) = choice_has (is_file a && is_file b) _ _ (flatten_has _) none_has
+flattening_has (a ∷ b ∷ c ∷ words) = none_has
+
+last_of : (x y : Bool) → (x && y) ≡ true → y ≡ true
+last_of true y e = e
+last_of false y e = absurd cc
+
+not_same : (b : Bool) → not b ≡ true → b ≡ true → ⊥
+not_same true e f = absurd cc
+not_same false e f = absurd cc
+
+made_has : (size version most : ℕ) (a b c : List ℕ) (test : Bool) → (test ≡ true → b ≢ c) → HasTwoNames (cond test (Some (Harden (record { original = a; hardened = b; certificate = c; size = size; version = version; most = most }))) None)
+made_has size version most a b c false differ w is = absurd cc
+made_has size version most a b c true differ w is = λ same.
+    let one : b ≡ w.hardened = cc in
+    let two : c ≡ w.certificate = cc in
+    differ refl (one ∙ (same ∙ sym two))
+
+with_has : (size version most : ℕ) (words : List (List ℕ)) → HasTwoNames (hardening_with size version most words)
+unfolding hardening_with
+with_has size version most [] = none_has
+with_has size version most (a ∷ []) = none_has
+with_has size version most (a ∷ b ∷ []) = none_has
+with_has size version most (a ∷ b ∷ c ∷ []) =
+    made_has size version most a b c (is_file a && is_file b && is_file c && not (bytes_eq b c))
+    (λ test same. not_same (bytes_eq b c) (last_of (is_file a && is_file b && is_file c) (not (bytes_eq b c)) test) (eq_true b c same))
+with_has size version most (a ∷ b ∷ c ∷ d ∷ words) = none_has
+
+hardening_has : (words : Words) → HasTwoNames (hardening_of words)
+unfolding hardening_of
+hardening_has words = by_size (said positive_number 64 words.sizes)
+  where
+    by_most : (size version : ℕ) (o : Option ℕ) → HasTwoNames (option_and_then (λ most. hardening_with size version most words.plain) o)
+    by_most size version None = none_has
+    by_most size version (Some most) = with_has size version most words.plain
+
+    by_version : (size : ℕ) (o : Option ℕ) → HasTwoNames (option_and_then (λ version. option_and_then (λ most. hardening_with size version most words.plain) (said positive_number 4294967295 words.depths)) o)
+    by_version size None = none_has
+    by_version size (Some version) = by_most size version (said positive_number 4294967295 words.depths)
+
+    by_size : (o : Option ℕ) → HasTwoNames (option_and_then (λ size. option_and_then (λ version. option_and_then (λ most. hardening_with size version most words.plain) (said positive_number 4294967295 words.depths)) (said version_number 1 words.versions)) o)
+    by_size None = none_has
+    by_size (Some size) = by_version size (said version_number 1 words.versions)
+
+hardened_has : (words : Option Words) → HasTwoNames (of_words hardening_of words)
+hardened_has None = none_has
+hardened_has (Some words) = hardening_has words
+
+plain_has : (meant : List (List ℕ) → Option Command) → ((words : List (List ℕ)) → HasTwoNames (meant words)) → (words : Option Words) → HasTwoNames (of_plain meant words)
+plain_has meant each None = none_has
+plain_has meant each (Some words) = choice_has (has_no_options words) _ _ (each words.plain) none_has
+
+pub two_names : (words : List (List ℕ)) → HasTwoNames (line_of words)
+unfolding line_of
+two_names [] = none_has
+two_names (command ∷ words) =
+    choice_has (bytes_eq command (codes "validate")) _ _ (plain_has pair_of pair_has (words_of words))
+    (choice_has (bytes_eq command (codes "harden")) _ _ (hardened_has (words_of words))
+    (choice_has (bytes_eq command (codes "flatten")) _ _ (plain_has flattening_of flattening_has (words_of words)) none_has))

@@ -1,0 +1,29 @@
+-- What `harden` leaves in its files.
+use Rattle.std.specs.Prelude.{◌≢◌, Bool, List}
+use Rattle.flat_net.specs.Net.{Net}
+use Rattle.certificate.specs.Cert.{PlainCert}
+use Rattle.triplicate.specs.Form.{BoundedForm}
+use Rattle.tmr_outside.specs.Contents.{Contents}
+use Rattle.tmr_top.specs.Line.{Pair, Hardening, Validate}
+use Rattle.tmr_top.specs.Loads.{original_file, hardened_file, certificate_file}
+use Rattle.tmr_top.specs.Designs.{HoldsDesign}
+use Rattle.tmr_top.specs.Pairs.{HoldsCertificate}
+use Rattle.tmr_top.specs.Causes.{Succeeds}
+
+-- the same three files
+abbrev pub pair_of : Hardening → Pair
+pair_of w = record { original = w.original; hardened = w.hardened; certificate = w.certificate }
+
+-- ORIG held a design, and HARD and CERT now hold a hardened form of it; where ORIG is neither HARD nor CERT, `validate` of the three
+-- files comes to Done
+pub record LeavesHardened (w : Hardening) (held now : Contents) : Type 0 where
+  pub original : Net
+  pub free : List Bool
+  pub original_held : HoldsDesign held (original_file w.original) original free
+  pub hardened : Net
+  pub marks : List Bool
+  pub certificate : PlainCert
+  pub form : BoundedForm original free w.size w.version w.most hardened marks certificate
+  pub hardened_read : HoldsDesign now (hardened_file w.hardened) hardened marks
+  pub certificate_read : HoldsCertificate now (certificate_file w.certificate) original hardened certificate
+  pub validates : w.original ≢ w.hardened → w.original ≢ w.certificate → Succeeds (Validate (pair_of w)) now

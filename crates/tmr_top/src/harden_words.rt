@@ -1,0 +1,18 @@
+//! The words of `harden`.
+ghost use Rattle.std.specs.Prelude.{◌<◌};
+
+/// The three file words and the options of `harden ORIG HARD CERT`: the size of partitions, the
+/// version of the certificate, and the most that a depth may be.
+#[derive(Clone, Copy, Drop)]
+pub struct HardenWords<'a> {
+    pub original: &'a str,
+    pub hardened: &'a str,
+    pub certificate: &'a str,
+    pub size: u32,
+    pub version: u8,
+    pub most: u32,
+    ghost sized: { 0 < size },
+    ghost versioned: { 0 < version },
+    ghost known: { version < 3 },
+    ghost bounded: { 0 < most },
+}
