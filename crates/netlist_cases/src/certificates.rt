@@ -57,7 +57,12 @@ fn put_net(text: &mut String, net: &FlatNet, x: NetId) -> Result<(), AllocError>
 }
 
 fn put_head(text: &mut String, c: &Certificate) -> Result<(), AllocError> {
-    write!(text, "version {} depths", c.version())?;
+    write!(
+        text,
+        "version {} inputs {} depths",
+        c.version(),
+        c.hardened_inputs()
+    )?;
     for p in 0..c.parts() {
         write!(text, " {}", c.depth(PartId(p)))?;
     }

@@ -5,11 +5,19 @@ use crate::words::{first_word, long_number, number};
 use std::alloc::{AllocError, Global};
 use table_cover::{Cover, RowFault, majority};
 
-/// The marks and the output of a row `MARKS:OUTPUT`.
+/// Adds a row, where there is room for one more.
+fn push_marks(cover: &mut Cover, marks: &[u8], output: u8) -> Result<(), RowFault> {
+    if cover.row_count() == u32::MAX {
+        return Err(RowFault::Memory);
+    }
+    cover.push_row(marks, output)
+}
+
+/// Adds a row `MARKS:OUTPUT`.
 fn push_row(cover: &mut Cover, row: &str) -> Result<(), RowFault> {
     match row.split_once(':') {
         Some((marks, output)) => match output.as_bytes() {
-            [output] => cover.push_row(marks.as_bytes(), *output),
+            [output] => push_marks(cover, marks.as_bytes(), *output),
             _ => Err(RowFault::BadChar),
         },
         None => Err(RowFault::BadChar),

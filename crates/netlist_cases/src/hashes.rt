@@ -18,6 +18,22 @@ fn push_ascii(text: &mut String, bytes: &[u8]) -> Result<(), AllocError> {
     Ok(())
 }
 
+fn first_bytes(bytes: &[u8]) -> &[u8] {
+    if bytes.len() < 60 {
+        bytes
+    } else {
+        &bytes[..60]
+    }
+}
+
+fn last_bytes(bytes: &[u8]) -> &[u8] {
+    if bytes.len() < 60 {
+        bytes
+    } else {
+        &bytes[bytes.len() - 60..]
+    }
+}
+
 /// A line of at most 1,000 bytes as it is; of a longer one the first 60 and the last 60 bytes, with its length and
 /// its hash.
 pub fn shortened(alloc: Global, line: &str) -> Result<String, AllocError> {
@@ -28,9 +44,9 @@ pub fn shortened(alloc: Global, line: &str) -> Result<String, AllocError> {
         push_ascii(&mut text, bytes)?;
         return Ok(text);
     }
-    push_ascii(&mut text, &bytes[..60])?;
+    push_ascii(&mut text, first_bytes(bytes))?;
     text.push_str(" .. ")?;
-    push_ascii(&mut text, &bytes[length - 60..])?;
+    push_ascii(&mut text, last_bytes(bytes))?;
     write!(text, " ({length} bytes, hash {:016x})", hash(bytes))?;
     Ok(text)
 }

@@ -134,7 +134,7 @@ fn edited_of(alloc: Global, texts: &Texts, rest: &str) -> Result<Vec<u8>, Stop> 
 pub fn keep(alloc: Global, texts: &mut Texts, verb: &str, rest: &str) -> Result<String, Stop> {
     let (name, rest) = first_word(rest);
     let bytes = match verb {
-        "text" => decoded(alloc, rest)?,
+        "text" => texts.bytes_of(rest)?,
         "each" => {
             let mut bytes = texts.take(name);
             push_each(alloc, &mut bytes, rest)?;

@@ -65,14 +65,14 @@ fn check_text(alloc: Global, pair: &Pair) -> Result<String, Stop> {
     Ok(text)
 }
 
-/// Puts the depth of a partition, and the names of its chain.
+/// Puts the depth of a partition, and the names of its chain, as a line.
 fn put_deep(text: &mut String, n: &FlatNet, deep: &Deep) -> Result<(), AllocError> {
     write!(text, "{}", deep.depth)?;
     for x in deep.chain.as_slice() {
         text.push(' ')?;
         put_bytes(text, name_bytes(n, *x))?;
     }
-    text.push_str("; ")
+    text.push('\n')
 }
 
 fn deeps_text(alloc: Global, n: &FlatNet, h: &FlatNet, c: &Certificate) -> Result<String, Stop>
