@@ -1,0 +1,35 @@
+//! What a case answers.
+
+use crate::keeping::{Texts, keep};
+use crate::stop::{Stop, bad_case};
+use crate::words::first_word;
+use crate::{certificates, covers, cuts, designs, drafts, names, pairs, partitions, reading};
+use std::alloc::Global;
+
+/// What the case of this line answers. A line without words and one of `#` answer nothing.
+pub fn answer(alloc: Global, texts: &mut Texts, line: &str) -> Result<String, Stop> {
+    let (verb, rest) = first_word(line);
+    match verb {
+        "" | "#" => Ok(String::new(alloc)),
+        "text" | "each" | "edit" => keep(alloc, texts, verb, rest),
+        "name" | "voter" | "number" => names::answer(alloc, verb, rest),
+        "cover" | "same" | "wide" | "majority" => covers::answer(alloc, verb, rest),
+        "draft" => drafts::answer(alloc, rest),
+        _ => answer_of_text(alloc, texts, verb, rest),
+    }
+}
+
+/// The same of the verbs with texts.
+fn answer_of_text(alloc: Global, texts: &Texts, verb: &str, rest: &str) -> Result<String, Stop> {
+    match verb {
+        "read" | "cuts" | "feed" => reading::answer(alloc, texts, verb, rest),
+        "design" | "flatten" | "free" | "find" | "heads" => {
+            designs::answer(alloc, texts, verb, rest)
+        }
+        "parts" | "loops" | "depths" | "bound" => cuts::answer(alloc, texts, verb, rest),
+        "partition" => partitions::answer(alloc, texts, rest),
+        "cert" | "certheads" => certificates::answer(alloc, texts, verb, rest),
+        "check" | "least" => pairs::answer(alloc, texts, verb, rest),
+        _ => Err(bad_case(alloc)),
+    }
+}

@@ -1,0 +1,55 @@
+//! Cases of the calls below the program's runs.
+//!
+//! Standard input is a text of cases, a line each; docs/cases-netlists.md says how a case is written. Each line is
+//! printed again, and behind it what the case answers, with two blanks in front. What is expected is the file
+//! `stdout`.
+#![tactic(auto)]
+
+mod answer;
+mod certificates;
+mod covers;
+mod cuts;
+mod designs;
+mod drafts;
+mod escapes;
+mod faults;
+mod hashes;
+mod keeping;
+mod libraries;
+mod names;
+mod pairs;
+mod partitions;
+mod reading;
+mod stop;
+mod words;
+
+use crate::answer::answer;
+use crate::hashes::shortened;
+use crate::keeping::Texts;
+use crate::stop::Stop;
+use std::alloc::{AllocError, Global};
+use std::io;
+
+/// What a case answers, with `want of memory` where there was none.
+fn told(alloc: Global, texts: &mut Texts, case: &str) -> Result<String, AllocError> {
+    match answer(alloc, texts, case) {
+        Ok(text) => Ok(text),
+        Err(Stop::Answered(text)) => Ok(text),
+        Err(Stop::Memory) => String::from_str(alloc, "want of memory"),
+    }
+}
+
+fn main(rt: HostRuntime) -> io::Result<()> {
+    let alloc = rt.alloc();
+    let mut texts = Texts::new(alloc);
+    for case in rt.lines(alloc) {
+        let case = case?;
+        println!(rt; "{case}")?;
+        let text = told(alloc, &mut texts, case.as_str())?;
+        for line in text.as_str().lines() {
+            let line = shortened(alloc, line)?;
+            println!(rt; "  {line}")?;
+        }
+    }
+    Ok(())
+}
