@@ -10,7 +10,8 @@ use crate::printing::{allowed_text, fault_text, replay_text, schedule_text, wave
 use certificate::{Certificate, read_cert};
 use flat_net::FreeNet;
 use schedule_replay::{
-    Outcome, Schedule, ScheduleFault, is_allowed, read_schedule, read_schedule_free, replay, replay_free, wave_values,
+    Outcome, Schedule, ScheduleFault, is_allowed, read_schedule, read_schedule_free, replay,
+    replay_free, wave_values,
 };
 use std::alloc::{AllocError, Global};
 use tmr_base::OutOfMemory;

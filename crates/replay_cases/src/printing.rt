@@ -24,7 +24,14 @@ fn put_difference(text: &mut String, n: &FlatNet, d: &Difference) -> Result<(), 
         text.push(char::from(*b))?;
     }
     let [a, b, c] = d.copies;
-    write!(text, " {} {} {} {} / ", digit(d.original), digit(a), digit(b), digit(c))
+    write!(
+        text,
+        " {} {} {} {} / ",
+        digit(d.original),
+        digit(a),
+        digit(b),
+        digit(c)
+    )
 }
 
 fn yes_or_no(is: bool) -> &'static str {
@@ -42,8 +49,18 @@ pub fn replay_text(
     for d in o.first.as_slice() {
         put_difference(&mut text, n, d)?;
     }
-    write!(text, "cycles {} / upsets {} / ", s.cycles(), s.upset_count())?;
-    write!(text, "allowed {} / differences {} / ", yes_or_no(o.allowed), o.differences)?;
+    write!(
+        text,
+        "cycles {} / upsets {} / ",
+        s.cycles(),
+        s.upset_count()
+    )?;
+    write!(
+        text,
+        "allowed {} / differences {} / ",
+        yes_or_no(o.allowed),
+        o.differences
+    )?;
     write!(text, "wrong {} / late {}", o.wrong, o.late)?;
     Ok(text)
 }
@@ -51,7 +68,12 @@ pub fn replay_text(
 /// How many cycles and upsets there are, and the start values.
 pub fn schedule_text(alloc: Global, s: &Schedule) -> Result<String, AllocError> {
     let mut text = String::new(alloc);
-    write!(text, "cycles {} upsets {} starts ", s.cycles(), s.upset_count())?;
+    write!(
+        text,
+        "cycles {} upsets {} starts ",
+        s.cycles(),
+        s.upset_count()
+    )?;
     for j in 0..s.start_count() {
         text.push(digit(s.start(j)))?;
     }

@@ -1,6 +1,6 @@
 -- Parts that were read one after the other make a schedule.
-use Rattle.std.proofs.Common.{◌≡◌, ℕ, ◌<◌, ◌≤◌, Bool, true, false, cond, ◌||◌, List, [], ◌∷◌, length, map, Option, Some, None, Result, Ok, Err, refl, sym, ◌∙◌, ap, subst, arith}
-use Rattle.std.specs.Prelude.{nat_lt, Contains, ◌↔◌}
+use Rattle.std.proofs.Common.{◌≡◌, ℕ, ◌≤◌, Bool, false, cond, ◌||◌, List, [], length, map, Option, Result, Ok, Err, sym, ◌∙◌, ap, subst, arith}
+use Rattle.std.specs.Prelude.{nat_lt}
 use Rattle.std.specs.Map.{lookup}
 use Rattle.std.specs.BTreeMap.{BTreeMap, is_at}
 use Rattle.std.proofs.lemmas.Bool.Decides.{nat_tests}
@@ -13,7 +13,6 @@ use Rattle.schedule_replay.specs.declared.fault.ScheduleFault.{ScheduleFault}
 use Rattle.schedule_replay.specs.declared.fault.ScheduleFault.TheVariants as fault
 use Rattle.schedule_replay.specs.Document.{and_then, upsets_from, rows_from, Listed, listed, starts_or_fault}
 use Rattle.schedule_replay.specs.Entries.{place_cmp, upset_of_entry}
-use Rattle.schedule_replay.specs.Gives.{Fails}
 use Rattle.schedule_replay.specs.Reading.{ListsUpsets, IsReadAs}
 use Rattle.schedule_replay.specs.Schedule.{PlainSchedule, IsPlainSchedule}
 use Rattle.schedule_replay.proofs.Places.{entries_hold}

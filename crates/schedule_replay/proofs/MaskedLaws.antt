@@ -1,5 +1,5 @@
 -- Where nothing is wrong and nothing is late, the numbers are 0.
-use Rattle.std.proofs.Common.{◌≡◌, ℕ, zero, suc, ◌+◌, ◌*◌, ◌<◌, ◌⊎◌, inl, inr, Bool, true, false, cond, List, [], ◌∷◌, ◌++◌, length, slice_index, Option, Some, None, refl, sym, ◌∙◌, ap, subst, arith}
+use Rattle.std.proofs.Common.{◌≡◌, ℕ, zero, suc, ◌+◌, ◌*◌, ◌<◌, ◌⊎◌, inl, inr, Bool, true, false, cond, List, [], ◌∷◌, ◌++◌, length, slice_index, Option, Some, None, refl, ◌∙◌, ap, arith}
 use Rattle.std.specs.Prelude.{nat_lt, filter, count_by}
 use Rattle.std.proofs.lemmas.List.Elements.{filter-append}
 use Rattle.tmr_base.specs.declared.copies.CopyNo.{CopyNo}
@@ -9,7 +9,7 @@ use Rattle.flat_net.specs.Net.{Net}
 use Rattle.net_meaning.specs.Meaning.{value_at}
 use Rattle.certificate.specs.Cert.{PlainCert, part_of, copy_of}
 use Rattle.schedule_replay.specs.declared.outcome.Difference.{Difference}
-use Rattle.schedule_replay.specs.Outcome.{PlainOutcome, IsOutcome, bits_differ, output_at, outputs_in, outputs_until, count_wrong, is_wrong, is_quiet, copies_wrong, late_at, late_in, late_until}
+use Rattle.schedule_replay.specs.Outcome.{PlainOutcome, IsOutcome, bits_differ, output_at, outputs_in, outputs_until, is_wrong, is_quiet, copies_wrong, late_at, late_in, late_until}
 
 -- two of three copies are right
 abbrev pub TwoAre : Bool → Bool → Bool → Bool → Type 0

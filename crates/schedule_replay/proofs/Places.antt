@@ -1,6 +1,6 @@
 -- Upsets by cycle and net.
-use Rattle.std.proofs.Common.{◌≡◌, ◌≢◌, ℕ, zero, suc, ◌+◌, ◌<◌, ◌≤◌, ◌⊎◌, inl, inr, Bool, true, false, cond, ◌&&◌, ◌||◌, List, [], ◌∷◌, ◌++◌, length, map, take, drop, get_or, slice_get, ◌-◌, Option, Some, None, Result, Ok, Err, refl, sym, ◌∙◌, ap, subst, arith}
-use Rattle.std.specs.Prelude.{nat_eq, nat_le, nat_lt, is_some, not, option_and_then, All, IfSome}
+use Rattle.std.proofs.Common.{◌≡◌, ℕ, zero, suc, ◌+◌, ◌<◌, ◌≤◌, ◌⊎◌, inl, inr, Bool, true, false, cond, ◌&&◌, ◌||◌, List, [], ◌∷◌, ◌++◌, length, map, take, drop, get_or, slice_get, ◌-◌, Option, Some, None, Result, Ok, Err, refl, sym, ◌∙◌, ap, subst, arith}
+use Rattle.std.specs.Prelude.{nat_eq, nat_lt, is_some, not, All, IfSome}
 use Rattle.std.proofs.lemmas.Bool.{eq-eqb, ne_eqb, eqb-true}
 use Rattle.std.proofs.lemmas.Bool.Decides.{nat_tests}
 use Rattle.std.specs.declared.cmp.Ordering.{Ordering}
@@ -11,8 +11,8 @@ use Rattle.std.specs.Map.{lookup, keys_of}
 use Rattle.std.specs.List.Sorted.{IsStrictlySortedBy}
 use Rattle.std.proofs.lemmas.Map.Keys.{Less-from_sorted}
 use Rattle.std.proofs.lemmas.Option.{slice_get_within, get_or_from_slice_get}
-use Rattle.schedule_replay.specs.Schedule.{PlainSchedule, IsBefore}
-use Rattle.schedule_replay.specs.Reading.{ListsUpsets, IsReadAs, IsNodeOf, CanBeStruck}
+use Rattle.schedule_replay.specs.Schedule.{IsBefore}
+use Rattle.schedule_replay.specs.Reading.{IsNodeOf, CanBeStruck}
 use Rattle.std.specs.BTreeMap as tree
 use Rattle.std.specs.BTreeMap.{BTreeMap, is_at}
 use Rattle.tmr_base.specs.declared.ids.Upset.{Upset}
@@ -20,7 +20,7 @@ use Rattle.flat_net.specs.Net.{Net, net_count}
 use Rattle.net_meaning.specs.Meaning.{upset_at}
 use Rattle.schedule_replay.specs.declared.fault.ScheduleFault.{ScheduleFault}
 use Rattle.schedule_replay.specs.declared.fault.ScheduleFault.TheVariants as fault
-use Rattle.schedule_replay.specs.Document.{Entry, is_listed, struck_named, placed, known, upset_of, and_then, upsets_from, rows_from, entry_of, Listed, listed, list_of, only_keys, is_file_key, inputs_of, upsets_of, starts_of, starts_or_fault, arrays_listed, document_listed}
+use Rattle.schedule_replay.specs.Document.{Entry, is_listed, struck_named, placed, known, upset_of, and_then, upsets_from, entry_of, listed, list_of, only_keys, is_file_key, inputs_of, upsets_of, starts_of, arrays_listed, document_listed}
 use Rattle.schedule_replay.specs.Entries.{place_cmp, upset_of_entry, Holds}
 use Rattle.toml.specs.Data.{Data, Items, Members}
 use Rattle.toml.specs.View.{view, items_view}

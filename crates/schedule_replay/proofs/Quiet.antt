@@ -1,5 +1,5 @@
 -- The last upset of a partition tells whether it is quiet.
-use Rattle.std.proofs.Common.{◌≡◌, ℕ, zero, suc, ◌+◌, ◌-◌, ◌*◌, ◌/◌, ◌<◌, ◌≤◌, ◌⊎◌, inl, inr, Bool, true, false, not, ◌&&◌, ◌||◌, List, Any, length, get_or, slice_get, slice_index, Option, Some, None, refl, sym, ◌∙◌, ap, subst, arith}
+use Rattle.std.proofs.Common.{◌≡◌, ℕ, ◌+◌, ◌-◌, ◌*◌, ◌/◌, ◌<◌, ◌≤◌, ◌⊎◌, inl, inr, Bool, true, false, not, ◌&&◌, ◌||◌, List, Any, length, slice_get, slice_index, Some, refl, sym, ◌∙◌, ap, arith}
 use Rattle.std.specs.Prelude.{nat_eq, nat_le, replicate}
 use Rattle.std.proofs.lemmas.List.{get_or-replicate}
 use Rattle.std.specs.List.{list_any}
@@ -18,7 +18,7 @@ use Rattle.certificate.specs.Rules.{Rule8}
 use Rattle.certificate.specs.Schedules.{IsQuiet}
 use Rattle.schedule_replay.proofs.Taking.{strikes_there}
 use Rattle.schedule_replay.specs.Outcome.{strikes, is_quiet, TellQuiet}
-use Rattle.schedule_replay.specs.Striking.{IsTaken, IsLastStrike, AreLatest}
+use Rattle.schedule_replay.specs.Striking.{IsTaken, AreLatest}
 
 -- the upset is in the partition's window
 abbrev in_window : PlainCert → ℕ → ℕ → Upset → Bool

@@ -1,12 +1,10 @@
 -- The upsets of a cycle, and rows three times.
-use Rattle.std.proofs.Common.{◌≡◌, ◌≢◌, ℕ, zero, suc, ◌+◌, ◌-◌, ◌*◌, ◌/◌, ◌%◌, ◌<◌, ◌≤◌, ◌⊎◌, inl, inr, Bool, true, false, cond, not, ◌&&◌, ◌||◌, List, [], ◌∷◌, ◌++◌, length, take, drop, get_or, slice_get, slice_index, slice_set, Option, Some, None, refl, sym, ◌∙◌, ap, subst, arith}
-use Rattle.std.specs.Prelude.{All, nat_eq, nat_le}
-use Rattle.std.specs.List.{list_any}
+use Rattle.std.proofs.Common.{◌≡◌, ◌≢◌, ℕ, zero, suc, ◌+◌, ◌-◌, ◌*◌, ◌/◌, ◌<◌, ◌≤◌, ◌⊎◌, inl, inr, Bool, true, false, cond, ◌&&◌, List, [], ◌∷◌, ◌++◌, length, take, drop, get_or, slice_get, slice_index, Option, Some, None, refl, sym, ◌∙◌, ap, subst, arith}
+use Rattle.std.specs.Prelude.{All, nat_eq}
 use Rattle.std.proofs.lemmas.Bool.{eq-eqb, ne_eqb, eqb-true}
-use Rattle.std.proofs.lemmas.Bool.Decides.{nat_tests}
-use Rattle.std.proofs.lemmas.List.{length-set, get_or-set_same, get_or-set_other, take-append-drop, ext_get_or, length-append}
+use Rattle.std.proofs.lemmas.List.{length-set, get_or-set_same, get_or-set_other, take-append-drop, ext_get_or}
 use Rattle.std.proofs.lemmas.List.Elements.{All-append}
-use Rattle.std.proofs.lemmas.Option.{slice_get_within, slice_get-get_or, get_or_from_slice_get}
+use Rattle.std.proofs.lemmas.Option.{slice_get_within, get_or_from_slice_get}
 use Rattle.std.proofs.Math.Seq.{take-suc}
 use Rattle.tmr_base.specs.declared.copies.CopyNo.{CopyNo}
 use Rattle.tmr_base.specs.declared.copies.CopyNo.TheVariants.{First, Second, Third}
@@ -18,11 +16,11 @@ use Rattle.net_meaning.specs.Meaning.{bit, spread_row, upset_at}
 use Rattle.net_meaning.proofs.Lists.{bit-spread_row}
 use Rattle.certificate.specs.declared.role.Role.{Role}
 use Rattle.certificate.specs.declared.role.Role.TheVariants.{Copy, Voter}
-use Rattle.certificate.specs.Cert.{PlainCert, IsCert, role_of, part_of, depth_of}
+use Rattle.certificate.specs.Cert.{PlainCert, IsCert, role_of}
 use Rattle.certificate.specs.Schedules.{RoleIsIn, IsIn}
 use Rattle.net_simulator.specs.Cycle.{forced_to}
 use Rattle.schedule_replay.specs.Schedule.{PlainSchedule, IsPlainSchedule}
-use Rattle.schedule_replay.specs.Outcome.{strikes, is_that, part_of_role, is_quiet, TellQuiet}
+use Rattle.schedule_replay.specs.Outcome.{strikes, is_that, part_of_role}
 use Rattle.schedule_replay.specs.Striking.{IsTaken, IsUpTo, IsLastStrike, AreLatest, with_strike}
 use Rattle.schedule_replay.specs.Starts.{or_else}
 use Rattle.schedule_replay.proofs.Apart.{in_order}

@@ -1,20 +1,17 @@
 -- Where the design masks and the schedule is allowed, nothing is wrong and nothing is late.
-use Rattle.std.proofs.Common.{◌≡◌, ℕ, ◌+◌, ◌*◌, ◌<◌, ◌≤◌, ◌⊎◌, inl, inr, Bool, true, false, List, [], length, slice_get, slice_index, Option, Some, refl, sym, ◌∙◌, ap, subst, arith}
-use Rattle.std.specs.Prelude.{All, IsTrue, Contains}
+use Rattle.std.proofs.Common.{◌≡◌, ℕ, ◌+◌, ◌*◌, ◌<◌, ◌≤◌, inl, inr, Bool, false, List, [], length, slice_get, slice_index, Option, Some, refl, sym, ◌∙◌, ap, subst, arith}
+use Rattle.std.specs.Prelude.{All, IsTrue}
 use Rattle.std.proofs.lemmas.List.{length-map}
 use Rattle.std.proofs.lemmas.Option.{get_or_from_slice_get}
-use Rattle.tmr_base.specs.declared.copies.CopyNo.{CopyNo}
-use Rattle.tmr_base.specs.declared.copies.CopyNo.TheVariants.{First, Second, Third}
 use Rattle.tmr_base.specs.declared.ids.Upset.{Upset}
 use Rattle.tmr_base.specs.Copies.{copy_number}
 use Rattle.flat_net.specs.Net.{Net, net_count}
 use Rattle.flat_net.proofs.Slots.{slice_get_there}
-use Rattle.net_meaning.specs.Meaning.{value_at, IsScheduleOf, spread, spread_row}
-use Rattle.certificate.specs.Cert.{PlainCert, part_of, copy_of}
-use Rattle.certificate.specs.Schedules.{Allowed, IsQuiet}
-use Rattle.certificate.specs.Starts.{counted, spread_start}
+use Rattle.net_meaning.specs.Meaning.{value_at, IsScheduleOf, spread_row}
+use Rattle.certificate.specs.Cert.{PlainCert, part_of}
+use Rattle.certificate.specs.Schedules.{IsQuiet}
 use Rattle.validator.specs.Masking.{IsMasked, TwoOf, Gives, Masks, FreeMasks}
-use Rattle.schedule_replay.specs.Outcome.{PlainOutcome, IsOutcome, IsReplayOf, IsFreeReplay, is_wrong, is_quiet, late_at, output_at}
+use Rattle.schedule_replay.specs.Outcome.{PlainOutcome, IsOutcome, IsReplayOf, IsFreeReplay, is_wrong, late_at, output_at}
 use Rattle.schedule_replay.specs.Reading.{IsNodeOf}
 use Rattle.schedule_replay.specs.Schedule.{PlainSchedule, IsPlainSchedule}
 use Rattle.schedule_replay.specs.Starts.{given_starts}

@@ -1,8 +1,8 @@
 -- The document of a schedule file: what it says, or its first fault.
-use Rattle.std.specs.Prelude.{◌≡◌, ℕ, ◌+◌, ◌==◌, ℤ, pos, negsuc, Bool, true, false, not, ◌&&◌, ◌||◌, nat_eq, nat_le, nat_lt, List, [], ◌∷◌, ◌++◌, map, replicate, count_by, length, Option, Some, None, Result, Ok, Err, option_and_then, codes, if◌then◌else◌}
+use Rattle.std.specs.Prelude.{ℕ, ◌+◌, ℤ, pos, negsuc, Bool, true, false, not, ◌&&◌, ◌||◌, nat_eq, nat_le, nat_lt, List, [], ◌∷◌, ◌++◌, map, replicate, count_by, length, Option, Some, None, Result, Ok, Err, option_and_then, codes, if◌then◌else◌}
 use Rattle.std.specs.List.{list_all, list_any}
 use Rattle.std.specs.Str.{is_utf8, bytes_eq}
-use Rattle.toml.specs.Data.{Data, integer, Items, no_items, item, Members, no_members, member, get_member, as_array, as_str, as_table, as_integer}
+use Rattle.toml.specs.Data.{Data, Items, no_items, item, Members, no_members, member, get_member, as_array, as_str, as_table, as_integer}
 use Rattle.toml.specs.Parse.{parse_document}
 use Rattle.tmr_base.specs.declared.ids.Upset.{Upset}
 use Rattle.flat_net.specs.Net.{Net, net_named}

@@ -1,5 +1,5 @@
 -- Which upsets of a schedule were taken, and the last ones of each partition. Private functions alone cite it.
-use Rattle.std.specs.Prelude.{◌≡◌, ℕ, ◌+◌, ◌<◌, ◌≤◌, Bool, true, List, length, slice_get, slice_index, slice_set, Option, Some, None}
+use Rattle.std.specs.Prelude.{◌≡◌, ℕ, ◌+◌, ◌<◌, ◌≤◌, true, List, length, slice_get, slice_index, slice_set, Option, Some, None}
 use Rattle.tmr_base.specs.declared.ids.Upset.{Upset}
 use Rattle.certificate.specs.Cert.{PlainCert}
 use Rattle.schedule_replay.specs.Outcome.{strikes}

@@ -1,5 +1,5 @@
 -- The values of the outputs in each cycle, and of their copies.
-use Rattle.std.specs.Prelude.{◌≡◌, ℕ, Bool, List, [], ◌∷◌, ◌++◌, length}
+use Rattle.std.specs.Prelude.{◌≡◌, Bool, List, [], ◌∷◌, ◌++◌, length}
 use Rattle.flat_net.specs.Net.{Net}
 use Rattle.net_meaning.specs.Meaning.{spread, IsFreeTrace, IsFreeFaultTrace, HasOneTrace}
 use Rattle.certificate.specs.Cert.{PlainCert}

@@ -1,6 +1,6 @@
-use Rattle.std.proofs.Common.{◌≡◌, ℕ, suc, ◌+◌, ◌≤◌, ◌++◌, ◌∷◌, [], ◌∙◌, List, sym, ap, subst, append_assoc, arith}
+use Rattle.std.proofs.Common.{◌≡◌, ℕ, suc, ◌+◌, ◌++◌, ◌∷◌, [], ◌∙◌, List, sym, ap, subst, append_assoc, arith}
 use Rattle.schedule_replay.specs.declared.outcome.Difference.{Difference}
-use Rattle.schedule_replay.specs.Outcome.{Counts, outputs_in, output_at}
+use Rattle.schedule_replay.specs.Outcome.{Counts, outputs_in}
 use Rattle.schedule_replay.proofs.comparing.compare_outputs.Goals as goal
 
 pub loop-i-preserved : goal.loop-i-preserved

@@ -1,4 +1,4 @@
-use Rattle.std.proofs.Common.{refl, inl, inr}
+use Rattle.std.proofs.Common.{refl, inr}
 use Rattle.schedule_replay.proofs.Documents.{document_of_text, no_document}
 use Rattle.schedule_replay.proofs.document.read_document.Goals as goal
 

@@ -1,7 +1,7 @@
-use Rattle.std.proofs.Common.{◌≡◌, Option, Some, sym, ap, subst, ◌∙◌, option_map, codes}
+use Rattle.std.proofs.Common.{◌≡◌, Option, sym, ap, subst, ◌∙◌, option_map}
 use Rattle.std.specs.Prelude.{IfOk}
-use Rattle.toml.specs.Data.{Data, get_member}
-use Rattle.toml.specs.View.{view, table_view}
+use Rattle.toml.specs.Data.{Data}
+use Rattle.toml.specs.View.{view}
 use Rattle.schedule_replay.specs.Document.{starts_in}
 use Rattle.schedule_replay.proofs.document.read_starts.Goals as goal
 

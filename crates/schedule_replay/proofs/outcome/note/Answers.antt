@@ -1,4 +1,4 @@
-use Rattle.std.proofs.Common.{◌≡◌, ◌<◌, ◌∙◌, sym, arith}
+use Rattle.std.proofs.Common.{◌<◌, ◌∙◌, sym, arith}
 use Rattle.schedule_replay.specs.Outcome.{count_wrong}
 use Rattle.schedule_replay.proofs.Counting.{counts_one, counts_some}
 use Rattle.schedule_replay.proofs.outcome.note.Goals as goal

@@ -1,5 +1,4 @@
 use Rattle.std.proofs.Common.{◌≡◌, take}
-use Rattle.schedule_replay.specs.Schedule.{PlainSchedule}
 use Rattle.schedule_replay.proofs.reading.push_starts.Given as goal
 
 abbrev pub invariant-loop-j : goal.invariant-loop-j

@@ -1,6 +1,5 @@
-use Rattle.std.proofs.Common.{◌≡◌, ◌<◌, ◌-◌, ℕ, List, length, slice_get, get_or, sym, ap, subst, false}
+use Rattle.std.proofs.Common.{◌<◌, ◌-◌, length, slice_get, get_or, sym, subst, false}
 use Rattle.std.specs.Prelude.{IfSome}
-use Rattle.tmr_base.specs.declared.ids.Upset.{Upset}
 use Rattle.schedule_replay.specs.Entries.{upset_of_entry}
 use Rattle.schedule_replay.specs.Schedule.{PlainSchedule, IsBefore}
 use Rattle.schedule_replay.proofs.Places.{cycle_in_range, entry_in_order}

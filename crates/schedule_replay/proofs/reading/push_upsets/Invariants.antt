@@ -1,6 +1,5 @@
 use Rattle.std.proofs.Common.{◌≡◌, take, map}
 use Rattle.schedule_replay.specs.Entries.{upset_of_entry}
-use Rattle.schedule_replay.specs.Schedule.{PlainSchedule}
 use Rattle.schedule_replay.proofs.reading.push_upsets.Given as goal
 
 abbrev pub invariant-loop-j : goal.invariant-loop-j

@@ -1,8 +1,8 @@
-use Rattle.std.proofs.Common.{◌≡◌, ◌∙◌, ℕ, Some, Result, length, map, sym, subst, true}
+use Rattle.std.proofs.Common.{◌≡◌, ◌∙◌, Some, Result, length, sym, subst, true}
 use Rattle.std.specs.Prelude.{IfOk, IfErr}
-use Rattle.toml.specs.View.{view, items_view, table_view}
+use Rattle.toml.specs.View.{items_view, table_view}
 use Rattle.schedule_replay.specs.declared.fault.ScheduleFault.{ScheduleFault}
-use Rattle.schedule_replay.specs.Document.{Listed, listed, document_listed, inputs_of, only_keys, is_file_key}
+use Rattle.schedule_replay.specs.Document.{Listed, inputs_of, only_keys, is_file_key}
 use Rattle.schedule_replay.specs.Gives.{Fails}
 use Rattle.schedule_replay.specs.Reading.{IsReadAs}
 use Rattle.schedule_replay.proofs.Places.{top_listed}

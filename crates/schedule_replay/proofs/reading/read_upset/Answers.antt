@@ -1,6 +1,4 @@
-use Rattle.std.proofs.Common.{◌≡◌, ◌<◌, ◌∙◌, Some, sym, ap, arith}
-use Rattle.std.specs.Prelude.{option_map}
-use Rattle.flat_net.specs.Nodes.{number_of}
+use Rattle.std.proofs.Common.{◌≡◌, ◌<◌, ◌∙◌, Some, sym, arith}
 use Rattle.schedule_replay.specs.Document.{struck_named}
 use Rattle.schedule_replay.specs.Entries.{plain_entry}
 use Rattle.schedule_replay.proofs.Places.{doubled, fresh}

@@ -1,7 +1,5 @@
 use Rattle.std.proofs.Common.{◌≡◌, ◌+◌, ◌<◌, ◌++◌, ◌∷◌, [], ◌∙◌, ℕ, Bool, List, Option, None, Ok, cond, length, sym, ap, subst, arith}
 use Rattle.std.specs.Prelude.{All, is_some}
-use Rattle.std.specs.BTreeMap as tree
-use Rattle.std.specs.BTreeMap.{insert_entry}
 use Rattle.std.specs.Map.{keys_of}
 use Rattle.std.proofs.lemmas.List.{length-append}
 use Rattle.std.proofs.lemmas.Map.Views.{All-keys-insert_entry}

@@ -1,9 +1,5 @@
-use Rattle.std.proofs.Common.{◌≡◌, ◌<◌, [], List, length, map, drop}
-use Rattle.std.specs.Prelude.{All}
-use Rattle.std.specs.BTreeMap as tree
+use Rattle.std.proofs.Common.{map, drop}
 use Rattle.toml.specs.View.{view}
-use Rattle.schedule_replay.specs.Document.{upsets_from}
-use Rattle.schedule_replay.specs.Entries.{Holds, place_cmp}
 use Rattle.schedule_replay.specs.Reading.{HasListed}
 use Rattle.schedule_replay.proofs.reading.read_upsets.Given as goal
 

@@ -1,5 +1,4 @@
-use Rattle.std.proofs.Common.{◌≡◌, []}
-use Rattle.schedule_replay.specs.Outcome.{IsReplayOf}
+use Rattle.std.proofs.Common.{[]}
 use Rattle.schedule_replay.specs.OutcomeView.{plain_outcome}
 use Rattle.schedule_replay.proofs.Starting.{unmarked, none_given}
 use Rattle.schedule_replay.proofs.Unharmed.{plain_unharmed}

@@ -1,4 +1,3 @@
-use Rattle.std.proofs.Common.{◌≡◌}
 use Rattle.schedule_replay.specs.Outcome.{IsReplayOf, IsFreeReplay}
 use Rattle.schedule_replay.specs.OutcomeView.{plain_outcome}
 use Rattle.schedule_replay.specs.Starts.{given_starts}

@@ -1,4 +1,4 @@
-use Rattle.std.proofs.Common.{◌≡◌, ◌+◌, ◌∷◌, [], List, length, ap, arith}
+use Rattle.std.proofs.Common.{◌∷◌, [], List, length, ap, arith}
 use Rattle.std.proofs.lemmas.List.{length-append}
 use Rattle.schedule_replay.specs.declared.outcome.Outcome.{Outcome}
 use Rattle.schedule_replay.proofs.Several.{outcomes_more}

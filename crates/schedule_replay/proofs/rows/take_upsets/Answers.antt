@@ -1,9 +1,7 @@
-use Rattle.std.proofs.Common.{◌≡◌, ◌+◌, ◌<◌, ◌≤◌, ◌∙◌, ℕ, List, Bool, Fits, Some, length, refl, sym, ap, subst, arith}
-use Rattle.std.specs.Prelude.{All}
+use Rattle.std.proofs.Common.{◌≡◌, ◌+◌, ◌<◌, ◌≤◌, ◌∙◌, ℕ, List, Bool, length, refl, sym, ap, subst, arith}
 use Rattle.std.proofs.lemmas.Option.{slice_get_within, get_or_from_slice_get}
 use Rattle.tmr_base.specs.declared.ids.NetId.{NetId}
 use Rattle.tmr_base.specs.declared.ids.Upset.{Upset}
-use Rattle.net_meaning.specs.Meaning.{upset_at}
 use Rattle.net_simulator.specs.Cycle.{forced_to}
 use Rattle.schedule_replay.proofs.Taking.{none_before, struck_more, all_struck, up_to_more, latest_more, nets_more, strike_range, struck_length}
 use Rattle.certificate.specs.Cert.{role_of}

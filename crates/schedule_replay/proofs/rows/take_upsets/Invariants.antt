@@ -1,4 +1,4 @@
-use Rattle.std.proofs.Common.{◌≡◌, ◌+◌, ◌<◌, ◌≤◌, ℕ, length, take}
+use Rattle.std.proofs.Common.{◌≡◌, ◌+◌, ◌<◌, ℕ, length, take}
 use Rattle.std.specs.Prelude.{All}
 use Rattle.net_meaning.specs.Meaning.{upset_at}
 use Rattle.net_simulator.specs.Cycle.{forced_to}

@@ -1,4 +1,4 @@
-use Rattle.std.proofs.Common.{◌≡◌, ◌<◌, ◌∙◌, ℕ, [], false, length, sym, arith}
+use Rattle.std.proofs.Common.{◌≡◌, [], false, length, arith}
 use Rattle.std.proofs.lemmas.List.{ext_get_or}
 use Rattle.net_meaning.specs.Meaning.{row_at}
 use Rattle.schedule_replay.proofs.Taking.{spread_is}

@@ -1,13 +1,11 @@
-use Rattle.std.proofs.Common.{◌≡◌, ◌<◌, ◌∙◌, ℕ, suc, ◌+◌, ◌++◌, [], List, Bool, Option, Some, length, refl, sym, ap, subst, arith}
+use Rattle.std.proofs.Common.{◌≡◌, ◌<◌, ◌∙◌, ℕ, suc, ◌+◌, ◌++◌, [], List, Bool, Some, length, sym, ap, subst, arith}
 use Rattle.std.proofs.lemmas.List.{length-map, with_items_is}
 use Rattle.tmr_base.specs.declared.ids.NetId.{NetId}
 use Rattle.tmr_base.specs.declared.ids.Upset.{Upset}
-use Rattle.net_meaning.specs.Meaning.{spread, spread_row, row_at, upset_at}
+use Rattle.net_meaning.specs.Meaning.{spread, spread_row, row_at}
 use Rattle.net_meaning.proofs.Lists.{row_at-spread}
 use Rattle.net_simulator.specs.Cycle.{forced_to}
-use Rattle.net_simulator.proofs.OneCycle.{before_cycle}
 use Rattle.schedule_replay.specs.Outcome.{TellQuiet}
-use Rattle.schedule_replay.specs.Starts.{AreStarts}
 use Rattle.schedule_replay.proofs.Quiet.{tell_quiet}
 use Rattle.schedule_replay.proofs.Starting.{step_row, both_forced, no_more_starts}
 use Rattle.schedule_replay.proofs.running.advance.Goals as goal

@@ -1,4 +1,4 @@
-use Rattle.std.proofs.Common.{◌≡◌, ◌*◌, ◌∙◌, length, arith}
+use Rattle.std.proofs.Common.{arith}
 use Rattle.schedule_replay.proofs.Quiet.{none_struck, none_taken}
 use Rattle.schedule_replay.proofs.running.start.Goals as goal
 

@@ -1,4 +1,4 @@
-use Rattle.std.proofs.Common.{◌≡◌, ◌+◌, ◌<◌, ◌∙◌, ℕ, Bool, List, length, sym, ap, refl, false, arith}
+use Rattle.std.proofs.Common.{◌≡◌, ◌+◌, ◌<◌, ◌∙◌, ℕ, length, sym, ap, refl, false, arith}
 use Rattle.std.specs.Prelude.{slice_index_or}
 use Rattle.flat_net.specs.Net.{Design}
 use Rattle.schedule_replay.proofs.Placing.{bit_there, no_starts_yet, starts_step}

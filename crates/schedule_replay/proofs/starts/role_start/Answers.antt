@@ -1,4 +1,3 @@
-use Rattle.std.proofs.Common.{◌≡◌}
 use Rattle.schedule_replay.proofs.Placing.{role_value}
 use Rattle.schedule_replay.proofs.starts.role_start.Goals as goal
 

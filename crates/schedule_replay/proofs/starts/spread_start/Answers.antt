@@ -1,4 +1,4 @@
-use Rattle.std.proofs.Common.{◌≡◌, ◌+◌, ◌∙◌, ◌∷◌, [], ℕ, length, sym, ap, arith}
+use Rattle.std.proofs.Common.{◌≡◌, ◌+◌, ◌∙◌, ◌∷◌, [], ℕ, length, ap, arith}
 use Rattle.std.proofs.lemmas.List.{length-append}
 use Rattle.flat_net.specs.Net.{Design}
 use Rattle.schedule_replay.proofs.Placing.{roles_more}

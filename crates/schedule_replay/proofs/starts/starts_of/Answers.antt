@@ -1,7 +1,7 @@
-use Rattle.std.proofs.Common.{◌≡◌, ℕ, Bool, List, sym, subst, ap, ◌∙◌, arith}
-use Rattle.certificate.specs.Starts.{counted, spread_start}
-use Rattle.schedule_replay.specs.Starts.{AreStarts, given_starts, placed_starts}
-use Rattle.schedule_replay.proofs.Starting.{uncounted, all_counted}
+use Rattle.std.proofs.Common.{arith}
+use Rattle.certificate.specs.Starts.{spread_start}
+use Rattle.schedule_replay.specs.Starts.{given_starts}
+use Rattle.schedule_replay.proofs.Starting.{uncounted}
 use Rattle.schedule_replay.proofs.starts.starts_of.Goals as goal
 
 pub returns-then-version-eq1-clause-original : goal.returns-then-version-eq1-clause-original

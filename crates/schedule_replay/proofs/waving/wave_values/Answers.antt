@@ -1,4 +1,3 @@
-use Rattle.std.proofs.Common.{◌≡◌}
 use Rattle.schedule_replay.specs.Waves.{AreWavesOf}
 use Rattle.schedule_replay.specs.Starts.{given_starts}
 use Rattle.schedule_replay.proofs.Starting.{for_counted}

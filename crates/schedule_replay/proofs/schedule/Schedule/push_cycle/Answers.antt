@@ -1,4 +1,4 @@
-use Rattle.std.proofs.Common.{◌≡◌, ◌<◌, ◌∙◌, ◌++◌, ◌∷◌, [], ℕ, List, Bool, Fits, length, ap, sym, subst, arith}
+use Rattle.std.proofs.Common.{◌≡◌, ◌<◌, ◌∙◌, ◌++◌, ◌∷◌, [], List, Bool, length, ap, sym, subst, arith}
 use Rattle.table_cover.proofs.RowLaws.{length-cut_rows}
 use Rattle.table_cover.specs.Rows.{cut_rows}
 use Rattle.schedule_replay.specs.Schedule.{PlainSchedule, IsPlainSchedule}

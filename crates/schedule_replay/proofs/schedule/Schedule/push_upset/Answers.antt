@@ -1,6 +1,6 @@
-use Rattle.std.proofs.Common.{◌≡◌, ◌<◌, ◌-◌, length, slice_get, sym, subst, arith}
+use Rattle.std.proofs.Common.{◌<◌, ◌-◌, length, slice_get, sym, subst}
 use Rattle.std.specs.Prelude.{IfSome, is_ok}
-use Rattle.schedule_replay.specs.Schedule.{PlainSchedule, IsPlainSchedule, IsBefore}
+use Rattle.schedule_replay.specs.Schedule.{PlainSchedule, IsBefore}
 use Rattle.schedule_replay.specs.View.{schedule_of}
 use Rattle.schedule_replay.proofs.Kept.{upset_more, pushed}
 use Rattle.schedule_replay.proofs.schedule.Schedule.push_upset.Goals as goal
