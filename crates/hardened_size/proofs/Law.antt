@@ -23,4 +23,4 @@ texts_keep_limits n valid h k f is few =
     record { design = λ g. omega (arith, few, short.design f g); certificate = omega (arith, few, short.certificate f) }
 
 pub text_keeps_limit : (n : Net) → IsValid n → FlatTextKeepsLimit n
-text_keeps_limit n valid bytes limit f is = omega (arith, text_sum n f valid, limit_kept is.library limit (count_by (λ bit. bit) f) n is.flat.flat)
+text_keeps_limit n valid library limit f is = omega (arith, text_sum n f valid, limit_kept library limit (count_by (λ bit. bit) f) n is.flat)

@@ -4,7 +4,8 @@ use Rattle.flat_net.specs.Net.{Net, IsValid}
 use Rattle.certificate.specs.Cert.{PlainCert, IsCert}
 use Rattle.certificate.specs.Text.{cert_text}
 use Rattle.blif_writer.specs.Text.{free_text}
-use Rattle.blif_writer.specs.NetOf.{IsFreeNetOf}
+use Rattle.blif_text.specs.Models.{PlainModel}
+use Rattle.hierarchy.specs.Flatten.{IsFreeFlat}
 use Rattle.triplicate.specs.Form.{HasForm}
 
 -- the flat text of h and the text of certificate k each have at most 128 times the bytes of the flat text of n, whatever
@@ -39,6 +40,6 @@ HardenedTextsAreShort n = (h : Net) (k : PlainCert) → IsHardenedFrom n h k →
 abbrev pub HardenedTextsKeepLimits : Net → Type 0
 HardenedTextsKeepLimits n = (h : Net) (k : PlainCert) (f : List Bool) → IsHardenedFrom n h k → length (free_text n f) ≤ 8388608 → KeepLimits n h k
 
--- a design that is read within a limit has a flat text within it
+-- a design that a library is flattened to within a limit has a flat text within it
 abbrev pub FlatTextKeepsLimit : Net → Type 0
-FlatTextKeepsLimit n = (bytes : List ℕ) (limit : ℕ) (f : List Bool) → IsFreeNetOf bytes limit n f → length (free_text n f) ≤ limit
+FlatTextKeepsLimit n = (library : List PlainModel) (limit : ℕ) (f : List Bool) → IsFreeFlat library limit n f → length (free_text n f) ≤ limit

@@ -14,6 +14,6 @@ pub fn hardened_texts_are_short()
     ensures short { (n : Net) → IsValid n → HardenedTextsAreShort n }
     // Where the original's flat text keeps the limit of an original file, both keep that of a hardened one.
     ensures within { (n : Net) → IsValid n → HardenedTextsKeepLimits n }
-    // It does so where the original was read within that limit.
+    // It does so where the original was flattened within that limit.
     ensures original { (n : Net) → IsValid n → FlatTextKeepsLimit n }
 {}

@@ -15,6 +15,7 @@ use Rattle.hierarchy.proofs.OneAnswer.{flat_or_fault}
 use Rattle.hierarchy.proofs.Marks.{one_free}
 use Rattle.tmr_outside.specs.Contents.{Contents}
 use Rattle.blif_writer.specs.NetOf.{IsFreeNetOf}
+use Rattle.tmr_top.specs.FlatWithin.{IsFlatWithin}
 use Rattle.tmr_top.specs.Loads.{Load}
 use Rattle.tmr_top.specs.Loaded.{HoldsText}
 use Rattle.tmr_top.specs.Designs.{IsUnread, HoldsDesign, HoldsNoDesign}
@@ -28,7 +29,10 @@ is_design limit bytes library n free read flat = record { library = library; rea
 pub bad_library : (limit : ℕ) (bytes : List ℕ) (library : List PlainModel) (fault : FlatFault) (reason : List ℕ) → reading bytes ≡ Ok library → fault ≢ Memory → IsFlatFault library limit fault → reason ≡ flat_reason fault → IsUnread limit bytes reason
 bad_library limit bytes library fault reason read caused first says = inr (record { library = library; read = read; fault = fault; caused = caused; first = first; says = says })
 
-pub ruleset libraries = (is_design, bad_library)
+pub is_flat_within : (limit : ℕ) (library : List PlainModel) (n : Net) (free : List Bool) → IsFreeFlat library limit n free → IsFlatWithin limit n free
+is_flat_within limit library n free flat = record { library = library; flat = flat }
+
+pub ruleset libraries = (is_design, bad_library, is_flat_within)
 
 pub bad_text : (limit : ℕ) (bytes : List ℕ) (bad : Bad) (reason : List ℕ) → reading bytes ≡ Err bad → reason ≡ bad_reason bad → IsUnread limit bytes reason
 bad_text limit bytes bad reason read says = inl (record { bad = bad; read = read; says = says })

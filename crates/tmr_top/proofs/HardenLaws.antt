@@ -1,10 +1,14 @@
 -- What a hardening comes to.
 use Rattle.std.proofs.Common.{◌≡◌, ℕ, zero, suc, ◌<◌, ◌≤◌, ◌⊎◌, Bool, List, [], ◌∷◌, length, Ok, inl, inr, refl, ap, subst, ◌∙◌, arith}
-use Rattle.std.specs.Prelude.{◌↔◌, IsTrue, count_by}
-use Rattle.flat_net.specs.Net.{Net}
+use Rattle.std.specs.Prelude.{◌↔◌, IsTrue, count_by, nat_eq}
+use Rattle.flat_net.specs.Net.{Net, IsValid}
 use Rattle.blif_writer.specs.NetOf.{IsFreeNetOf}
 use Rattle.blif_writer.specs.Text.{free_text}
-use Rattle.certificate.specs.Cert.{PlainCert}
+use Rattle.certificate.specs.Cert.{PlainCert, IsCert}
+use Rattle.certificate.specs.Starts.{counted}
+use Rattle.recovery_depth.specs.Extra.{is_extra}
+use Rattle.hardened_size.specs.Size.{FlatTextKeepsLimit, HardenedTextsKeepLimits, KeepLimits}
+use Rattle.tmr_top.specs.FlatWithin.{IsFlatWithin}
 use Rattle.certificate.specs.Reading.{cert_of_text}
 use Rattle.certificate.specs.Text.{cert_text}
 use Rattle.partitioner.specs.Cost.{cost}
@@ -65,6 +69,12 @@ known_version zero low high = absurd (omega (arith, low))
 known_version (suc zero) low high = inl refl
 known_version (suc (suc zero)) low high = inr refl
 known_version (suc (suc (suc v))) low high = absurd (omega (arith, high))
+
+-- the texts of a hardened form keep the limits of their files, where the original was flattened within its own
+pub limits_kept : (n h : Net) (f g : List Bool) (size version most : ℕ) (k : PlainCert) → IsValid n → IsValid h → IsCert k → 0 < size → BoundedForm n f size version most h g k → IsFlatWithin 8388608 n f → FlatTextKeepsLimit n → HardenedTextsKeepLimits n → KeepLimits n h k
+limits_kept n h f g size version most k valid hardened_valid certificate some form within original law =
+    law h k f (record { marks = counted k f; hardened_marks = counted k g; size = size; inputs = nat_eq version 2; extra = is_extra form.extra.marks; some = some; valid = hardened_valid; certificate = certificate; form = form.form })
+    (original within.library 8388608 f within.flat)
 
 pub ruleset texts = (unhardened_work)
 

@@ -15,6 +15,7 @@ pub mod Unread
 pub mod Pairs
 pub mod Validated
 pub mod Hardened
+pub mod FlatWithin
 pub mod Flattened
 pub mod Outcomes
 pub mod Causes

@@ -1,5 +1,7 @@
 //! Designs, read from the bytes of their files.
 ghost use Rattle.std.specs.Prelude.{◌≡◌, ◌≤◌, ◌+◌, ◌*◌, List, ℕ, IfOk, IfErr, MatchResult};
+ghost use Rattle.tmr_top.specs.FlatWithin.{IsFlatWithin};
+ghost use Rattle.flat_net.specs.Net.{IsDesign};
 ghost use Rattle.flat_net.specs.Net.{net_count, pin_total};
 ghost use Rattle.blif_text.specs.Reading.{reading};
 ghost use Rattle.blif_text.specs.Stands.{Reads};
@@ -10,7 +12,7 @@ ghost use Rattle.tmr_top.specs.Unread.{OnRefused};
 
 use crate::reasons::{bad_line, flat_reason};
 use blif_text::{Library, TextFault};
-use flat_net::FreeNet;
+use flat_net::{FlatNet, FreeNet};
 use hierarchy::{FlatFault, flatten_free};
 use std::alloc::Global;
 use tmr_base::OutOfMemory;
@@ -34,12 +36,29 @@ fn refused(reason: Result<Vec<u8>, OutOfMemory>) -> Unread
     }
 }
 
+/// How many nodes a design has, which is a valid one.
+fn checked(n: &FlatNet) -> u32
+    ensures { IsDesign n.now }
+{
+    let _inputs = n.input_count();
+    n.node_count()
+}
+
+/// How many nodes a design with marks has, which is a valid one.
+pub fn checked_nodes(n: &FreeNet) -> u32
+    ensures { IsDesign n.now.design }
+{
+    let design = n.net();
+    checked(design)
+}
+
 /// The design of a library, where its flat text keeps the limit.
 #[tactic(auto, using(crate::proofs::DesignLaws::libraries))]
 fn design_of(alloc: Global, library: &Library, limit: u64) -> Result<FreeNet, Unread>
     requires { limit ≤ 1073741824 }
     ensures read { (bytes : List ℕ) → reading bytes ≡ Ok library.now → IfOk result (λ flat. IsFreeNetOf bytes limit flat.design.net flat.free) }
     ensures few { IfOk result (λ flat. 2 * (net_count flat.design.net + pin_total flat.design.net) ≤ limit) }
+    ensures flat { IfOk result (λ flat. IsFlatWithin limit flat.design.net flat.free) }
     ensures unread { (bytes : List ℕ) → reading bytes ≡ Ok library.now → IfErr result (OnRefused (IsUnread limit bytes)) }
 {
     match flatten_free(alloc, library, limit) {
@@ -58,6 +77,7 @@ pub fn read_design(
     requires { limit ≤ 1073741824 }
     ensures read { (bytes : List ℕ) → Reads text.now (reading bytes) → IfOk result (λ flat. IsFreeNetOf bytes limit flat.design.net flat.free) }
     ensures few { IfOk result (λ flat. 2 * (net_count flat.design.net + pin_total flat.design.net) ≤ limit) }
+    ensures flat { IfOk result (λ flat. IsFlatWithin limit flat.design.net flat.free) }
     ensures unread { (bytes : List ℕ) → Reads text.now (reading bytes) → IfErr result (OnRefused (IsUnread limit bytes)) }
 {
     match text {

@@ -2,7 +2,8 @@
 ghost use Rattle.std.specs.Prelude.{◌≡◌, ◌≤◌, ◌+◌, length, Ok, IfOk, count_by};
 ghost use Rattle.blif_writer.specs.NetOf.{IsFreeNetOf};
 ghost use Rattle.blif_writer.specs.Text.{free_text};
-ghost use Rattle.certificate.specs.Cert.{Fits};
+ghost use Rattle.certificate.specs.Cert.{Fits, IsCert};
+ghost use Rattle.hardened_size.specs.Size.{KeepLimits};
 ghost use Rattle.certificate.specs.Reading.{cert_of_text};
 ghost use Rattle.certificate.specs.Text.{cert_text};
 ghost use Rattle.flat_net.specs.Net.{net_count, pin_total};
@@ -13,19 +14,21 @@ ghost use Rattle.tmr_top.specs.FileWords.{hardening_in};
 ghost use Rattle.tmr_top.specs.Loads.{original_file, loads_of};
 ghost use Rattle.tmr_top.specs.Loaded.{HoldsText, HoldsEach, FitsEach};
 ghost use Rattle.tmr_top.specs.Designs.{HoldsDesign};
+ghost use Rattle.tmr_top.specs.FlatWithin.{IsFlatWithin};
 ghost use Rattle.tmr_top.specs.FormText.{form_numbers, hardened_lines};
 ghost use Rattle.tmr_top.specs.Works.{IsWork, HasTexts};
 
 use crate::decision::{Verdict, Work, refusal};
-use crate::designs::{Unread, read_design};
+use crate::designs::{Unread, checked_nodes, read_design};
 use crate::form_text::{FormNumbers, hardened_lines};
 use crate::harden_words::HardenWords;
-use crate::loads::{CERTIFICATE_LIMIT, HARDENED_LIMIT, Loaded, ORIGINAL_LIMIT};
+use crate::loads::{Loaded, ORIGINAL_LIMIT};
 use crate::texts::greatest_depth;
 use blif_text::{Library, TextFault};
 use blif_writer::write_free;
 use certificate::{Certificate, write_cert};
 use flat_net::FreeNet;
+use hardened_size::hardened_texts_are_short;
 use std::alloc::Global;
 use tmr_base::OutOfMemory;
 use triplicate::{HardenedFree, harden_deep};
@@ -55,35 +58,50 @@ fn form_text(
     hardened_lines(alloc, &numbers, made.cert.version(), n.free_count())
 }
 
-/// The text of a hardened design. One above the limit of its file is not saved.
+/// How many partitions a certificate has, which is a consistent one.
+fn checked_parts(c: &Certificate) -> u32
+    ensures { IsCert c.now }
+{
+    c.parts()
+}
+
+/// Both texts of a hardened form keep the limits of their files, where the flat text of its original keeps its own.
+fn texts_keep_limits(words: &HardenWords, n: &FreeNet, made: &HardenedFree)
+    requires bounded { IsBounded n.now words.now.size words.now.version words.now.most made.now }
+    requires flat { IsFlatWithin 8388608 n.now.design.net n.now.free }
+    ensures { KeepLimits n.now.design.net made.now.net.design.net made.now.cert }
+{
+    hardened_texts_are_short();
+    let _original = checked_nodes(n);
+    let _hardened = checked_nodes(&made.net);
+    let _parts = checked_parts(&made.cert);
+}
+
+/// The text of a hardened design, which keeps its limit.
 fn design_text(alloc: Global, h: &FreeNet) -> Result<Vec<u8>, OutOfMemory>
+    requires { length (free_text h.now.design.net h.now.free) ≤ 1073741824 }
     ensures text { IfOk result (λ text. text.items ≡ free_text h.now.design.net h.now.free) }
     ensures short { IfOk result (λ text. length text.items ≤ 1073741824) }
     ensures read { IfOk result (λ text. IsFreeNetOf text.items 1073741824 h.now.design.net h.now.free) }
 {
     let text = write_free(alloc, h)?;
-    if text.len() as u64 > HARDENED_LIMIT {
-        return Err(OutOfMemory);
-    }
     Ok(text)
 }
 
-/// The text of a certificate. One above the limit of its file is not saved.
+/// The text of a certificate, which keeps its limit.
 fn certificate_text(
     alloc: Global,
     n: &FreeNet,
     h: &FreeNet,
     c: &Certificate,
 ) -> Result<Vec<u8>, OutOfMemory>
-    requires { Fits n.now.design.net h.now.design.net c.now }
+    requires fits { Fits n.now.design.net h.now.design.net c.now }
+    requires short { length (cert_text n.now.design.net h.now.design.net c.now) ≤ 1073741824 }
     ensures text { IfOk result (λ text. text.items ≡ cert_text n.now.design.net h.now.design.net c.now) }
     ensures short { IfOk result (λ text. length text.items ≤ 1073741824) }
     ensures read { IfOk result (λ text. cert_of_text n.now.design.net h.now.design.net text.items ≡ Ok c.now) }
 {
     let text = write_cert(alloc, n.net(), h.net(), c)?;
-    if text.len() as u64 > CERTIFICATE_LIMIT {
-        return Err(OutOfMemory);
-    }
     Ok(text)
 }
 
@@ -95,12 +113,14 @@ fn tell_form(
     n: &FreeNet,
     made: &HardenedFree,
 ) -> Result<Work, OutOfMemory>
-    requires { IsBounded n.now words.now.size words.now.version words.now.most made.now }
+    requires bounded { IsBounded n.now words.now.size words.now.version words.now.most made.now }
+    requires flat { IsFlatWithin 8388608 n.now.design.net n.now.free }
     ensures texts { IfOk result (HasTexts (Harden (hardening_in words.now))) }
     ensures work { (held : Contents)
         → HoldsDesign held (original_file words.now.original.now) n.now.design.net n.now.free
         → IfOk result (IsWork (Harden (hardening_in words.now)) held) }
 {
+    texts_keep_limits(words, n, made);
     let design = design_text(alloc, &made.net)?;
     let certificate = certificate_text(alloc, n, &made.net, &made.cert)?;
     let text = form_text(alloc, words, n, made)?;
@@ -117,7 +137,8 @@ fn tell_form(
 /// The work where the original is read.
 #[tactic(auto, using(crate::proofs::HardenLaws::versions))]
 fn harden_design(alloc: Global, words: &HardenWords, n: &FreeNet) -> Result<Work, OutOfMemory>
-    requires { net_count n.now.design.net + pin_total n.now.design.net ≤ 16777216 }
+    requires few { net_count n.now.design.net + pin_total n.now.design.net ≤ 16777216 }
+    requires flat { IsFlatWithin 8388608 n.now.design.net n.now.free }
     ensures texts { IfOk result (HasTexts (Harden (hardening_in words.now))) }
     ensures work { (held : Contents)
         → HoldsDesign held (original_file words.now.original.now) n.now.design.net n.now.free
