@@ -1,9 +1,8 @@
 //! One run of the program over files and a sink in memory.
 
-use crate::contents::{Contents, hold};
 use crate::line::Failure;
+use crate::shelf::Shelf;
 use std::alloc::{AllocError, Global};
-use std::collections::BTreeMap;
 use tmr_outside::{MemFiles, MemSink};
 use tmr_top::{Status, run};
 
@@ -11,7 +10,7 @@ use tmr_top::{Status, run};
 #[derive(Clone, Copy, Drop)]
 pub struct Given<'a> {
     pub words: &'a [String],
-    pub files: &'a Contents,
+    pub files: &'a Shelf,
     pub calls: &'a [Failure],
     pub puts: &'a [Failure],
 }
@@ -21,15 +20,12 @@ pub struct Given<'a> {
 pub struct Seen {
     pub status: Status,
     pub text: Vec<u8>,
-    pub files: Contents,
+    pub files: Shelf,
 }
 
 /// The files of a run, of which some calls are to fail.
 fn files_of(alloc: Global, given: &Given) -> Result<MemFiles, AllocError> {
-    let mut files = MemFiles::new(alloc);
-    for (name, bytes) in given.files.iter() {
-        files.hold(name, bytes)?;
-    }
+    let mut files = given.files.files(alloc)?;
     for failure in given.calls {
         files.fail_at(failure.call, failure.keep)?;
     }
@@ -45,28 +41,26 @@ fn sink_of(alloc: Global, puts: &[Failure]) -> Result<MemSink, AllocError> {
     Ok(sink)
 }
 
-/// Notes what a name holds, if it is there.
+/// Notes what these names hold, those that are there.
 fn note(
     alloc: Global,
-    held: &mut Contents,
+    held: &mut Shelf,
     files: &MemFiles,
-    name: &str,
+    names: &[String],
 ) -> Result<(), AllocError> {
-    match files.held(name) {
-        Some(bytes) => hold(held, alloc, name, bytes),
-        None => Ok(()),
+    for name in names {
+        if let Some(bytes) = files.held(name) {
+            held.hold(alloc, name, bytes)?;
+        }
     }
+    Ok(())
 }
 
 /// What the given names and the words hold. No other name can be there.
-fn held_after(alloc: Global, given: &Given, files: &MemFiles) -> Result<Contents, AllocError> {
-    let mut held = BTreeMap::new(alloc);
-    for name in given.files.keys() {
-        note(alloc, &mut held, files, name)?;
-    }
-    for word in given.words {
-        note(alloc, &mut held, files, word)?;
-    }
+fn held_after(alloc: Global, given: &Given, files: &MemFiles) -> Result<Shelf, AllocError> {
+    let mut held = Shelf::new(alloc);
+    note(alloc, &mut held, files, given.files.names())?;
+    note(alloc, &mut held, files, given.words)?;
     Ok(held)
 }
 
