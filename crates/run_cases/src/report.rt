@@ -1,0 +1,73 @@
+//! What is printed of a run.
+
+use crate::notation::{push_bytes, push_lines};
+use crate::shelf::Shelf;
+use crate::trial_run::Seen;
+use std::alloc::AllocError;
+use std::fmt::Write;
+use tmr_top::Status;
+
+/// What is known before a run: the texts, and what the files hold.
+#[derive(Clone, Copy, Drop)]
+pub struct Before<'a> {
+    pub texts: &'a Shelf,
+    pub files: &'a Shelf,
+}
+
+/// Whether the name holds exactly these bytes.
+fn holds(shelf: &Shelf, name: &str, bytes: &[u8]) -> bool {
+    match shelf.held(name) {
+        Some(held) => held == bytes,
+        None => false,
+    }
+}
+
+/// The name of the first text that is these bytes.
+fn name_of<'a>(texts: &'a Shelf, bytes: &[u8]) -> Option<&'a str> {
+    for name in texts.names() {
+        if holds(texts, name, bytes) {
+            return Some(name.as_str());
+        }
+    }
+    None
+}
+
+/// Appends the exit code of a status and its name.
+fn push_status(report: &mut String, status: Status) -> Result<(), AllocError> {
+    let code = status.code();
+    writeln!(report, "{code} {status:?}")
+}
+
+/// Appends the name of the text that is these bytes, or else the bytes line by line.
+fn push_contents(report: &mut String, texts: &Shelf, bytes: &[u8]) -> Result<(), AllocError> {
+    match name_of(texts, bytes) {
+        Some(name) => writeln!(report, "= {name}"),
+        None => push_lines(report, bytes),
+    }
+}
+
+/// Appends a file, unless it held the same before.
+fn push_file(
+    report: &mut String,
+    before: &Before,
+    name: &str,
+    bytes: &[u8],
+) -> Result<(), AllocError> {
+    if holds(before.files, name, bytes) {
+        return Ok(());
+    }
+    report.push_str("file ")?;
+    push_bytes(report, name.as_bytes())?;
+    report.push('\n')?;
+    push_contents(report, before.texts, bytes)
+}
+
+/// Appends what was seen of a run: the status, the text, and each file that is new or was changed.
+pub fn push_seen(report: &mut String, before: &Before, seen: &Seen) -> Result<(), AllocError> {
+    push_status(report, seen.status)?;
+    push_contents(report, before.texts, &seen.text)?;
+    for name in seen.files.names() {
+        push_file(report, before, name, seen.files.held(name).unwrap_or(b""))?;
+    }
+    Ok(())
+}
