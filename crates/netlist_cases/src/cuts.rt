@@ -54,6 +54,20 @@ fn parts_text(alloc: Global, count: u32, digits: &[u8]) -> Result<String, Stop>
     Ok(text)
 }
 
+/// The number of a component among those that have been met, in the order in which they are met.
+fn met(numbers: &mut Vec<u32>, next: &mut u32, component: u32) -> u32 {
+    match numbers.get_mut(component as usize) {
+        Some(number) => {
+            if *number == u32::MAX {
+                *number = *next;
+                *next = next.wrapping_add(1);
+            }
+            *number
+        }
+        None => u32::MAX,
+    }
+}
+
 /// For each node its component, with `*` where that has a loop, and for each of its pins `x` where it is cut, else `-`.
 fn loops_text(alloc: Global, n: &FlatNet, parts: &Parts) -> Result<String, Stop>
     requires { length parts.now.of ≡ length n.now.net.nodes }
@@ -61,10 +75,12 @@ fn loops_text(alloc: Global, n: &FlatNet, parts: &Parts) -> Result<String, Stop>
     let groups = components(alloc, n, parts)?;
     let pins = cut(alloc, n, parts)?;
     let mut text = format!(in alloc; "{}:", groups.count())?;
+    let mut numbers = vec![in alloc; u32::MAX; groups.count() as usize]?;
+    let mut next = 0u32;
     let inputs = n.input_count();
     for i in 0..n.node_count() {
         let k = groups.of(i);
-        write!(text, " {k}")?;
+        write!(text, " {}", met(&mut numbers, &mut next, k))?;
         text.push_str(if groups.has_loop(k) { "*" } else { "" })?;
         for j in 0..n.pin_count(NetId(inputs + i)) {
             text.push(if pins.is_cut(i, j) { 'x' } else { '-' })?;
