@@ -33,6 +33,8 @@ fn read(
     if bytes.len() > 16_777_216 {
         return Err(ScheduleFault::Memory);
     }
+    // The version is 1 or 2.
+    let _parts = c.parts();
     if c.version() == 1 {
         read_schedule(alloc, bytes, n.net(), h.net())
     } else {
