@@ -1,5 +1,5 @@
 //! How many nodes of each partition pass a test.
-ghost use Rattle.std.specs.Prelude.{◌≡◌, ◌==◌, ◌&&◌, ◌<◌, ◌+◌, ℕ, length, slice_index, IfOk};
+ghost use Rattle.std.specs.Prelude.{◌≡◌, ◌==◌, ◌&&◌, ◌<◌, ◌+◌, ℕ, length, slice_index, replicate, IfOk};
 ghost use Rattle.partitioner.specs.Below.{count_below, one_if};
 ghost use Rattle.recovery_depth.specs.Walks.{is_marked};
 
@@ -14,6 +14,13 @@ pub fn one_if(bit: bool) -> u32
     if bit { 1 } else { 0 }
 }
 
+/// So many zeros.
+fn zeros(alloc: Global, count: u32) -> Result<Vec<u32>, OutOfMemory>
+    ensures { IfOk result (λ v. v.items ≡ replicate count 0) }
+{
+    Ok(Vec::from_elem(alloc, 0, count as usize)?)
+}
+
 /// For each partition how many of its nodes have their bit set. One pass over the nodes.
 pub fn counts(alloc: Global, parts: &Parts, bits: &[bool]) -> Result<Vec<u32>, OutOfMemory>
     requires { length bits.now ≡ length parts.now.of }
@@ -21,7 +28,7 @@ pub fn counts(alloc: Global, parts: &Parts, bits: &[bool]) -> Result<Vec<u32>, O
     ensures counts { IfOk result (λ counts. (p : ℕ) → p < parts.now.count →
         slice_index counts.items p ≡ count_below (length parts.now.of) (λ x. slice_index parts.now.of x == p && is_marked bits.now x)) }
 {
-    let mut counts = vec![in alloc; 0; parts.count() as usize]?;
+    let mut counts = zeros(alloc, parts.count())?;
     for x in 0..parts.len() {
         let one = one_if(bits[x as usize]);
         counts[parts.of(x) as usize] += one;

@@ -11,6 +11,22 @@ use flat_net::FlatNet;
 use std::alloc::{AllocError, Global};
 use tmr_base::NetId;
 
+/// Puts a word.
+pub fn put_first(out: &mut Vec<u8>, word: &[u8]) -> Result<(), AllocError>
+    ensures { OnOk result (out.new.items ≡ out.old.items ++ word.now) }
+{
+    out.extend_from_slice(word)?;
+    Ok(())
+}
+
+/// Puts a line feed.
+pub fn put_end(out: &mut Vec<u8>) -> Result<(), AllocError>
+    ensures { OnOk result (out.new.items ≡ out.old.items ++ 10 ∷ []) }
+{
+    out.push(b'\n')?;
+    Ok(())
+}
+
 /// Puts words, a blank before each.
 pub fn put_words(out: &mut Vec<u8>, words: &[&[u8]]) -> Result<(), AllocError>
     ensures { OnOk result (out.new.items ≡ out.old.items ++ spaced (texts words.now)) }
@@ -19,6 +35,23 @@ pub fn put_words(out: &mut Vec<u8>, words: &[&[u8]]) -> Result<(), AllocError>
         out.push(b' ')?;
         out.extend_from_slice(word)?;
     }
+    Ok(())
+}
+
+/// Puts a blank and a word.
+pub fn put_word(out: &mut Vec<u8>, word: &[u8]) -> Result<(), AllocError>
+    ensures { OnOk result (out.new.items ≡ out.old.items ++ spaced (word.now ∷ [])) }
+{
+    put_words(out, &[word])?;
+    Ok(())
+}
+
+/// Puts a blank and a number.
+pub fn put_decimal(alloc: Global, out: &mut Vec<u8>, number: u32) -> Result<(), AllocError>
+    ensures { OnOk result (out.new.items ≡ out.old.items ++ spaced (decimal number ∷ [])) }
+{
+    let number = number.to_string(alloc)?;
+    put_words(out, &[number.as_bytes()])?;
     Ok(())
 }
 

@@ -9,12 +9,14 @@ ghost use Rattle.certificate.specs.Text.{line_text};
 ghost use Rattle.recovery_depth.specs.Depths.{is_register_at};
 ghost use Rattle.partitioner.specs.Cost.{cost as cost_of};
 ghost use Rattle.reports.specs.Counts.{partitions, is_border_voter, is_feedback_voter, is_input_voter, count_in, any_node, heads_loop};
-ghost use Rattle.reports.specs.Report.{head_lines, voters_line, part_line, part_words, chain_words};
+ghost use Rattle.reports.specs.Report.{head_lines, input_words, voters_line, part_line, part_words, chain_words};
 ghost use Rattle.reports.specs.Left.{spaced, parts_left, AreCounted, AreNets};
 
 use crate::partitions::nodes_of;
 use crate::voters::Voters;
-use crate::words::{put_count, put_line, put_names, put_words};
+use crate::words::{
+    put_count, put_decimal, put_end, put_first, put_line, put_names, put_word, put_words,
+};
 use certificate::Certificate;
 use feedback_cut::LoopGroups;
 use flat_net::FlatNet;
@@ -32,7 +34,35 @@ pub struct PartCounts {
     pub groups: LoopGroups,
 }
 
+/// Puts a word and a number, a blank before each.
+fn put_number(alloc: Global, out: &mut Vec<u8>, word: &[u8], number: u32) -> Result<(), AllocError>
+    ensures { OnOk result (out.new.items ≡ out.old.items ++ spaced (word.now ∷ decimal number ∷ [])) }
+{
+    let number = number.to_string(alloc)?;
+    put_words(out, &[word, number.as_bytes()])?;
+    Ok(())
+}
+
+/// In version 2 puts how many voters of inputs there are.
+#[tactic(auto, using(crate::proofs::WordLaws::no_inputs, crate::proofs::WordLaws::some_inputs))]
+fn put_inputs(
+    alloc: Global,
+    out: &mut Vec<u8>,
+    c: &Certificate,
+    inputs: u32,
+) -> Result<(), AllocError>
+    requires { inputs ≡ count_by (is_input_voter c.now) c.now.roles }
+    ensures { OnOk result (out.new.items ≡ out.old.items ++ spaced (input_words c.now)) }
+{
+    if c.version() == 1 {
+        return Ok(());
+    }
+    put_number(alloc, out, b"inputs", inputs)?;
+    Ok(())
+}
+
 /// Puts the line of the voters.
+#[tactic(auto, using(crate::proofs::WordLaws::voters_put))]
 fn put_voters(
     alloc: Global,
     out: &mut Vec<u8>,
@@ -44,28 +74,11 @@ fn put_voters(
     requires inputs { voters.inputs ≡ count_by (is_input_voter c.now) c.now.roles }
     ensures { OnOk result (out.new.items ≡ out.old.items ++ line_text (voters_line c.now)) }
 {
-    let border = voters.border.to_string(alloc)?;
-    let feedback = voters.feedback.to_string(alloc)?;
-    let words = [
-        b"border".as_slice(),
-        border.as_bytes(),
-        b"feedback".as_slice(),
-        feedback.as_bytes(),
-    ];
-    if c.version() == 1 {
-        put_line(out, b"voters", &words)?;
-        return Ok(());
-    }
-    let inputs = voters.inputs.to_string(alloc)?;
-    let words = [
-        b"border".as_slice(),
-        border.as_bytes(),
-        b"feedback".as_slice(),
-        feedback.as_bytes(),
-        b"inputs".as_slice(),
-        inputs.as_bytes(),
-    ];
-    put_line(out, b"voters", &words)?;
+    put_first(out, b"voters")?;
+    put_number(alloc, out, b"border", voters.border)?;
+    put_number(alloc, out, b"feedback", voters.feedback)?;
+    put_inputs(alloc, out, c, voters.inputs)?;
+    put_end(out)?;
     Ok(())
 }
 
@@ -108,6 +121,7 @@ pub fn put_head(
 }
 
 /// Puts the words of partition p's line but the first and the names: six numbers, each behind a word.
+#[tactic(auto, using(crate::proofs::WordLaws::numbers_put))]
 fn put_numbers(
     alloc: Global,
     out: &mut Vec<u8>,
@@ -120,29 +134,22 @@ fn put_numbers(
 ) -> Result<(), AllocError>
     ensures { OnOk result (out.new.items ≡ out.old.items ++ spaced (decimal p ∷ codes "nodes" ∷ decimal nodes ∷ codes "registers" ∷ decimal registers ∷ codes "loops" ∷ decimal loops ∷ codes "depth" ∷ decimal depth ∷ codes "least" ∷ decimal least ∷ codes "chain" ∷ [])) }
 {
-    let p = p.to_string(alloc)?;
-    let nodes = nodes.to_string(alloc)?;
-    let registers = registers.to_string(alloc)?;
-    let loops = loops.to_string(alloc)?;
-    let depth = depth.to_string(alloc)?;
-    let least = least.to_string(alloc)?;
-    put_words(
-        out,
-        &[
-            p.as_bytes(),
-            b"nodes".as_slice(),
-            nodes.as_bytes(),
-            b"registers".as_slice(),
-            registers.as_bytes(),
-            b"loops".as_slice(),
-            loops.as_bytes(),
-            b"depth".as_slice(),
-            depth.as_bytes(),
-            b"least".as_slice(),
-            least.as_bytes(),
-            b"chain".as_slice(),
-        ],
-    )
+    put_decimal(alloc, out, p)?;
+    put_number(alloc, out, b"nodes", nodes)?;
+    put_number(alloc, out, b"registers", registers)?;
+    put_number(alloc, out, b"loops", loops)?;
+    put_number(alloc, out, b"depth", depth)?;
+    put_number(alloc, out, b"least", least)?;
+    put_word(out, b"chain")?;
+    Ok(())
+}
+
+/// The count of partition p.
+fn count_at(counts: &[u32], p: u32) -> u32
+    requires { p < length counts.now }
+    ensures { result ≡ slice_index counts.now p }
+{
+    counts[p as usize]
 }
 
 /// Entry p.
@@ -169,20 +176,14 @@ fn put_part(
     requires chain { All (λ x. x < net_count n.now.net) (map number_of deep.now.chain.items) }
     ensures { OnOk result (out.new.items ≡ out.old.items ++ line_text (part_line n.now.net c.now counts.now.groups p deep.now)) }
 {
-    let at = p as usize;
-    out.extend_from_slice(b"part")?;
-    put_numbers(
-        alloc,
-        out,
-        p,
-        counts.nodes[at],
-        counts.registers[at],
-        counts.loops[at],
-        c.depth(PartId(p)),
-        deep.depth,
-    )?;
+    put_first(out, b"part")?;
+    let nodes = count_at(&counts.nodes, p);
+    let registers = count_at(&counts.registers, p);
+    let loops = count_at(&counts.loops, p);
+    let depth = c.depth(PartId(p));
+    put_numbers(alloc, out, p, nodes, registers, loops, depth, deep.depth)?;
     put_names(out, n, &deep.chain)?;
-    out.push(b'\n')?;
+    put_end(out)?;
     Ok(())
 }
 

@@ -54,14 +54,14 @@ one P x p (suc i) d h = absurd (omega arith)
 pub drawn_none : (number : ℕ) (n h : Net) (k : PlainCert) (state : ℕ) (strikes : List (Option Strike)) (s : PlainSchedule) → state ≡ number → s.inputs ≡ length n.inputs → s.rows ≡ [] → s.upsets ≡ [] → AreStrikes k [] strikes → HasDrawn number n h k 0 state strikes s
 unfolding state_before
 drawn_none number n h k state strikes s at inputs rows upsets are = record {
-  state = at;
+  state_is = at;
   schedule = record { inputs = inputs; rows = rows; upsets = upsets };
   long = ap length rows;
   allowed = subst (λ (us : List Upset). Allowed us k) (sym upsets) (λ u v p c d u_there. absurd (let l = u_there.1 in omega arith));
   earlier = subst (λ (us : List Upset). All (λ u. u.cycle < 0) us) (sym upsets) (λ i d l. absurd (omega arith));
   few = omega (arith, ap length upsets);
   nodes = subst (λ (us : List Upset). All (IsOfNode k) us) (sym upsets) (λ i d l. absurd (omega arith));
-  strikes = subst (λ (us : List Upset). AreStrikes k us strikes) (sym upsets) are;
+  strikes_are = subst (λ (us : List Upset). AreStrikes k us strikes) (sym upsets) are;
 }
 
 -- what an upset of this cycle is
@@ -72,18 +72,18 @@ pub cycle_drawn : (number : ℕ) (n h : Net) (k : PlainCert) (t state after : �
     → IsAdded k old.upsets (upset_drawn n h t state) new.upsets → ((u : Upset) → upset_drawn n h t state ≡ Some u → IsOfCycle k t u) → Allowed new.upsets k → AreStrikes k new.upsets next → HasDrawn number n h k (t + 1) after next new
 unfolding state_before
 cycle_drawn number n h k t state after strikes next old new row is inputs rows row_is after_is added of_cycle allowed are = record {
-  state = after_is ∙ (ap (state_after (cycle_draws n h)) is.state ∙ sym (ap (state_before n h number) behind));
+  state_is = after_is ∙ (ap (state_after (cycle_draws n h)) is.state_is ∙ sym (ap (state_before n h number) behind));
   schedule = record {
     inputs = inputs ∙ is.schedule.inputs;
-    rows = rows ∙ (ap (λ (xs : List (List Bool)). xs ++ row ∷ []) is.schedule.rows ∙ (ap (λ (r : List Bool). map (λ t. row_drawn (length n.inputs) (state_before n h number t)) (range_with_len 0 t) ++ r ∷ []) (row_is ∙ ap (row_drawn (length n.inputs)) is.state) ∙ sym (map-range_with_len_more (λ t. row_drawn (length n.inputs) (state_before n h number t)) 0 t t (omega arith))));
-    upsets = subst (λ (m : ℕ). AreAdded n h k number m new.upsets) (sym behind) (old.upsets, is.schedule.upsets, subst (λ (s : ℕ). IsAdded k old.upsets (upset_drawn n h t s) new.upsets) is.state added);
+    rows = rows ∙ (ap (λ (xs : List (List Bool)). xs ++ row ∷ []) is.schedule.rows ∙ (ap (λ (r : List Bool). map (λ t. row_drawn (length n.inputs) (state_before n h number t)) (range_with_len 0 t) ++ r ∷ []) (row_is ∙ ap (row_drawn (length n.inputs)) is.state_is) ∙ sym (map-range_with_len_more (λ t. row_drawn (length n.inputs) (state_before n h number t)) 0 t t (omega arith))));
+    upsets = subst (λ (m : ℕ). AreAdded n h k number m new.upsets) (sym behind) (old.upsets, is.schedule.upsets, subst (λ (s : ℕ). IsAdded k old.upsets (upset_drawn n h t s) new.upsets) is.state_is added);
   };
   long = ap length rows ∙ (length-append old.rows (row ∷ []) ∙ ap (λ (m : ℕ). m + 1) is.long);
   allowed = allowed;
   earlier = added_elim k old.upsets (upset_drawn n h t state) new.upsets (λ (us : List Upset). All (λ u. u.cycle < t + 1) us) earlier (λ u at. All-append (λ u. u.cycle < t + 1) old.upsets (u ∷ []) earlier (one (λ u. u.cycle < t + 1) u (let e = (of_cycle u at).0 in omega arith))) added;
   few = added_elim k old.upsets (upset_drawn n h t state) new.upsets (λ (us : List Upset). length us ≤ t + 1) (omega (arith, is.few)) (λ u at. omega (arith, is.few, length-append old.upsets (u ∷ []))) added;
   nodes = added_elim k old.upsets (upset_drawn n h t state) new.upsets (λ (us : List Upset). All (IsOfNode k) us) is.nodes (λ u at. All-append (IsOfNode k) old.upsets (u ∷ []) is.nodes (one (IsOfNode k) u (of_cycle u at).1)) added;
-  strikes = are;
+  strikes_are = are;
 }
   where
     behind : t + 1 ≡ suc t
@@ -104,7 +104,7 @@ quiet_cycle number n h k t state after count strikes old new row is count_is mor
     (subst (λ (o : Option Upset). IsAdded k old.upsets o new.upsets) (sym quiet) parts.2)
     (λ u at. absurd (let no : None ≡ Some u = sym quiet ∙ at in cc))
     (subst (λ (us : List Upset). Allowed us k) (sym parts.2) is.allowed)
-    (subst (λ (us : List Upset). AreStrikes k us strikes) (sym parts.2) is.strikes)
+    (subst (λ (us : List Upset). AreStrikes k us strikes) (sym parts.2) is.strikes_are)
 
 -- the upset that is drawn behind a row
 abbrev pub upset_behind : Net → ℕ → ℕ → Upset
@@ -120,7 +120,7 @@ next_upset number n h k t state strikes old new row u is room more at low high =
       range = omega (arith, at, ap length parts.1, length-append old.rows (row ∷ []), is.long);
       room = omega (arith, ap length parts.2, is.few, room);
       allowed = subst (λ (us : List Upset). Allowed us k) (sym parts.2) is.allowed;
-      strikes = subst (λ (us : List Upset). AreStrikes k us strikes) (sym parts.2) is.strikes;
+      strikes_are = subst (λ (us : List Upset). AreStrikes k us strikes) (sym parts.2) is.strikes_are;
     }
 
 -- a cycle of a design with nodes
@@ -140,4 +140,4 @@ struck_cycle number n h k t state behind after count strikes next old mid new ro
     some_same a b e = cc
 
     of_cycle : (v : Upset) → u ≡ v → IsOfCycle k t v
-    of_cycle v same = subst (IsOfCycle k t) same (ap (λ (w : Upset). w.cycle) u_is, low, high)
+    of_cycle v same = subst (IsOfCycle k t) same (ap (λ (w : Upset). w.cycle) u_is, (low, high))

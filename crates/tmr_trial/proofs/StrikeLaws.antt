@@ -82,11 +82,11 @@ module _ (k : PlainCert) (us : List Upset) (strikes : List (Option Strike)) (is 
           let soon = near_soon (copy_number strike.copy) (copy_number d) (strike.cycle + depth_of k q) v.cycle e in
           let less = before struck.upset struck.there in
           let same = struck.cycle in
-          far less same soon (allowed struck.upset v (Some q) strike.copy d (Contains-append_left us (v ∷ []) struck.upset struck.there) (in_one us v) struck.is_in is_in (λ c. apart (ap copy_number c)))
+          far struck.upset less same soon (allowed struck.upset v (Some q) strike.copy d (Contains-append_left us (v ∷ []) struck.upset struck.there) (in_one us v) struck.is_in is_in (λ c. apart (ap copy_number c)))
         where
-          far : {w : Upset} → w.cycle < v.cycle → w.cycle ≡ strike.cycle → v.cycle ≤ strike.cycle + depth_of k q → (w.cycle + depth_of k q < v.cycle) ⊎ (v.cycle + depth_of k q < w.cycle) → ⊥
-          far less same soon (inl l) = omega arith
-          far less same soon (inr l) = omega arith
+          far : (w : Upset) → w.cycle < v.cycle → w.cycle ≡ strike.cycle → v.cycle ≤ strike.cycle + depth_of k q → (w.cycle + depth_of k q < v.cycle) ⊎ (v.cycle + depth_of k q < w.cycle) → ⊥
+          far w less same soon (inl l) = omega arith
+          far w less same soon (inr l) = omega arith
 
   -- an upset that is far from those of other copies
   pub far_allowed : Allowed us k → is_near (strike_at strikes q) d v.cycle (depth_of k q) ≡ false → Allowed (us ++ v ∷ []) k

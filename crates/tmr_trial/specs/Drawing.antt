@@ -15,14 +15,14 @@ IsOfNode k u = (k.hardened_inputs ≤ u.net.0) × (u.net.0 < k.hardened_inputs +
 
 -- t cycles are drawn
 pub record HasDrawn (number : ℕ) (n h : Net) (k : PlainCert) (t state : ℕ) (strikes : List (Option Strike)) (s : PlainSchedule) : Type 0 where
-  pub state : state ≡ state_before n h number t
+  pub state_is : state ≡ state_before n h number t
   pub schedule : IsScheduleOf number n h k t s
   pub long : length s.rows ≡ t
   pub allowed : Allowed s.upsets k
   pub earlier : All (λ u. u.cycle < t) s.upsets
   pub few : length s.upsets ≤ t
   pub nodes : All (IsOfNode k) s.upsets
-  pub strikes : AreStrikes k s.upsets strikes
+  pub strikes_are : AreStrikes k s.upsets strikes
 
 -- the upset is of a hardened node, in the last cycle, and later than all others
 pub record IsNext (k : PlainCert) (u : Upset) (strikes : List (Option Strike)) (s : PlainSchedule) : Type 0 where
@@ -32,4 +32,4 @@ pub record IsNext (k : PlainCert) (u : Upset) (strikes : List (Option Strike)) (
   pub range : u.cycle < length s.rows
   pub room : length s.upsets < 1048576
   pub allowed : Allowed s.upsets k
-  pub strikes : AreStrikes k s.upsets strikes
+  pub strikes_are : AreStrikes k s.upsets strikes

@@ -1,6 +1,9 @@
 use Rattle.std.proofs.Common.{◌≡◌, ◌++◌, ℕ, List, length, ap, sym, ◌∙◌, subst}
 use Rattle.flat_net.specs.Net.{Net}
 use Rattle.recovery_depth.specs.declared.deep.Deep.{Deep}
+use Rattle.std.specs.List.{flat_map}
+use Rattle.certificate.specs.Text.{line_text}
+use Rattle.reports.specs.Report.{head_lines}
 use Rattle.reports.specs.Left.{AreNets, parts_left}
 use Rattle.reports.proofs.ChainLaws.{chains_are_nets}
 use Rattle.reports.proofs.LineLaws.{text_put}
@@ -20,6 +23,6 @@ returns c = record {
   admitted = c.in_ok-deeps.ensures.admitted;
   components = c.in_ok-counts.ensures.components;
   text_is = text_put c.args.n.now.net c.args.c.now c.in_ok-counts.counts.groups c.in_ok-deeps.deeps.items c.put_head.new.out.items c.put_parts.new.out.items
-      (c.in_ok-put_head.ensures ∙ ?)
+      (c.in_ok-put_head.ensures ∙ ap (λ (o : List ℕ). o ++ flat_map line_text (head_lines c.args.n.now.net c.args.c.now)) c.new-out.ensures.items)
       (c.in_ok-put_parts.ensures ∙ ap (λ (ds : List Deep). c.put_head.new.out.items ++ parts_left c.args.n.now.net c.args.c.now c.in_ok-counts.counts.groups ds 0) c.deref.ensures.value);
 }

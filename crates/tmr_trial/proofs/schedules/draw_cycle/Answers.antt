@@ -1,9 +1,14 @@
 use Rattle.std.proofs.Common.{◌≡◌, ℕ, length, sym, ap, ◌∙◌, subst, arith}
-use Rattle.certificate.specs.Cert.{Fits}
+use Rattle.std.specs.Prelude.{◌==◌}
+use Rattle.std.proofs.lemmas.List.FromFn.{length-map-range_with_len}
 use Rattle.tmr_base.specs.declared.ids.Upset.{Upset}
-use Rattle.tmr_trial.specs.Drawing.{IsNext}
+use Rattle.tmr_trial.specs.Numbers.{draw}
 use Rattle.tmr_trial.proofs.Cycles.{quiet_cycle, next_upset, struck_cycle}
 use Rattle.tmr_trial.proofs.schedules.draw_cycle.Goals as goal
+
+pub push_cycle-requires-clause-width : goal.push_cycle-requires-clause-width
+push_cycle-requires-clause-width c =
+    ap length (c.deref.ensures.value ∙ c.in_ok-draw_row.ensures.row) ∙ (length-map-range_with_len (λ i. draw c.args.numbers.now.state i 2 == 1) 0 c.input_count.result ∙ (c.input_count.ensures.count ∙ sym c.requires.drawn.schedule.inputs))
 
 pub returns-then-node_count-eq0 : goal.returns-then-node_count-eq0
 returns-then-node_count-eq0 c =
