@@ -1,5 +1,5 @@
 //! How many nodes of each partition pass a test.
-ghost use Rattle.std.specs.Prelude.{◌≡◌, ◌==◌, ◌&&◌, ◌<◌, ◌+◌, ℕ, length, slice_index, replicate, IfOk};
+ghost use Rattle.std.specs.Prelude.{◌≡◌, ◌==◌, ◌&&◌, ◌<◌, ◌+◌, ℕ, length, slice_index, replicate, true, IfOk};
 ghost use Rattle.partitioner.specs.Below.{count_below, one_if};
 ghost use Rattle.recovery_depth.specs.Walks.{is_marked};
 
@@ -12,6 +12,14 @@ pub fn one_if(bit: bool) -> u32
     ensures few { result < 2 }
 {
     if bit { 1 } else { 0 }
+}
+
+/// A bit that is set for each of so many nodes.
+pub fn every_node(alloc: Global, count: u32) -> Result<Vec<bool>, OutOfMemory>
+    ensures items { IfOk result (λ v. v.items ≡ replicate count true) }
+    ensures len { IfOk result (λ v. length v.items ≡ count) }
+{
+    Ok(Vec::from_elem(alloc, true, count as usize)?)
 }
 
 /// So many zeros.

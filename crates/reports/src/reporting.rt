@@ -7,7 +7,7 @@ ghost use Rattle.reports.specs.Counts.{partitions};
 ghost use Rattle.reports.specs.Report.{IsReport};
 ghost use Rattle.reports.specs.Left.{AreCounted};
 
-use crate::counting::counts;
+use crate::counting::{counts, every_node};
 use crate::loops::loop_heads;
 use crate::partitions::{nodes_of, partitions, registers};
 use crate::voters::voter_counts;
@@ -21,7 +21,6 @@ use std::alloc::Global;
 use tmr_base::{OutOfMemory, Parts};
 
 /// What each partition has.
-#[tactic(auto, using(crate::proofs::CountLaws::counts_are, crate::proofs::CountLaws::all_told, crate::proofs::CountLaws::each_told))]
 fn counted(
     alloc: Global,
     n: &FlatNet,
@@ -34,7 +33,7 @@ fn counted(
     ensures components { IfOk result (λ counts. AreComponents n.now.net (partitions c.now) counts.groups) }
 {
     let count = nodes_of(n);
-    let all = vec![in alloc; true; count as usize]?;
+    let all = every_node(alloc, count)?;
     let nodes = counts(alloc, parts, &all)?;
     let is_register = registers(alloc, n)?;
     let registers = counts(alloc, parts, &is_register)?;
