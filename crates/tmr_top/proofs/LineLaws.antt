@@ -1,11 +1,11 @@
 -- What the words of `harden` mean.
 use Rattle.std.proofs.Common.{◌≡◌, ◌≢◌, ℕ, Bool, true, false, cond, ◌&&◌, List, [], ◌∷◌, Option, Some, None, refl, sym, ◌∙◌}
 use Rattle.std.specs.Prelude.{codes, not}
-use Rattle.std.specs.Option.{option_and_then}
+use Rattle.std.specs.Option.{option_and_then, option_map}
 use Rattle.std.specs.Str.{bytes_eq}
 use Rattle.flat_net.proofs.Names.{eq_true}
 use Rattle.tmr_top.specs.Words.{Words, has_no_options, words_of}
-use Rattle.tmr_top.specs.Line.{Command, Pair, Hardening, Flattening, Validate, Harden, Flatten, is_file, said, positive_number, version_number, pair_of, flattening_of, hardening_with, hardening_of, of_words, of_plain, line_of}
+use Rattle.tmr_top.specs.Line.{Command, Pair, Hardening, Flattening, Validate, Harden, Flatten, Report, is_file, said, positive_number, version_number, pair_of, over_pair, flattening_of, hardening_with, hardening_of, of_words, of_plain, line_of}
 
 pub all_said : (words : Words) (size version most : ℕ) → said positive_number 64 words.sizes ≡ Some size → said version_number 1 words.versions ≡ Some version → said positive_number 4294967295 words.depths ≡ Some most → hardening_of words ≡ hardening_with size version most words.plain
 unfolding hardening_of
@@ -24,19 +24,22 @@ choice_has : (b : Bool) (x y : Option Command) → HasTwoNames x → HasTwoNames
 choice_has true x y one other = one
 choice_has false x y one other = other
 
-validate_has : (p : Pair) → HasTwoNames (Some (Validate p))
-validate_has p w is = absurd cc
-
 flatten_has : (f : Flattening) → HasTwoNames (Some (Flatten f))
 flatten_has f w is = absurd cc
 
-pair_has : (words : List (List ℕ)) → HasTwoNames (pair_of words)
-unfolding pair_of
-pair_has [] = none_has
-pair_has (a ∷ []) = none_has
-pair_has (a ∷ b ∷ []) = none_has
-pair_has (a ∷ b ∷ c ∷ []) = choice_has (is_file a && is_file b && is_file c) _ _ (validate_has _) none_has
-pair_has (a ∷ b ∷ c ∷ d ∷ words) = none_has
+validate_has : (words : List (List ℕ)) → HasTwoNames (over_pair Validate words)
+validate_has words = go (pair_of words)
+  where
+    go : (o : Option Pair) → HasTwoNames (option_map Validate o)
+    go None = none_has
+    go (Some p) = λ w is. absurd cc
+
+report_has : (words : List (List ℕ)) → HasTwoNames (over_pair Report words)
+report_has words = go (pair_of words)
+  where
+    go : (o : Option Pair) → HasTwoNames (option_map Report o)
+    go None = none_has
+    go (Some p) = λ w is. absurd cc
 
 flattening_has : (words : List (List ℕ)) → HasTwoNames (flattening_of words)
 unfolding flattening_of
@@ -98,6 +101,7 @@ pub two_names : (words : List (List ℕ)) → HasTwoNames (line_of words)
 unfolding line_of
 two_names [] = none_has
 two_names (command ∷ words) =
-    choice_has (bytes_eq command (codes "validate")) _ _ (plain_has pair_of pair_has (words_of words))
+    choice_has (bytes_eq command (codes "validate")) _ _ (plain_has (over_pair Validate) validate_has (words_of words))
     (choice_has (bytes_eq command (codes "harden")) _ _ (hardened_has (words_of words))
-    (choice_has (bytes_eq command (codes "flatten")) _ _ (plain_has flattening_of flattening_has (words_of words)) none_has))
+    (choice_has (bytes_eq command (codes "flatten")) _ _ (plain_has flattening_of flattening_has (words_of words))
+    (choice_has (bytes_eq command (codes "report")) _ _ (plain_has (over_pair Report) report_has (words_of words)) none_has)))

@@ -1,6 +1,5 @@
 -- Verdicts over a pair, and that its files give one pair or none.
 use Rattle.std.proofs.Common.{◌≡◌, ◌≢◌, ℕ, Bool, List, [], Option, Some, Result, Ok, Err, inl, inr, refl, sym, ap, subst, ◌∙◌}
-use Rattle.std.specs.Prelude.{count_by}
 use Rattle.std.specs.FinMap.{get}
 use Rattle.certificate.specs.Gives.{Fails}
 use Rattle.certificate.specs.declared.fault.CertFault.{CertFault}
@@ -16,17 +15,19 @@ use Rattle.tmr_outside.specs.Contents.{Contents}
 use Rattle.tmr_top.specs.declared.decision.Work.{Work}
 use Rattle.tmr_top.specs.declared.decision.Verdict.{Verdict}
 use Rattle.tmr_top.specs.declared.decision.Verdict.TheVariants.{Done, NotAccepted, Refused}
-use Rattle.tmr_top.specs.FileWords.{texts_in}
+use Rattle.tmr_top.specs.declared.pair_task.PairTask.{PairTask}
+use Rattle.tmr_top.specs.declared.pair_task.PairTask.TheVariants as tasks
+use Rattle.tmr_top.specs.FileWords.{texts_in, task_over}
 use Rattle.tmr_top.specs.Line.{Command, Pair, Validate}
 use Rattle.tmr_top.specs.Loads.{Load, original_file, hardened_file, certificate_file}
 use Rattle.tmr_top.specs.Loaded.{HoldsBytes}
 use Rattle.tmr_top.specs.Designs.{HoldsDesign, HoldsNoDesign}
 use Rattle.tmr_top.specs.Reasons.{cert_reason}
-use Rattle.tmr_top.specs.Texts.{accepted_line, not_accepted_line, refused_line}
+use Rattle.tmr_top.specs.Texts.{not_accepted_line, refused_line}
 use Rattle.tmr_top.specs.Pairs.{ReadPair, HoldsCertificate, HoldsNoCertificate, HoldsPair, Accepts, Masked}
 use Rattle.tmr_top.specs.Validated.{IsNotAccepted, IsPairUnread}
 use Rattle.tmr_top.specs.Outcomes.{Outcome}
-use Rattle.tmr_top.specs.Works.{IsWork}
+use Rattle.tmr_top.specs.Works.{IsWork, Tells}
 use Rattle.tmr_top.proofs.DesignLaws.{one_design, design_or_none}
 
 -- ---- works
@@ -44,43 +45,57 @@ not_done held c v w is other p line done = absurd (other (sym is ∙ done))
 
 -- ---- what is said
 
-module _ (held : Contents) (p : Pair) (w : Work) (n h : Net) (a c : List Bool) (one : HoldsDesign held (original_file p.original) n a) (other : HoldsDesign held (hardened_file p.hardened) h c) where
-  pub accepted_work : (k : PlainCert) → HoldsCertificate held (certificate_file p.certificate) n h k → w.verdict ≡ Done → texts_in w.saves.items ≡ [] → w.text.items ≡ accepted_line k (count_by (λ bit. bit) a) (count_by (λ bit. bit) c) → FreeCorresponds n a h c k → Masks n h k → FreeMasks n a h c k → FreeTracesAreUnique n (counted k a) → FreeTracesAreUnique h (counted k c) → IsWork (Validate p) held w
-  accepted_work k read done none says accepts masks free_masks runs hardened_runs =
-      outcome_work (Validate p) held w Done done (record { pair = pair; holds = holds; accepts = accepts; says = says }, none) masked
-    where
-      pair : ReadPair
-      pair = record { original = n; free = a; hardened = h; hardened_free = c; certificate = k }
+not_accepted_outcome : (task : PairTask) (held : Contents) (p : Pair) (saved : List (List ℕ)) (text : List ℕ) → IsNotAccepted p held text → Outcome (task_over task p) held NotAccepted saved text
+not_accepted_outcome tasks.Validate held p saved text is = is
+not_accepted_outcome tasks.Report held p saved text is = is
 
-      holds : HoldsPair held p pair
+unread_outcome : (task : PairTask) (held : Contents) (p : Pair) (saved : List (List ℕ)) (text : List ℕ) → IsPairUnread p held text → Outcome (task_over task p) held Refused saved text
+unread_outcome tasks.Validate held p saved text is = is
+unread_outcome tasks.Report held p saved text is = is
+
+accepted_outcome : (task : PairTask) (held : Contents) (p : Pair) (pair : ReadPair) (saved : List (List ℕ)) (text : List ℕ) → HoldsPair held p pair → Accepts pair → saved ≡ [] → Tells task pair text → Outcome (task_over task p) held Done saved text
+accepted_outcome tasks.Validate held p pair saved text holds accepts none says = (record { pair = pair; holds = holds; accepts = accepts; says = says }, none)
+accepted_outcome tasks.Report held p pair saved text holds accepts none says = (record { pair = pair; holds = holds; accepts = accepts; says = says }, none)
+
+-- where the pair masks, `validate` of it is masked
+masked_pair : (task : PairTask) (held : Contents) (p : Pair) → Masked held p → (q : Pair) → task_over task p ≡ Validate q → Masked held q
+masked_pair tasks.Validate held p here q is = let same : p ≡ q = cc in subst (Masked held) same here
+masked_pair tasks.Report held p here q is = absurd cc
+
+module _ (held : Contents) (task : PairTask) (p : Pair) (w : Work) (n h : Net) (a c : List Bool) (one : HoldsDesign held (original_file p.original) n a) (other : HoldsDesign held (hardened_file p.hardened) h c) where
+  abbrev pub pair_with : PlainCert → ReadPair
+  pair_with k = record { original = n; free = a; hardened = h; hardened_free = c; certificate = k }
+
+  pub accepted_work : (k : PlainCert) → HoldsCertificate held (certificate_file p.certificate) n h k → w.verdict ≡ Done → texts_in w.saves.items ≡ [] → Tells task (pair_with k) w.text.items → FreeCorresponds n a h c k → Masks n h k → FreeMasks n a h c k → FreeTracesAreUnique n (counted k a) → FreeTracesAreUnique h (counted k c) → IsWork (task_over task p) held w
+  accepted_work k read done none says accepts masks free_masks runs hardened_runs =
+      outcome_work (task_over task p) held w Done done (accepted_outcome task held p (pair_with k) (texts_in w.saves.items) w.text.items holds accepts none says) (λ q is e. masked_pair task held p here q is)
+    where
+      holds : HoldsPair held p (pair_with k)
       holds = record { original_read = one; hardened_read = other; certificate_read = read }
 
       here : Masked held p
       here = record {
-        pair = pair;
+        pair = pair_with k;
         holds = holds;
         accepts = accepts;
         is_masking = record { masks = masks; free_masks = free_masks; original_runs = runs; hardened_runs = hardened_runs };
       }
 
-      masked : (q : Pair) → Validate p ≡ Validate q → w.verdict ≡ Done → Masked held q
-      masked q is done = let same : p ≡ q = cc in subst (Masked held) same here
-
-  pub not_accepted_work : (k : PlainCert) (rule place : ℕ) → HoldsCertificate held (certificate_file p.certificate) n h k → w.verdict ≡ NotAccepted → w.text.items ≡ not_accepted_line h rule place → IsFirstFreeFailure n a h c k rule place → IsWork (Validate p) held w
-  not_accepted_work k rule place read is says first = outcome_work (Validate p) held w NotAccepted is
-      (record {
-        pair = record { original = n; free = a; hardened = h; hardened_free = c; certificate = k };
+  pub not_accepted_work : (k : PlainCert) (rule place : ℕ) → HoldsCertificate held (certificate_file p.certificate) n h k → w.verdict ≡ NotAccepted → w.text.items ≡ not_accepted_line h rule place → IsFirstFreeFailure n a h c k rule place → IsWork (task_over task p) held w
+  not_accepted_work k rule place read is says first = outcome_work (task_over task p) held w NotAccepted is
+      (not_accepted_outcome task held p (texts_in w.saves.items) w.text.items (record {
+        pair = pair_with k;
         holds = record { original_read = one; hardened_read = other; certificate_read = read };
         rule = rule;
         place = place;
         first = first;
         says = says;
-      })
-      (not_done held (Validate p) w.verdict NotAccepted is (λ e. cc))
+      }))
+      (not_done held (task_over task p) w.verdict NotAccepted is (λ e. cc))
 
-  pub certificate_work : (fault : CertFault) → HoldsNoCertificate held (certificate_file p.certificate) n h fault → w.verdict ≡ Refused → w.text.items ≡ refused_line p.certificate (cert_reason fault) → IsWork (Validate p) held w
-  certificate_work fault unread is says = outcome_work (Validate p) held w Refused is
-      (inr (inr (record {
+  pub certificate_work : (fault : CertFault) → HoldsNoCertificate held (certificate_file p.certificate) n h fault → w.verdict ≡ Refused → w.text.items ≡ refused_line p.certificate (cert_reason fault) → IsWork (task_over task p) held w
+  certificate_work fault unread is says = outcome_work (task_over task p) held w Refused is
+      (unread_outcome task held p (texts_in w.saves.items) w.text.items (inr (inr (record {
         original = n;
         free = a;
         original_read = one;
@@ -90,18 +105,18 @@ module _ (held : Contents) (p : Pair) (w : Work) (n h : Net) (a c : List Bool) (
         fault = fault;
         unread = unread;
         says = says;
-      })))
-      (not_done held (Validate p) w.verdict Refused is (λ e. cc))
+      }))))
+      (not_done held (task_over task p) w.verdict Refused is (λ e. cc))
 
-pub hardened_work : (held : Contents) (p : Pair) (w : Work) (n : Net) (a : List Bool) (reason : List ℕ) → HoldsDesign held (original_file p.original) n a → HoldsNoDesign held (hardened_file p.hardened) reason → w.verdict ≡ Refused → w.text.items ≡ refused_line p.hardened reason → IsWork (Validate p) held w
-hardened_work held p w n a reason one unread is says = outcome_work (Validate p) held w Refused is
-    (inr (inl (record { original = n; free = a; original_read = one; reason = reason; unread = unread; says = says })))
-    (not_done held (Validate p) w.verdict Refused is (λ e. cc))
+pub hardened_work : (held : Contents) (task : PairTask) (p : Pair) (w : Work) (n : Net) (a : List Bool) (reason : List ℕ) → HoldsDesign held (original_file p.original) n a → HoldsNoDesign held (hardened_file p.hardened) reason → w.verdict ≡ Refused → w.text.items ≡ refused_line p.hardened reason → IsWork (task_over task p) held w
+hardened_work held task p w n a reason one unread is says = outcome_work (task_over task p) held w Refused is
+    (unread_outcome task held p (texts_in w.saves.items) w.text.items (inr (inl (record { original = n; free = a; original_read = one; reason = reason; unread = unread; says = says }))))
+    (not_done held (task_over task p) w.verdict Refused is (λ e. cc))
 
-pub original_work : (held : Contents) (p : Pair) (w : Work) (reason : List ℕ) → HoldsNoDesign held (original_file p.original) reason → w.verdict ≡ Refused → w.text.items ≡ refused_line p.original reason → IsWork (Validate p) held w
-original_work held p w reason unread is says = outcome_work (Validate p) held w Refused is
-    (inl (record { reason = reason; unread = unread; says = says }))
-    (not_done held (Validate p) w.verdict Refused is (λ e. cc))
+pub original_work : (held : Contents) (task : PairTask) (p : Pair) (w : Work) (reason : List ℕ) → HoldsNoDesign held (original_file p.original) reason → w.verdict ≡ Refused → w.text.items ≡ refused_line p.original reason → IsWork (task_over task p) held w
+original_work held task p w reason unread is says = outcome_work (task_over task p) held w Refused is
+    (unread_outcome task held p (texts_in w.saves.items) w.text.items (inl (record { reason = reason; unread = unread; says = says })))
+    (not_done held (task_over task p) w.verdict Refused is (λ e. cc))
 
 -- a fault that is no want of memory is what reading gives
 pub read_fault : (fault : CertFault) (read : Result PlainCert CertFault) → Fails fault read → fault ≢ faults.Memory → read ≡ Err fault

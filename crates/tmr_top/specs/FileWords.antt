@@ -9,7 +9,9 @@ use Rattle.tmr_top.specs.declared.line.FlatWords.{FlatWords}
 use Rattle.tmr_top.specs.declared.harden_words.HardenWords.{HardenWords}
 use Rattle.tmr_top.specs.declared.line.CommandWords.{CommandWords}
 use Rattle.tmr_top.specs.declared.line.CommandWords.TheVariants as words
-use Rattle.tmr_top.specs.Line.{Pair, Hardening, Flattening, Command, Validate, Harden, Flatten}
+use Rattle.tmr_top.specs.declared.pair_task.PairTask.{PairTask}
+use Rattle.tmr_top.specs.declared.pair_task.PairTask.TheVariants as task
+use Rattle.tmr_top.specs.Line.{Pair, Hardening, Flattening, Command, Validate, Harden, Flatten, Report}
 
 abbrev pub pair_in : PairWords → Pair
 pair_in words = record { original = words.original.now; hardened = words.hardened.now; certificate = words.certificate.now }
@@ -31,6 +33,12 @@ abbrev pub command_in : CommandWords → Command
 command_in (words.Validate pair) = Validate (pair_in pair)
 command_in (words.Harden harden) = Harden (hardening_in harden)
 command_in (words.Flatten flat) = Flatten (flattening_in flat)
+command_in (words.Report pair) = Report (pair_in pair)
+
+-- the command over a pair that has this task
+abbrev pub task_over : PairTask → Pair → Command
+task_over task.Validate p = Validate p
+task_over task.Report p = Report p
 
 -- words without where they lie in memory
 abbrev pub read_words : List (Bor (List ℕ)) → List (List ℕ)

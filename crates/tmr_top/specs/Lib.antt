@@ -17,6 +17,7 @@ pub mod Validated
 pub mod Hardened
 pub mod FlatWithin
 pub mod Flattened
+pub mod Reported
 pub mod Outcomes
 pub mod Causes
 pub mod HardenedFiles

@@ -1,12 +1,12 @@
 -- What the words of a command line mean.
 use Rattle.std.specs.Prelude.{ℕ, ◌&&◌, nat_lt, nat_eq, not, Bool, List, [], ◌∷◌, length, Option, Some, None, codes, String, if◌then◌else◌}
-use Rattle.std.specs.Option.{option_and_then}
+use Rattle.std.specs.Option.{option_and_then, option_map}
 use Rattle.std.specs.Str.{bytes_eq}
 use Rattle.std.specs.declared.alloc.Global.{Global}
 use Rattle.tmr_base.specs.Numbers.{number_of}
 use Rattle.tmr_top.specs.Words.{texts, Words, has_no_options, words_of}
 
--- the three files of `validate ORIG HARD CERT`
+-- the three files of `validate ORIG HARD CERT` and of `report ORIG HARD CERT`
 pub record Pair : Type 0 where
   pub original : List ℕ
   pub hardened : List ℕ
@@ -31,17 +31,22 @@ pub data Command : Type 0 where
   Validate : Pair → Command
   Harden : Hardening → Command
   Flatten : Flattening → Command
+  Report : Pair → Command
 
 -- a file word is not empty
 abbrev pub is_file : List ℕ → Bool
 is_file word = nat_lt 0 (length word)
 
-unfoldable pub pair_of : List (List ℕ) → Option Command
+unfoldable pub pair_of : List (List ℕ) → Option Pair
 pair_of (original ∷ hardened ∷ certificate ∷ []) =
     if is_file original && is_file hardened && is_file certificate
-    then Some (Validate (record { original = original; hardened = hardened; certificate = certificate }))
+    then Some (record { original = original; hardened = hardened; certificate = certificate })
     else None
 pair_of words = None
+
+-- a command over a pair
+abbrev pub over_pair : (Pair → Command) → List (List ℕ) → Option Command
+over_pair command words = option_map command (pair_of words)
 
 unfoldable pub flattening_of : List (List ℕ) → Option Command
 flattening_of (original ∷ flat ∷ []) =
@@ -90,9 +95,10 @@ of_plain meaning = of_words (λ words. if has_no_options words then meaning word
 unfoldable pub line_of : List (List ℕ) → Option Command
 line_of [] = None
 line_of (command ∷ words) =
-    if bytes_eq command (codes "validate") then of_plain pair_of (words_of words)
+    if bytes_eq command (codes "validate") then of_plain (over_pair Validate) (words_of words)
     else if bytes_eq command (codes "harden") then of_words hardening_of (words_of words)
     else if bytes_eq command (codes "flatten") then of_plain flattening_of (words_of words)
+    else if bytes_eq command (codes "report") then of_plain (over_pair Report) (words_of words)
     else None
 
 -- what the words of a command line mean

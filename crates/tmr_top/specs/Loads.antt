@@ -2,7 +2,7 @@
 use Rattle.std.specs.Prelude.{ℕ, List, [], ◌∷◌, map, Option, Some, None}
 use Rattle.tmr_top.specs.declared.file_words.FileKind.{FileKind}
 use Rattle.tmr_top.specs.declared.file_words.FileKind.TheVariants.{Netlist, Bytes}
-use Rattle.tmr_top.specs.Line.{Command, Validate, Harden, Flatten}
+use Rattle.tmr_top.specs.Line.{Command, Pair, Validate, Harden, Flatten, Report}
 
 -- a file to be loaded, and the most bytes that it may have; a netlist is read while it is loaded, and of other files the bytes are kept
 pub record Load : Type 0 where
@@ -22,17 +22,23 @@ hardened_file name = record { name = name; limit = 1073741824; kind = Netlist }
 abbrev pub certificate_file : List ℕ → Load
 certificate_file name = record { name = name; limit = 1073741824; kind = Bytes }
 
+-- the three files of a pair
+abbrev pub pair_files : Pair → List Load
+pair_files p = original_file p.original ∷ hardened_file p.hardened ∷ certificate_file p.certificate ∷ []
+
 -- the files that a command loads, in this order
 abbrev pub loads_of : Command → List Load
-loads_of (Validate p) = original_file p.original ∷ hardened_file p.hardened ∷ certificate_file p.certificate ∷ []
+loads_of (Validate p) = pair_files p
 loads_of (Harden w) = original_file w.original ∷ []
 loads_of (Flatten f) = original_file f.original ∷ []
+loads_of (Report p) = pair_files p
 
 -- the names that a command saves, in this order
 abbrev pub saves_of : Command → List (List ℕ)
 saves_of (Validate p) = []
 saves_of (Harden w) = w.hardened ∷ w.certificate ∷ []
 saves_of (Flatten f) = f.flat ∷ []
+saves_of (Report p) = []
 
 abbrev pub load_name : Load → List ℕ
 load_name load = load.name

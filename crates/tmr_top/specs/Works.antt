@@ -1,11 +1,15 @@
 -- What the work of a command answers. Private functions alone speak of this.
-use Rattle.std.specs.Prelude.{◌≡◌, ◌⊎◌, length, Option, Some, None, IfSome}
+use Rattle.std.specs.Prelude.{◌≡◌, ℕ, ◌⊎◌, List, length, count_by, Option, Some, None, IfSome}
+use Rattle.reports.specs.Report.{IsReport}
 use Rattle.tmr_outside.specs.Contents.{Contents}
 use Rattle.tmr_outside.specs.Seen.{FilesSeen}
+use Rattle.tmr_top.specs.declared.pair_task.PairTask.{PairTask}
+use Rattle.tmr_top.specs.declared.pair_task.PairTask.TheVariants as task
 use Rattle.tmr_top.specs.declared.decision.Work.{Work}
 use Rattle.tmr_top.specs.declared.decision.Verdict.TheVariants.{Done}
 use Rattle.tmr_top.specs.Line.{Command, Pair, Validate}
-use Rattle.tmr_top.specs.Pairs.{Masked}
+use Rattle.tmr_top.specs.Pairs.{ReadPair, Masked}
+use Rattle.tmr_top.specs.Texts.{accepted_line}
 use Rattle.tmr_top.specs.FileWords.{texts_in}
 use Rattle.tmr_top.specs.Loads.{loads_of, saves_of}
 use Rattle.tmr_top.specs.Files.{OfEach, IsFine}
@@ -17,6 +21,11 @@ use Rattle.tmr_top.specs.Saves.{IsBroken}
 pub record IsWork (c : Command) (held : Contents) (work : Work) : Type 0 where
   pub outcome : Outcome c held work.verdict (texts_in work.saves.items) work.text.items
   pub masks : (p : Pair) → c ≡ Validate p → work.verdict ≡ Done → Masked held p
+
+-- the text that a task makes of a pair that is accepted
+abbrev pub Tells : PairTask → ReadPair → List ℕ → Type 0
+Tells task.Validate r text = text ≡ accepted_line r.certificate (count_by (λ bit. bit) r.free) (count_by (λ bit. bit) r.hardened_free)
+Tells task.Report r text = IsReport r.original r.hardened r.certificate text
 
 -- where the command is done there are as many texts to be saved as names
 abbrev pub HasTexts : Command → Work → Type 0

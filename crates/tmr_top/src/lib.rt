@@ -10,6 +10,7 @@ mod harden_words;
 mod hardening;
 mod line;
 mod loads;
+mod pair_task;
 mod performing;
 mod program;
 mod reasons;

@@ -3,15 +3,15 @@ ghost use Rattle.std.specs.Prelude.{◌≡◌, ◌<◌, IfOk, IfSome};
 ghost use Rattle.std.specs.Option.{option_map};
 ghost use Rattle.tmr_top.specs.Words.{texts};
 ghost use Rattle.tmr_top.specs.WordsRead.{words_in};
-ghost use Rattle.tmr_top.specs.Line.{is_file, pair_of, flattening_of, positive_number, version_number, said, hardening_with, hardening_of, line_of};
-ghost use Rattle.tmr_top.specs.FileWords.{command_in, read_words as read_texts};
+ghost use Rattle.tmr_top.specs.Line.{Validate, Report, is_file, pair_of, over_pair, flattening_of, positive_number, version_number, said, hardening_with, hardening_of, line_of};
+ghost use Rattle.tmr_top.specs.FileWords.{pair_in, command_in, read_words as read_texts};
 
 use crate::harden_words::HardenWords;
 use crate::words::{ReadWords, is_plain, read_words};
 use std::alloc::{AllocError, Global};
 use tmr_base::read_u32;
 
-/// The three file words of `validate ORIG HARD CERT`.
+/// The three file words of `validate ORIG HARD CERT` and of `report ORIG HARD CERT`.
 #[derive(Clone, Copy, Drop)]
 pub struct PairWords<'a> {
     pub original: &'a str,
@@ -32,25 +32,46 @@ pub enum CommandWords<'a> {
     Validate(PairWords<'a>),
     Harden(HardenWords<'a>),
     Flatten(FlatWords<'a>),
+    Report(PairWords<'a>),
 }
 
-/// `validate`, where there are three words and none is empty.
+/// A pair, where there are three words and none is empty.
 #[tactic(auto, unfolding(crate::specs::Line::pair_of))]
-fn read_pair<'a>(plain: &[&'a str]) -> Option<CommandWords<'a>>
-    ensures { option_map command_in result ≡ pair_of (read_texts plain.now) }
+fn read_pair<'a>(plain: &[&'a str]) -> Option<PairWords<'a>>
+    ensures { option_map pair_in result ≡ pair_of (read_texts plain.now) }
 {
     match plain {
         [original, hardened, certificate] => {
             if original.is_empty() || hardened.is_empty() || certificate.is_empty() {
                 return None;
             }
-            Some(CommandWords::Validate(PairWords {
+            Some(PairWords {
                 original: *original,
                 hardened: *hardened,
                 certificate: *certificate,
-            }))
+            })
         }
         _ => None,
+    }
+}
+
+/// `validate`, where its files can be read.
+fn read_validate<'a>(plain: &[&'a str]) -> Option<CommandWords<'a>>
+    ensures { option_map command_in result ≡ over_pair Validate (read_texts plain.now) }
+{
+    match read_pair(plain) {
+        None => None,
+        Some(pair) => Some(CommandWords::Validate(pair)),
+    }
+}
+
+/// `report`, where its files can be read.
+fn read_report<'a>(plain: &[&'a str]) -> Option<CommandWords<'a>>
+    ensures { option_map command_in result ≡ over_pair Report (read_texts plain.now) }
+{
+    match read_pair(plain) {
+        None => None,
+        Some(pair) => Some(CommandWords::Report(pair)),
     }
 }
 
@@ -197,10 +218,13 @@ pub fn read_line<'a>(
         return Ok(None);
     }
     if command.as_str() == "validate" {
-        return Ok(read_pair(read.plain.as_slice()));
+        return Ok(read_validate(read.plain.as_slice()));
     }
     if command.as_str() == "flatten" {
         return Ok(read_flattening(read.plain.as_slice()));
+    }
+    if command.as_str() == "report" {
+        return Ok(read_report(read.plain.as_slice()));
     }
     Ok(None)
 }

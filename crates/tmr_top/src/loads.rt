@@ -4,13 +4,13 @@ ghost use Rattle.blif_text.specs.Reader.{StandsFor, most_bytes};
 ghost use Rattle.tmr_outside.specs.Counts.{NoneFell, NoneRose};
 ghost use Rattle.tmr_outside.specs.Pieces.{TakesFile};
 ghost use Rattle.tmr_outside.specs.Seen.{IsTold};
-ghost use Rattle.tmr_top.specs.FileWords.{command_in, load_in};
-ghost use Rattle.tmr_top.specs.Loads.{load_name, loads_of, original_file as original_load, hardened_file as hardened_load, certificate_file as certificate_load};
+ghost use Rattle.tmr_top.specs.FileWords.{pair_in, command_in, load_in};
+ghost use Rattle.tmr_top.specs.Loads.{load_name, loads_of, pair_files, original_file as original_load, hardened_file as hardened_load, certificate_file as certificate_load};
 ghost use Rattle.tmr_top.specs.Changes.{ChangesOnly};
 ghost use Rattle.tmr_top.specs.Loaded.{HoldsText, HoldsBytes, Loads, IsStop, IsSteadyStop};
 
 use crate::file_words::{FileKind, LoadWords};
-use crate::line::CommandWords;
+use crate::line::{CommandWords, PairWords};
 use crate::taker::TextTaker;
 use blif_text::{Library, TextFault};
 use std::alloc::Global;
@@ -74,6 +74,17 @@ fn certificate_file<'a>(name: &'a str) -> LoadWords<'a>
     }
 }
 
+/// The three files of a pair, which come first.
+fn push_pair<'a>(loads: &mut Vec<LoadWords<'a>>, pair: &PairWords<'a>) -> Result<(), OutOfMemory>
+    requires { loads.old.items ≡ [] }
+    ensures { OnOk result (map load_in loads.new.items ≡ pair_files (pair_in pair.now)) }
+{
+    loads.push(original_file(pair.original))?;
+    loads.push(hardened_file(pair.hardened))?;
+    loads.push(certificate_file(pair.certificate))?;
+    Ok(())
+}
+
 /// The files that a command loads, in this order.
 pub fn list_loads<'a>(
     alloc: Global,
@@ -83,13 +94,10 @@ pub fn list_loads<'a>(
 {
     let mut loads = Vec::new(alloc);
     match words {
-        CommandWords::Validate(pair) => {
-            loads.push(original_file(pair.original))?;
-            loads.push(hardened_file(pair.hardened))?;
-            loads.push(certificate_file(pair.certificate))?;
-        }
+        CommandWords::Validate(pair) => push_pair(&mut loads, pair)?,
         CommandWords::Harden(harden) => loads.push(original_file(harden.original))?,
         CommandWords::Flatten(flat) => loads.push(original_file(flat.original))?,
+        CommandWords::Report(pair) => push_pair(&mut loads, pair)?,
     }
     Ok(loads)
 }

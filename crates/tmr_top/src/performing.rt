@@ -19,9 +19,10 @@ use crate::flattening::flatten;
 use crate::hardening::harden;
 use crate::line::CommandWords;
 use crate::loads::{Loaded, list_loads, load_all};
+use crate::pair_task::PairTask;
 use crate::saves::{SaveStop, list_saves, save_all};
 use crate::texts::save_fault;
-use crate::validation::validate;
+use crate::validation::judge_files;
 use std::alloc::Global;
 use tmr_base::OutOfMemory;
 use tmr_outside::Files;
@@ -34,9 +35,10 @@ fn work(alloc: Global, words: &CommandWords, loaded: &[Loaded]) -> Result<Work, 
         → IfOk result (IsWork (command_in words.now) held) }
 {
     match words {
-        CommandWords::Validate(pair) => validate(alloc, pair, loaded),
+        CommandWords::Validate(pair) => judge_files(alloc, PairTask::Validate, pair, loaded),
         CommandWords::Harden(words) => harden(alloc, words, loaded),
         CommandWords::Flatten(flat) => flatten(alloc, flat, loaded),
+        CommandWords::Report(pair) => judge_files(alloc, PairTask::Report, pair, loaded),
     }
 }
 

@@ -108,8 +108,8 @@ fn decide_and_put<F: Files, S: Sink>(
 /// the command, saves its texts, and puts its text.
 ///
 /// The commands are `validate ORIG HARD CERT`, which saves nothing, `harden ORIG HARD CERT`, which
-/// saves HARD and CERT, and `flatten ORIG FLAT`, which saves FLAT. Where memory is short, the answer
-/// may be `Memory` in place of any other.
+/// saves HARD and CERT, `flatten ORIG FLAT`, which saves FLAT, and `report ORIG HARD CERT`, which saves
+/// nothing. Where memory is short, the answer may be `Memory` in place of any other.
 pub fn run<F: Files, S: Sink>(alloc: Global, words: &[String], files: &mut F, out: &mut S) -> Status
     // The headline. Where contents are told and the words are `validate ORIG HARD CERT`, the answer
     // Done says that the three names hold two designs and a certificate, that the eight rules hold

@@ -29,6 +29,7 @@ pub fn list_saves<'a>(alloc: Global, words: &CommandWords<'a>) -> Result<Vec<&'a
             names.push(harden.certificate)?;
         }
         CommandWords::Flatten(flat) => names.push(flat.flat)?,
+        CommandWords::Report(_) => {}
     }
     Ok(names)
 }

@@ -1,49 +1,76 @@
-//! `validate ORIG HARD CERT`.
+//! `validate ORIG HARD CERT` and `report ORIG HARD CERT`: a pair is read and checked, and what is told of it goes by the task.
 ghost use Rattle.std.specs.Prelude.{◌≡◌, ◌≤◌, length, IfOk};
 ghost use Rattle.certificate.specs.Cert.{Fits};
+ghost use Rattle.certificate.specs.Rules.{FreeCorresponds};
 ghost use Rattle.tmr_outside.specs.Contents.{Contents};
-ghost use Rattle.tmr_top.specs.Line.{Validate};
-ghost use Rattle.tmr_top.specs.FileWords.{pair_in};
-ghost use Rattle.tmr_top.specs.Loads.{original_file, hardened_file, certificate_file, loads_of};
+ghost use Rattle.tmr_top.specs.FileWords.{pair_in, task_over};
+ghost use Rattle.tmr_top.specs.Loads.{original_file, hardened_file, certificate_file, pair_files};
 ghost use Rattle.tmr_top.specs.Loaded.{HoldsText, HoldsBytes, HoldsEach, FitsEach};
 ghost use Rattle.tmr_top.specs.Designs.{HoldsDesign};
 ghost use Rattle.tmr_top.specs.Pairs.{HoldsCertificate};
-ghost use Rattle.tmr_top.specs.Works.{IsWork, HasTexts};
+ghost use Rattle.tmr_top.specs.Works.{IsWork, HasTexts, Tells};
 
 use crate::decision::{Verdict, Work, refusal};
 use crate::designs::{Unread, read_design};
 use crate::line::PairWords;
 use crate::loads::{HARDENED_LIMIT, Loaded, ORIGINAL_LIMIT};
+use crate::pair_task::PairTask;
 use crate::reasons::cert_reason;
 use crate::texts::{accepted, not_accepted};
 use blif_text::{Library, TextFault};
 use certificate::{Certificate, read_cert};
 use flat_net::FreeNet;
+use reports::report;
 use std::alloc::Global;
 use tmr_base::OutOfMemory;
 use validator::check_free;
+
+/// What a task tells of a pair that is accepted.
+fn tell(
+    alloc: Global,
+    task: PairTask,
+    n: &FreeNet,
+    h: &FreeNet,
+    c: &Certificate,
+) -> Result<Vec<u8>, OutOfMemory>
+    requires fits { Fits n.now.design.net h.now.design.net c.now }
+    requires accepted { FreeCorresponds n.now.design.net n.now.free h.now.design.net h.now.free c.now }
+    ensures { IfOk result (λ text. Tells task (record {
+      original = n.now.design.net;
+      free = n.now.free;
+      hardened = h.now.design.net;
+      hardened_free = h.now.free;
+      certificate = c.now;
+    }) text.items) }
+{
+    match task {
+        PairTask::Validate => accepted(alloc, c, n.free_count(), h.free_count()),
+        PairTask::Report => report(alloc, n.net(), h.net(), c),
+    }
+}
 
 /// The work over a pair that is read.
 #[tactic(auto, using(crate::proofs::PairLaws::verdicts))]
 fn judge_pair(
     alloc: Global,
+    task: PairTask,
     words: &PairWords,
     n: &FreeNet,
     h: &FreeNet,
     c: &Certificate,
 ) -> Result<Work, OutOfMemory>
     requires { Fits n.now.design.net h.now.design.net c.now }
-    ensures texts { IfOk result (HasTexts (Validate (pair_in words.now))) }
+    ensures texts { IfOk result (HasTexts (task_over task (pair_in words.now))) }
     ensures judged { (held : Contents)
         → HoldsDesign held (original_file words.now.original.now) n.now.design.net n.now.free
         → HoldsDesign held (hardened_file words.now.hardened.now) h.now.design.net h.now.free
         → HoldsCertificate held (certificate_file words.now.certificate.now)
         n.now.design.net h.now.design.net c.now
-        → IfOk result (IsWork (Validate (pair_in words.now)) held) }
+        → IfOk result (IsWork (task_over task (pair_in words.now)) held) }
 {
     match check_free(n, h, c) {
         Ok(()) => {
-            let text = accepted(alloc, c, n.free_count(), h.free_count())?;
+            let text = tell(alloc, task, n, h, c)?;
             Ok(Work {
                 verdict: Verdict::Done,
                 saves: Vec::new(alloc),
@@ -65,21 +92,22 @@ fn judge_pair(
 #[tactic(auto, using(crate::proofs::PairLaws::certificate_refusals))]
 fn judge_certificate(
     alloc: Global,
+    task: PairTask,
     words: &PairWords,
     n: &FreeNet,
     h: &FreeNet,
     certificate: &[u8],
 ) -> Result<Work, OutOfMemory>
     requires { length certificate.now ≤ 1073741824 }
-    ensures texts { IfOk result (HasTexts (Validate (pair_in words.now))) }
+    ensures texts { IfOk result (HasTexts (task_over task (pair_in words.now))) }
     ensures judged { (held : Contents)
         → HoldsDesign held (original_file words.now.original.now) n.now.design.net n.now.free
         → HoldsDesign held (hardened_file words.now.hardened.now) h.now.design.net h.now.free
         → HoldsBytes held (certificate_file words.now.certificate.now) certificate.now
-        → IfOk result (IsWork (Validate (pair_in words.now)) held) }
+        → IfOk result (IsWork (task_over task (pair_in words.now)) held) }
 {
     match read_cert(alloc, certificate, n.net(), h.net()) {
-        Ok(read) => judge_pair(alloc, words, n, h, &read),
+        Ok(read) => judge_pair(alloc, task, words, n, h, &read),
         Err(fault) => {
             let reason = cert_reason(alloc, fault)?;
             refusal(alloc, words.certificate, &reason)
@@ -91,21 +119,22 @@ fn judge_certificate(
 #[tactic(auto, using(crate::proofs::PairLaws::hardened_refusals))]
 fn judge_hardened(
     alloc: Global,
+    task: PairTask,
     words: &PairWords,
     n: &FreeNet,
     hardened: &Result<Library, TextFault>,
     certificate: &[u8],
 ) -> Result<Work, OutOfMemory>
     requires { length certificate.now ≤ 1073741824 }
-    ensures texts { IfOk result (HasTexts (Validate (pair_in words.now))) }
+    ensures texts { IfOk result (HasTexts (task_over task (pair_in words.now))) }
     ensures judged { (held : Contents)
         → HoldsDesign held (original_file words.now.original.now) n.now.design.net n.now.free
         → HoldsText held (hardened_file words.now.hardened.now) hardened.now
         → HoldsBytes held (certificate_file words.now.certificate.now) certificate.now
-        → IfOk result (IsWork (Validate (pair_in words.now)) held) }
+        → IfOk result (IsWork (task_over task (pair_in words.now)) held) }
 {
     match read_design(alloc, hardened, HARDENED_LIMIT) {
-        Ok(h) => judge_certificate(alloc, words, n, &h, certificate),
+        Ok(h) => judge_certificate(alloc, task, words, n, &h, certificate),
         Err(Unread::Refused(reason)) => refusal(alloc, words.hardened, &reason),
         Err(Unread::Memory) => Err(OutOfMemory),
     }
@@ -115,40 +144,46 @@ fn judge_hardened(
 #[tactic(auto, using(crate::proofs::PairLaws::original_refusals))]
 fn judge(
     alloc: Global,
+    task: PairTask,
     words: &PairWords,
     original: &Result<Library, TextFault>,
     hardened: &Result<Library, TextFault>,
     certificate: &[u8],
 ) -> Result<Work, OutOfMemory>
     requires { length certificate.now ≤ 1073741824 }
-    ensures texts { IfOk result (HasTexts (Validate (pair_in words.now))) }
+    ensures texts { IfOk result (HasTexts (task_over task (pair_in words.now))) }
     ensures judged { (held : Contents)
         → HoldsText held (original_file words.now.original.now) original.now
         → HoldsText held (hardened_file words.now.hardened.now) hardened.now
         → HoldsBytes held (certificate_file words.now.certificate.now) certificate.now
-        → IfOk result (IsWork (Validate (pair_in words.now)) held) }
+        → IfOk result (IsWork (task_over task (pair_in words.now)) held) }
 {
     match read_design(alloc, original, ORIGINAL_LIMIT) {
-        Ok(n) => judge_hardened(alloc, words, &n, hardened, certificate),
+        Ok(n) => judge_hardened(alloc, task, words, &n, hardened, certificate),
         Err(Unread::Refused(reason)) => refusal(alloc, words.original, &reason),
         Err(Unread::Memory) => Err(OutOfMemory),
     }
 }
 
-/// The work of `validate`, where its files are loaded.
-pub fn validate(alloc: Global, words: &PairWords, loaded: &[Loaded]) -> Result<Work, OutOfMemory>
-    requires { FitsEach (loads_of (Validate (pair_in words.now))) loaded.now }
-    ensures texts { IfOk result (HasTexts (Validate (pair_in words.now))) }
+/// The work of a command over a pair, where its files are loaded.
+pub fn judge_files(
+    alloc: Global,
+    task: PairTask,
+    words: &PairWords,
+    loaded: &[Loaded],
+) -> Result<Work, OutOfMemory>
+    requires { FitsEach (pair_files (pair_in words.now)) loaded.now }
+    ensures texts { IfOk result (HasTexts (task_over task (pair_in words.now))) }
     ensures work { (held : Contents)
-        → HoldsEach held (loads_of (Validate (pair_in words.now))) loaded.now
-        → IfOk result (IsWork (Validate (pair_in words.now)) held) }
+        → HoldsEach held (pair_files (pair_in words.now)) loaded.now
+        → IfOk result (IsWork (task_over task (pair_in words.now)) held) }
 {
     match loaded {
         [
             Loaded::Netlist(original),
             Loaded::Netlist(hardened),
             Loaded::Bytes(certificate),
-        ] => { judge(alloc, words, original, hardened, certificate) }
+        ] => { judge(alloc, task, words, original, hardened, certificate) }
         _ => unreachable!(),
     }
 }

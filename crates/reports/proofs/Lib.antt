@@ -1,0 +1,4 @@
+pub mod CountLaws
+pub mod WordLaws
+pub mod LineLaws
+pub mod ChainLaws

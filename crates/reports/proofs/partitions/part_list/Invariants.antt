@@ -1,0 +1,6 @@
+use Rattle.std.proofs.Common.{◌≡◌, take}
+use Rattle.reports.proofs.CountLaws.{part_more}
+use Rattle.reports.proofs.partitions.part_list.Given as goal
+
+abbrev pub invariant-loop-x : goal.invariant-loop-x
+invariant-loop-x l = l.of.items ≡ take l.x l.c.part
