@@ -1,0 +1,5 @@
+pub mod Numbers
+pub mod Designs
+pub mod Schedules
+pub mod Strikes
+pub mod Drawing

@@ -1,0 +1,16 @@
+//! Designs and schedules for trials, drawn from a number.
+//!
+//! The layers above may rely on this: `design` is the design that a number gives, exactly; `schedule` is
+//! the schedule that it gives for a hardened design, and the certificate allows it.
+#![tactic(auto)]
+
+mod designs;
+mod gates;
+mod naming;
+mod nodes;
+mod numbers;
+mod schedules;
+mod strikes;
+
+pub use designs::design;
+pub use schedules::schedule;
