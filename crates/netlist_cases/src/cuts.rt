@@ -54,33 +54,30 @@ fn parts_text(alloc: Global, count: u32, digits: &[u8]) -> Result<String, Stop>
     Ok(text)
 }
 
-/// The number of a component among those that have been met, in the order in which they are met.
-fn met(numbers: &mut Vec<u32>, next: &mut u32, component: u32) -> u32 {
-    match numbers.get_mut(component as usize) {
-        Some(number) => {
-            if *number == u32::MAX {
-                *number = *next;
-                *next = next.wrapping_add(1);
-            }
-            *number
+/// The first node of node i's component.
+fn first_beside(groups: &LoopGroups, i: u32) -> u32
+    requires { i < length groups.now.of }
+{
+    let component = groups.of(i);
+    for j in 0..i {
+        if groups.of(j) == component {
+            return j;
         }
-        None => u32::MAX,
     }
+    i
 }
 
-/// For each node its component, with `*` where that has a loop, and for each of its pins `x` where it is cut, else `-`.
+/// For each node the first node of its component, with `*` where that has a loop, and for each of its pins `x` where it is cut, else `-`.
 fn loops_text(alloc: Global, n: &FlatNet, parts: &Parts) -> Result<String, Stop>
     requires { length parts.now.of ≡ length n.now.net.nodes }
 {
     let groups = components(alloc, n, parts)?;
     let pins = cut(alloc, n, parts)?;
     let mut text = format!(in alloc; "{}:", groups.count())?;
-    let mut numbers = vec![in alloc; u32::MAX; groups.count() as usize]?;
-    let mut next = 0u32;
     let inputs = n.input_count();
     for i in 0..n.node_count() {
         let k = groups.of(i);
-        write!(text, " {}", met(&mut numbers, &mut next, k))?;
+        write!(text, " {}", first_beside(&groups, i))?;
         text.push_str(if groups.has_loop(k) { "*" } else { "" })?;
         for j in 0..n.pin_count(NetId(inputs + i)) {
             text.push(if pins.is_cut(i, j) { 'x' } else { '-' })?;

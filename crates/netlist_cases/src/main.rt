@@ -39,17 +39,27 @@ fn told(alloc: Global, texts: &mut Texts, case: &str) -> Result<String, AllocErr
     }
 }
 
+/// Prints the lines of an answer, each behind two blanks.
+fn print_lines(rt: &impl Print, alloc: Global, text: &str) -> io::Result<()> {
+    for line in text.lines() {
+        let line = shortened(alloc, line)?;
+        println!(rt; "  {line}")?;
+    }
+    Ok(())
+}
+
+/// Prints a case and what it answers.
+fn run_case(rt: &impl Print, alloc: Global, texts: &mut Texts, case: &str) -> io::Result<()> {
+    println!(rt; "{case}")?;
+    let text = told(alloc, texts, case)?;
+    print_lines(rt, alloc, text.as_str())
+}
+
 fn main(rt: HostRuntime) -> io::Result<()> {
     let alloc = rt.alloc();
     let mut texts = Texts::new(alloc);
     for case in rt.lines(alloc) {
-        let case = case?;
-        println!(rt; "{case}")?;
-        let text = told(alloc, &mut texts, case.as_str())?;
-        for line in text.as_str().lines() {
-            let line = shortened(alloc, line)?;
-            println!(rt; "  {line}")?;
-        }
+        run_case(&rt, alloc, &mut texts, case?.as_str())?;
     }
     Ok(())
 }

@@ -101,20 +101,36 @@ fn cuts_text(alloc: Global, bytes: &[u8]) -> Result<String, Stop> {
     Ok(whole)
 }
 
+/// What a reader answers to a piece.
+fn told_of_piece(alloc: Global, reader: &mut Reader, piece: &[u8]) -> Result<String, AllocError> {
+    match feed(reader, piece) {
+        Ok(()) => String::from_str(alloc, "ok"),
+        Err(fault) => text_fault(alloc, fault),
+    }
+}
+
+/// Puts what a reader answers to each piece.
+fn put_fed(
+    alloc: Global,
+    texts: &Texts,
+    reader: &mut Reader,
+    text: &mut String,
+    rest: &str,
+) -> Result<(), Stop> {
+    for piece in rest.split(" + ") {
+        let piece = texts.bytes_of(piece)?;
+        let told = told_of_piece(alloc, reader, piece.as_slice())?;
+        text.push_str(told.as_str())?;
+        text.push_str(", ")?;
+    }
+    Ok(())
+}
+
 /// `TEXT + TEXT ..`: what each piece answers, the room that is left, and what the end answers.
 fn feed_text(alloc: Global, texts: &Texts, rest: &str) -> Result<String, Stop> {
     let mut reader = Reader::new(alloc)?;
     let mut text = String::new(alloc);
-    for piece in rest.split(" + ") {
-        let piece = texts.bytes_of(piece)?;
-        match feed(&mut reader, piece.as_slice()) {
-            Ok(()) => text.push_str("ok, ")?,
-            Err(fault) => {
-                text.push_str(text_fault(alloc, fault)?.as_str())?;
-                text.push_str(", ")?;
-            }
-        }
-    }
+    put_fed(alloc, texts, &mut reader, &mut text, rest)?;
     write!(text, "room {}, ", reader.room())?;
     text.push_str(told(alloc, reader.finish())?.as_str())?;
     Ok(text)
