@@ -1,12 +1,13 @@
 //! What a case has said so far, and what each of its lines does.
 
+use crate::contents::{Contents, bytes_held, copied, hold};
 use crate::line::{Change, Failure, Fronts, Line, read_line};
 use crate::notation::{bytes_of, text_of};
 use crate::report::{Before, push_seen};
-use crate::shelf::Shelf;
 use crate::trial_run::{Given, Seen, run_once};
 use anyhow::{bail, ensure};
 use std::alloc::{AllocError, Global};
+use std::collections::BTreeMap;
 use std::fmt::Write;
 use std::str;
 
@@ -29,8 +30,8 @@ struct Cuts {
 /// The texts that all cases share, and the files, failures and cuts of the case that is read.
 #[derive(Drop)]
 pub struct Bench {
-    texts: Shelf,
-    files: Shelf,
+    texts: Contents,
+    files: Contents,
     calls: Vec<Failure>,
     puts: Vec<Failure>,
     cuts: Option<Cuts>,
@@ -77,12 +78,20 @@ fn front(bytes: &[u8], length: u64) -> &[u8] {
     bytes.get(..length as usize).unwrap_or(bytes)
 }
 
+/// Appends bytes to what a name holds.
+fn append(contents: &mut Contents, name: &str, bytes: &[u8]) -> Result<(), AllocError> {
+    match contents.get_mut(name) {
+        Some(held) => held.extend_from_slice(bytes),
+        None => Ok(()),
+    }
+}
+
 impl Bench {
     /// Nothing was said.
     pub fn new(alloc: Global) -> Bench {
         Bench {
-            texts: Shelf::new(alloc),
-            files: Shelf::new(alloc),
+            texts: BTreeMap::new(alloc),
+            files: BTreeMap::new(alloc),
             calls: Vec::new(alloc),
             puts: Vec::new(alloc),
             cuts: None,
@@ -91,13 +100,8 @@ impl Bench {
     }
 
     /// Forgets the files and failures of the case before.
-    fn begin_case(
-        &mut self,
-        alloc: Global,
-        name: &str,
-        report: &mut String,
-    ) -> Result<(), AllocError> {
-        self.files = Shelf::new(alloc);
+    fn begin_case(&mut self, name: &str, report: &mut String) -> Result<(), AllocError> {
+        self.files.clear();
         self.calls.clear();
         self.puts.clear();
         self.cuts = None;
@@ -107,7 +111,7 @@ impl Bench {
 
     /// Begins a text, which later cases may hold.
     fn begin_text(&mut self, alloc: Global, name: &str) -> Result<(), AllocError> {
-        self.texts.hold(alloc, name, b"")?;
+        hold(&mut self.texts, alloc, name, b"")?;
         self.open = Open::Text(String::from_str(alloc, name)?);
         Ok(())
     }
@@ -115,42 +119,40 @@ impl Bench {
     /// Begins a file of the case.
     fn begin_file(&mut self, alloc: Global, name: &str) -> anyhow::Result<()> {
         let name = text_of(alloc, name)?;
-        self.files.hold(alloc, &name, b"")?;
+        hold(&mut self.files, alloc, &name, b"")?;
         self.open = Open::File(name);
         Ok(())
     }
 
     /// Appends bytes to the text or file that was begun last.
-    fn append(&mut self, alloc: Global, bytes: &[u8]) -> anyhow::Result<()> {
+    fn append(&mut self, bytes: &[u8]) -> anyhow::Result<()> {
         match &self.open {
             Open::Nothing => bail!("bytes of no file"),
-            Open::Text(name) => self.texts.append(alloc, name, bytes)?,
-            Open::File(name) => self.files.append(alloc, name, bytes)?,
+            Open::Text(name) => append(&mut self.texts, name, bytes)?,
+            Open::File(name) => append(&mut self.files, name, bytes)?,
         }
         Ok(())
     }
 
     /// Appends a line and its end.
-    fn append_line(&mut self, alloc: Global, text: &str) -> anyhow::Result<()> {
-        self.append(alloc, text.as_bytes())?;
-        self.append(alloc, b"\n")
+    fn append_line(&mut self, text: &str) -> anyhow::Result<()> {
+        self.append(text.as_bytes())?;
+        self.append(b"\n")
     }
 
     /// Lets a file hold a text.
     fn hold_text(&mut self, alloc: Global, file: &str, text: &str) -> anyhow::Result<()> {
+        ensure!(self.texts.contains_key(text), "no such text");
         let file = text_of(alloc, file)?;
-        match self.texts.held(text) {
-            Some(bytes) => self.files.hold(alloc, &file, bytes)?,
-            None => bail!("no such text"),
-        }
+        hold(&mut self.files, alloc, &file, bytes_held(&self.texts, text))?;
         Ok(())
     }
 
     /// Replaces a part of a file.
     fn change(&mut self, alloc: Global, change: &Change) -> anyhow::Result<()> {
         let file = text_of(alloc, change.file)?;
-        let text = replaced(alloc, self.files.held(&file).unwrap_or(b""), change)?;
-        self.files.hold(alloc, &file, text.as_bytes())?;
+        let text = replaced(alloc, bytes_held(&self.files, &file), change)?;
+        hold(&mut self.files, alloc, &file, text.as_bytes())?;
         Ok(())
     }
 
@@ -158,14 +160,14 @@ impl Bench {
     fn hold_long(&mut self, alloc: Global, file: &str, length: u64) -> anyhow::Result<()> {
         let file = text_of(alloc, file)?;
         let bytes = long_bytes(alloc, length)?;
-        self.files.hold(alloc, &file, &bytes)?;
+        hold(&mut self.files, alloc, &file, &bytes)?;
         Ok(())
     }
 
     /// Has the next run made once for each front of a file.
     fn cut(&mut self, alloc: Global, fronts: &Fronts) -> anyhow::Result<()> {
         let file = text_of(alloc, fronts.file)?;
-        ensure!(self.files.held(&file).is_some(), "no such file");
+        ensure!(self.files.contains_key(file.as_str()), "no such file");
         self.cuts = Some(Cuts {
             file,
             from: fronts.from,
@@ -175,7 +177,7 @@ impl Bench {
     }
 
     /// What a run with these words over these files is given.
-    fn given<'a>(&'a self, words: &'a [String], files: &'a Shelf) -> Given<'a> {
+    fn given<'a>(&'a self, words: &'a [String], files: &'a Contents) -> Given<'a> {
         Given {
             words,
             files,
@@ -185,7 +187,7 @@ impl Bench {
     }
 
     /// What is known before a run over these files.
-    fn before<'a>(&'a self, files: &'a Shelf) -> Before<'a> {
+    fn before<'a>(&'a self, files: &'a Contents) -> Before<'a> {
         Before {
             texts: &self.texts,
             files,
@@ -215,9 +217,9 @@ impl Bench {
         length: u64,
         report: &mut String,
     ) -> Result<(), AllocError> {
-        let mut files = self.files.copy(alloc)?;
-        let bytes = self.files.held(file).unwrap_or(b"");
-        files.hold(alloc, file, front(bytes, length))?;
+        let mut files = copied(alloc, &self.files)?;
+        let bytes = front(bytes_held(&self.files, file), length);
+        hold(&mut files, alloc, file, bytes)?;
         let seen = run_once(alloc, &self.given(words, &files))?;
         writeln!(report, "front {length}")?;
         push_seen(report, &self.before(&files), &seen)
@@ -257,9 +259,9 @@ impl Bench {
         };
         match line {
             Line::Nothing => Ok(()),
-            Line::Whole(text) => self.append_line(alloc, text),
-            Line::Part(text) => self.append(alloc, &bytes_of(alloc, text)?),
-            Line::Case(name) => Ok(self.begin_case(alloc, name, report)?),
+            Line::Whole(text) => self.append_line(text),
+            Line::Part(text) => self.append(&bytes_of(alloc, text)?),
+            Line::Case(name) => Ok(self.begin_case(name, report)?),
             Line::Text(name) => Ok(self.begin_text(alloc, name)?),
             Line::File(name) => self.begin_file(alloc, name),
             Line::Hold { file, text } => self.hold_text(alloc, file, text),

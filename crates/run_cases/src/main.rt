@@ -3,19 +3,20 @@
 #![tactic(auto)]
 
 mod bench;
+mod contents;
 mod line;
 mod notation;
 mod report;
-mod shelf;
 mod trial_run;
 
 use anyhow::Context;
 use bench::Bench;
+use std::io::{BufRead, BufReader};
 
 fn main(rt: HostRuntime) -> anyhow::Result<()> {
     let alloc = rt.alloc();
     let mut bench = Bench::new(alloc);
-    for (number, line) in rt.lines(alloc).enumerate() {
+    for (number, line) in BufReader::new(alloc, rt.reader())?.lines(alloc).enumerate() {
         let mut report = String::new(alloc);
         bench
             .take(alloc, &line?, &mut report)

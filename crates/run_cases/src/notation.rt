@@ -8,7 +8,7 @@ use std::fmt::Write;
 fn digit_of(byte: u8) -> Option<u8>
     ensures { IfSome result (λ digit. digit < 16) }
 {
-    if b'0' <= byte && byte <= b'9' {
+    if byte.is_ascii_digit() {
         return Some(byte - b'0');
     }
     if b'A' <= byte && byte <= b'F' {

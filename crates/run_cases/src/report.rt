@@ -1,36 +1,11 @@
 //! What is printed of a run.
 
+use crate::contents::{Contents, bytes_held};
 use crate::notation::{push_bytes, push_lines};
-use crate::shelf::Shelf;
 use crate::trial_run::Seen;
 use std::alloc::AllocError;
 use std::fmt::Write;
 use tmr_top::Status;
-
-/// What is known before a run: the texts, and what the files hold.
-#[derive(Clone, Copy, Drop)]
-pub struct Before<'a> {
-    pub texts: &'a Shelf,
-    pub files: &'a Shelf,
-}
-
-/// Whether the name holds exactly these bytes.
-fn holds(shelf: &Shelf, name: &str, bytes: &[u8]) -> bool {
-    match shelf.held(name) {
-        Some(held) => held == bytes,
-        None => false,
-    }
-}
-
-/// The name of the first text that is these bytes.
-fn name_of<'a>(texts: &'a Shelf, bytes: &[u8]) -> Option<&'a str> {
-    for name in texts.names() {
-        if holds(texts, name, bytes) {
-            return Some(name.as_str());
-        }
-    }
-    None
-}
 
 /// Appends the exit code of a status and its name.
 fn push_status(report: &mut String, status: Status) -> Result<(), AllocError> {
@@ -38,12 +13,29 @@ fn push_status(report: &mut String, status: Status) -> Result<(), AllocError> {
     writeln!(report, "{code} {status:?}")
 }
 
+/// The name of a text that is these bytes.
+fn name_of<'a>(texts: &'a Contents, bytes: &[u8]) -> Option<&'a str> {
+    for (name, held) in texts.iter() {
+        if held.as_slice() == bytes {
+            return Some(name.as_str());
+        }
+    }
+    None
+}
+
 /// Appends the name of the text that is these bytes, or else the bytes line by line.
-fn push_contents(report: &mut String, texts: &Shelf, bytes: &[u8]) -> Result<(), AllocError> {
+fn push_contents(report: &mut String, texts: &Contents, bytes: &[u8]) -> Result<(), AllocError> {
     match name_of(texts, bytes) {
         Some(name) => writeln!(report, "= {name}"),
         None => push_lines(report, bytes),
     }
+}
+
+/// What is known before a run: the texts, and what the files hold.
+#[derive(Clone, Copy, Drop)]
+pub struct Before<'a> {
+    pub texts: &'a Contents,
+    pub files: &'a Contents,
 }
 
 /// Appends a file, unless it held the same before.
@@ -53,7 +45,7 @@ fn push_file(
     name: &str,
     bytes: &[u8],
 ) -> Result<(), AllocError> {
-    if holds(before.files, name, bytes) {
+    if before.files.contains_key(name) && bytes_held(before.files, name) == bytes {
         return Ok(());
     }
     report.push_str("file ")?;
@@ -66,8 +58,8 @@ fn push_file(
 pub fn push_seen(report: &mut String, before: &Before, seen: &Seen) -> Result<(), AllocError> {
     push_status(report, seen.status)?;
     push_contents(report, before.texts, &seen.text)?;
-    for name in seen.files.names() {
-        push_file(report, before, name, seen.files.held(name).unwrap_or(b""))?;
+    for (name, bytes) in seen.files.iter() {
+        push_file(report, before, name, bytes)?;
     }
     Ok(())
 }

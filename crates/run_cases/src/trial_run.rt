@@ -1,8 +1,9 @@
 //! One run of the program over files and a sink in memory.
 
+use crate::contents::{Contents, hold};
 use crate::line::Failure;
-use crate::shelf::Shelf;
 use std::alloc::{AllocError, Global};
+use std::collections::BTreeMap;
 use tmr_outside::{MemFiles, MemSink};
 use tmr_top::{Status, run};
 
@@ -10,7 +11,7 @@ use tmr_top::{Status, run};
 #[derive(Clone, Copy, Drop)]
 pub struct Given<'a> {
     pub words: &'a [String],
-    pub files: &'a Shelf,
+    pub files: &'a Contents,
     pub calls: &'a [Failure],
     pub puts: &'a [Failure],
 }
@@ -20,12 +21,15 @@ pub struct Given<'a> {
 pub struct Seen {
     pub status: Status,
     pub text: Vec<u8>,
-    pub files: Shelf,
+    pub files: Contents,
 }
 
 /// The files of a run, of which some calls are to fail.
 fn files_of(alloc: Global, given: &Given) -> Result<MemFiles, AllocError> {
-    let mut files = given.files.files(alloc)?;
+    let mut files = MemFiles::new(alloc);
+    for (name, bytes) in given.files.iter() {
+        files.hold(name, bytes)?;
+    }
     for failure in given.calls {
         files.fail_at(failure.call, failure.keep)?;
     }
@@ -41,26 +45,28 @@ fn sink_of(alloc: Global, puts: &[Failure]) -> Result<MemSink, AllocError> {
     Ok(sink)
 }
 
-/// Notes what these names hold, those that are there.
+/// Notes what a name holds, if it is there.
 fn note(
     alloc: Global,
-    held: &mut Shelf,
+    held: &mut Contents,
     files: &MemFiles,
-    names: &[String],
+    name: &str,
 ) -> Result<(), AllocError> {
-    for name in names {
-        if let Some(bytes) = files.held(name) {
-            held.hold(alloc, name, bytes)?;
-        }
+    match files.held(name) {
+        Some(bytes) => hold(held, alloc, name, bytes),
+        None => Ok(()),
     }
-    Ok(())
 }
 
 /// What the given names and the words hold. No other name can be there.
-fn held_after(alloc: Global, given: &Given, files: &MemFiles) -> Result<Shelf, AllocError> {
-    let mut held = Shelf::new(alloc);
-    note(alloc, &mut held, files, given.files.names())?;
-    note(alloc, &mut held, files, given.words)?;
+fn held_after(alloc: Global, given: &Given, files: &MemFiles) -> Result<Contents, AllocError> {
+    let mut held = BTreeMap::new(alloc);
+    for name in given.files.keys() {
+        note(alloc, &mut held, files, name)?;
+    }
+    for word in given.words {
+        note(alloc, &mut held, files, word)?;
+    }
     Ok(held)
 }
 
