@@ -6,6 +6,8 @@ pub mod SaveLaws
 pub mod TextLaws
 pub mod DesignLaws
 pub mod PairLaws
+pub mod ReplayLaws
+pub mod WaveLaws
 pub mod FlatLaws
 pub mod HardenLaws
 pub mod PerformLaws

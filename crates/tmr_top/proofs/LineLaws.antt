@@ -5,7 +5,7 @@ use Rattle.std.specs.Option.{option_and_then, option_map}
 use Rattle.std.specs.Str.{bytes_eq}
 use Rattle.flat_net.proofs.Names.{eq_true}
 use Rattle.tmr_top.specs.Words.{Words, has_no_options, words_of}
-use Rattle.tmr_top.specs.Line.{Command, Pair, Hardening, Flattening, Validate, Harden, Flatten, Report, is_file, said, positive_number, version_number, pair_of, over_pair, flattening_of, hardening_with, hardening_of, of_words, of_plain, line_of}
+use Rattle.tmr_top.specs.Line.{Command, Pair, Hardening, Flattening, Validate, Harden, Flatten, Report, is_file, said, positive_number, version_number, pair_of, over_pair, flattening_of, replay_over, replaying_of, waving_of, hardening_with, hardening_of, of_words, of_plain, line_of}
 
 pub all_said : (words : Words) (size version most : ℕ) → said positive_number 64 words.sizes ≡ Some size → said version_number 1 words.versions ≡ Some version → said positive_number 4294967295 words.depths ≡ Some most → hardening_of words ≡ hardening_with size version most words.plain
 unfolding hardening_of
@@ -47,6 +47,29 @@ flattening_has [] = none_has
 flattening_has (a ∷ []) = none_has
 flattening_has (a ∷ b ∷ []) = choice_has (is_file a && is_file b) _ _ (flatten_has _) none_has
 flattening_has (a ∷ b ∷ c ∷ words) = none_has
+
+replay_has : (pair : Option Pair) (schedule : List ℕ) (waves : Option (List ℕ)) → HasTwoNames (replay_over pair schedule waves)
+replay_has None schedule waves = none_has
+replay_has (Some pair) schedule waves = choice_has (is_file schedule) _ _ (λ w is. absurd cc) none_has
+
+replaying_has : (words : List (List ℕ)) → HasTwoNames (replaying_of words)
+unfolding replaying_of
+replaying_has [] = none_has
+replaying_has (a ∷ []) = none_has
+replaying_has (a ∷ b ∷ []) = none_has
+replaying_has (a ∷ b ∷ c ∷ []) = none_has
+replaying_has (a ∷ b ∷ c ∷ d ∷ []) = replay_has (pair_of (a ∷ b ∷ c ∷ [])) d None
+replaying_has (a ∷ b ∷ c ∷ d ∷ e ∷ words) = none_has
+
+waving_has : (words : List (List ℕ)) → HasTwoNames (waving_of words)
+unfolding waving_of
+waving_has [] = none_has
+waving_has (a ∷ []) = none_has
+waving_has (a ∷ b ∷ []) = none_has
+waving_has (a ∷ b ∷ c ∷ []) = none_has
+waving_has (a ∷ b ∷ c ∷ d ∷ []) = none_has
+waving_has (a ∷ b ∷ c ∷ d ∷ e ∷ []) = choice_has (is_file e) _ _ (replay_has (pair_of (a ∷ b ∷ c ∷ [])) d (Some e)) none_has
+waving_has (a ∷ b ∷ c ∷ d ∷ e ∷ f ∷ words) = none_has
 
 last_of : (x y : Bool) → (x && y) ≡ true → y ≡ true
 last_of true y e = e
@@ -104,4 +127,6 @@ two_names (command ∷ words) =
     choice_has (bytes_eq command (codes "validate")) _ _ (plain_has (over_pair Validate) validate_has (words_of words))
     (choice_has (bytes_eq command (codes "harden")) _ _ (hardened_has (words_of words))
     (choice_has (bytes_eq command (codes "flatten")) _ _ (plain_has flattening_of flattening_has (words_of words))
-    (choice_has (bytes_eq command (codes "report")) _ _ (plain_has (over_pair Report) report_has (words_of words)) none_has)))
+    (choice_has (bytes_eq command (codes "replay")) _ _ (plain_has replaying_of replaying_has (words_of words))
+    (choice_has (bytes_eq command (codes "report")) _ _ (plain_has (over_pair Report) report_has (words_of words))
+    (choice_has (bytes_eq command (codes "wave")) _ _ (plain_has waving_of waving_has (words_of words)) none_has)))))

@@ -1,17 +1,23 @@
 -- A command comes to one verdict.
-use Rattle.std.proofs.Common.{◌≡◌, ℕ, List, refl}
+use Rattle.std.proofs.Common.{◌≡◌, ℕ, Bool, true, false, List, length, Option, Some, Result, Ok, Err, inl, inr, refl, sym, ap, ◌∙◌, subst}
+use Rattle.std.specs.FinMap.{get}
 use Rattle.tmr_outside.specs.Contents.{Contents}
 use Rattle.tmr_top.specs.declared.decision.Verdict.{Verdict}
 use Rattle.tmr_top.specs.declared.decision.Verdict.TheVariants.{Done, NotAccepted, Refused}
-use Rattle.tmr_top.specs.Line.{Command, Pair, Hardening, Flattening, Validate, Harden, Flatten, Report}
-use Rattle.tmr_top.specs.Loads.{original_file}
+use Rattle.tmr_top.specs.Line.{Command, Pair, Hardening, Flattening, Replaying, Validate, Harden, Flatten, Replay, Report}
+use Rattle.tmr_top.specs.Loads.{original_file, schedule_file}
+use Rattle.tmr_top.specs.Pairs.{ReadPair, HoldsPair, Accepts}
+use Rattle.tmr_top.specs.Replayed.{Replayed, ReadFiles, HoldsSchedule, HoldsNoSchedule, IsReplayDenied, IsReplayRefused, is_too_large}
 use Rattle.tmr_top.specs.Validated.{Validated}
 use Rattle.tmr_top.specs.Hardened.{Hardened}
 use Rattle.tmr_top.specs.Flattened.{Flattened}
 use Rattle.tmr_top.specs.Reported.{Reported}
 use Rattle.tmr_top.specs.Outcomes.{Outcome}
 use Rattle.tmr_top.proofs.DesignLaws.{design_or_none}
-use Rattle.tmr_top.proofs.PairLaws.{unread_pair, agrees}
+use Rattle.schedule_replay.specs.declared.fault.ScheduleFault.{ScheduleFault}
+use Rattle.schedule_replay.specs.Document.{Listed, sched_of}
+use Rattle.certificate.specs.Starts.{counted}
+use Rattle.tmr_top.proofs.PairLaws.{one_pair, unread_pair, agrees}
 
 one_validated : (p : Pair) (held : Contents) (v w : Verdict) (s t : List (List ℕ)) (x y : List ℕ) → Validated p held v s x → Validated p held w t y → v ≡ w
 one_validated p held Done Done s t x y one other = refl
@@ -53,8 +59,67 @@ one_reported p held Refused Done s t x y one other = absurd (unread_pair held p 
 one_reported p held NotAccepted Refused s t x y one other = absurd (unread_pair held p y one.pair other one.holds)
 one_reported p held Refused NotAccepted s t x y one other = absurd (unread_pair held p x other.pair one other.holds)
 
+-- ---- replays
+
+same_bytes : (o : Option (List ℕ)) (one other : List ℕ) → o ≡ Some one → o ≡ Some other → one ≡ other
+same_bytes o one other e f = cc
+
+-- what bytes list for a pair
+abbrev lists : ReadPair → List ℕ → Result Listed ScheduleFault
+lists r bytes = sched_of r.certificate.version bytes r.original (counted r.certificate r.free) r.hardened
+
+ok_once : (x y : Result Listed ScheduleFault) (k l : Listed) → x ≡ y → x ≡ Ok k → y ≡ Ok l → k ≡ l
+ok_once x y k l e f g = cc
+
+ok_or_fault : (x y : Result Listed ScheduleFault) (k : Listed) (fault : ScheduleFault) → x ≡ y → x ≡ Ok k → y ≡ Err fault → ⊥
+ok_or_fault x y k fault e f g = cc
+
+module _ (w : Replaying) (held : Contents) where
+  same_files : (r s : ReadPair) (a b : List ℕ) → r ≡ s → get held w.schedule ≡ Some a → get held w.schedule ≡ Some b → lists r a ≡ lists s b
+  same_files r s a b e f g = ap (λ (p : ReadPair). lists p a) e ∙ ap (lists s) (same_bytes (get held w.schedule) a b f g)
+
+  one_listed : (one other : ReadFiles w held) → one.listed ≡ other.listed
+  one_listed one other = ok_once _ _ one.listed other.listed
+      (same_files one.pair other.pair one.schedule_read.bytes other.schedule_read.bytes (one_pair held w.pair one.pair other.pair one.holds other.holds) one.schedule_read.there other.schedule_read.there)
+      one.schedule_read.fact other.schedule_read.fact
+
+  -- whether waves are too large is the same
+  one_size : (one other : ReadFiles w held) → is_too_large w.waves one.pair.original (length one.listed.rows) ≡ is_too_large w.waves other.pair.original (length other.listed.rows)
+  one_size one other =
+      ap (λ (p : ReadPair). is_too_large w.waves p.original (length one.listed.rows)) (one_pair held w.pair one.pair other.pair one.holds other.holds)
+      ∙ ap (λ (l : Listed). is_too_large w.waves other.pair.original (length l.rows)) (one_listed one other)
+
+  small_or_large : (b c : Bool) → b ≡ c → b ≡ false → c ≡ true → ⊥
+  small_or_large b c e f g = cc
+
+  -- files that are read are not refused
+  read_or_refused : (text : List ℕ) (one : ReadFiles w held) → is_too_large w.waves one.pair.original (length one.listed.rows) ≡ false → IsReplayRefused w held text → ⊥
+  read_or_refused text one room (inl unread) = unread_pair held w.pair text one.pair unread one.holds
+  read_or_refused text one room (inr (inl says)) =
+      ok_or_fault _ _ one.listed says.fault
+      (same_files one.pair says.pair one.schedule_read.bytes says.unread.bytes (one_pair held w.pair one.pair says.pair one.holds says.holds) one.schedule_read.there says.unread.there)
+      one.schedule_read.fact says.unread.fact
+  read_or_refused text one room (inr (inr says)) = small_or_large _ _ (one_size one says.files) room says.large
+
+  accepted_or_denied : (text : List ℕ) (one : ReadFiles w held) → Accepts one.pair → IsReplayDenied w held text → ⊥
+  accepted_or_denied text one accepts denied =
+      let there : Accepts denied.files.pair = subst Accepts (one_pair held w.pair one.pair denied.files.pair one.holds denied.files.holds) accepts in
+      denied.first.fails (there denied.rule denied.place)
+
+  one_replayed : (v u : Verdict) (s t : List (List ℕ)) (x y : List ℕ) → Replayed w held v s x → Replayed w held u t y → v ≡ u
+  one_replayed Done Done s t x y one other = refl
+  one_replayed NotAccepted NotAccepted s t x y one other = refl
+  one_replayed Refused Refused s t x y one other = refl
+  one_replayed Done NotAccepted s t x y one other = absurd (accepted_or_denied y one.files one.accepts other)
+  one_replayed NotAccepted Done s t x y one other = absurd (accepted_or_denied x other.files other.accepts one)
+  one_replayed Done Refused s t x y one other = absurd (read_or_refused y one.files one.room other)
+  one_replayed Refused Done s t x y one other = absurd (read_or_refused x other.files other.room one)
+  one_replayed NotAccepted Refused s t x y one other = absurd (read_or_refused y one.files one.room other)
+  one_replayed Refused NotAccepted s t x y one other = absurd (read_or_refused x other.files other.room one)
+
 pub one_verdict : (c : Command) (held : Contents) (v w : Verdict) (s t : List (List ℕ)) (x y : List ℕ) → Outcome c held v s x → Outcome c held w t y → v ≡ w
 one_verdict (Validate p) held v w s t x y one other = one_validated p held v w s t x y one other
 one_verdict (Harden h) held v w s t x y one other = one_hardened h held v w s t x y one other
 one_verdict (Flatten f) held v w s t x y one other = one_flattened f held v w s t x y one other
+one_verdict (Replay r) held v w s t x y one other = one_replayed r held v w s t x y one other
 one_verdict (Report p) held v w s t x y one other = one_reported p held v w s t x y one other

@@ -17,7 +17,9 @@ use Rattle.tmr_top.specs.declared.decision.Verdict.{Verdict}
 use Rattle.tmr_top.specs.declared.decision.Verdict.TheVariants.{Done, NotAccepted, Refused}
 use Rattle.tmr_top.specs.declared.pair_task.PairTask.{PairTask}
 use Rattle.tmr_top.specs.declared.pair_task.PairTask.TheVariants as tasks
-use Rattle.tmr_top.specs.FileWords.{texts_in, task_over}
+use Rattle.tmr_top.specs.declared.replay_words.FileTask.{FileTask}
+use Rattle.tmr_top.specs.declared.replay_words.FileTask.TheVariants as files
+use Rattle.tmr_top.specs.FileWords.{texts_in, task_over, files_over}
 use Rattle.tmr_top.specs.Line.{Command, Pair, Validate}
 use Rattle.tmr_top.specs.Loads.{Load, original_file, hardened_file, certificate_file}
 use Rattle.tmr_top.specs.Loaded.{HoldsBytes}
@@ -40,7 +42,7 @@ outcome_work c held w v is outcome masks = record {
 }
 
 -- a work that is not done masks nothing
-not_done : (held : Contents) (c : Command) (v w : Verdict) → v ≡ w → w ≢ Done → (p : Pair) → c ≡ Validate p → v ≡ Done → Masked held p
+pub not_done : (held : Contents) (c : Command) (v w : Verdict) → v ≡ w → w ≢ Done → (p : Pair) → c ≡ Validate p → v ≡ Done → Masked held p
 not_done held c v w is other p line done = absurd (other (sym is ∙ done))
 
 -- ---- what is said
@@ -49,9 +51,10 @@ not_accepted_outcome : (task : PairTask) (held : Contents) (p : Pair) (saved : L
 not_accepted_outcome tasks.Validate held p saved text is = is
 not_accepted_outcome tasks.Report held p saved text is = is
 
-unread_outcome : (task : PairTask) (held : Contents) (p : Pair) (saved : List (List ℕ)) (text : List ℕ) → IsPairUnread p held text → Outcome (task_over task p) held Refused saved text
-unread_outcome tasks.Validate held p saved text is = is
-unread_outcome tasks.Report held p saved text is = is
+unread_outcome : (task : FileTask) (held : Contents) (p : Pair) (saved : List (List ℕ)) (text : List ℕ) → IsPairUnread p held text → Outcome (files_over task p) held Refused saved text
+unread_outcome (files.Tell tasks.Validate) held p saved text is = is
+unread_outcome (files.Tell tasks.Report) held p saved text is = is
+unread_outcome (files.Replay s) held p saved text is = inl is
 
 accepted_outcome : (task : PairTask) (held : Contents) (p : Pair) (pair : ReadPair) (saved : List (List ℕ)) (text : List ℕ) → HoldsPair held p pair → Accepts pair → saved ≡ [] → Tells task pair text → Outcome (task_over task p) held Done saved text
 accepted_outcome tasks.Validate held p pair saved text holds accepts none says = (record { pair = pair; holds = holds; accepts = accepts; says = says }, none)
@@ -93,8 +96,9 @@ module _ (held : Contents) (task : PairTask) (p : Pair) (w : Work) (n h : Net) (
       }))
       (not_done held (task_over task p) w.verdict NotAccepted is (λ e. cc))
 
-  pub certificate_work : (fault : CertFault) → HoldsNoCertificate held (certificate_file p.certificate) n h fault → w.verdict ≡ Refused → w.text.items ≡ refused_line p.certificate (cert_reason fault) → IsWork (task_over task p) held w
-  certificate_work fault unread is says = outcome_work (task_over task p) held w Refused is
+module _ (held : Contents) (task : FileTask) (p : Pair) (w : Work) where
+  pub certificate_work : (n h : Net) (a c : List Bool) (fault : CertFault) → HoldsDesign held (original_file p.original) n a → HoldsDesign held (hardened_file p.hardened) h c → HoldsNoCertificate held (certificate_file p.certificate) n h fault → w.verdict ≡ Refused → w.text.items ≡ refused_line p.certificate (cert_reason fault) → IsWork (files_over task p) held w
+  certificate_work n h a c fault one other unread is says = outcome_work (files_over task p) held w Refused is
       (unread_outcome task held p (texts_in w.saves.items) w.text.items (inr (inr (record {
         original = n;
         free = a;
@@ -106,17 +110,17 @@ module _ (held : Contents) (task : PairTask) (p : Pair) (w : Work) (n h : Net) (
         unread = unread;
         says = says;
       }))))
-      (not_done held (task_over task p) w.verdict Refused is (λ e. cc))
+      (not_done held (files_over task p) w.verdict Refused is (λ e. cc))
 
-pub hardened_work : (held : Contents) (task : PairTask) (p : Pair) (w : Work) (n : Net) (a : List Bool) (reason : List ℕ) → HoldsDesign held (original_file p.original) n a → HoldsNoDesign held (hardened_file p.hardened) reason → w.verdict ≡ Refused → w.text.items ≡ refused_line p.hardened reason → IsWork (task_over task p) held w
-hardened_work held task p w n a reason one unread is says = outcome_work (task_over task p) held w Refused is
-    (unread_outcome task held p (texts_in w.saves.items) w.text.items (inr (inl (record { original = n; free = a; original_read = one; reason = reason; unread = unread; says = says }))))
-    (not_done held (task_over task p) w.verdict Refused is (λ e. cc))
+  pub hardened_work : (n : Net) (a : List Bool) (reason : List ℕ) → HoldsDesign held (original_file p.original) n a → HoldsNoDesign held (hardened_file p.hardened) reason → w.verdict ≡ Refused → w.text.items ≡ refused_line p.hardened reason → IsWork (files_over task p) held w
+  hardened_work n a reason one unread is says = outcome_work (files_over task p) held w Refused is
+      (unread_outcome task held p (texts_in w.saves.items) w.text.items (inr (inl (record { original = n; free = a; original_read = one; reason = reason; unread = unread; says = says }))))
+      (not_done held (files_over task p) w.verdict Refused is (λ e. cc))
 
-pub original_work : (held : Contents) (task : PairTask) (p : Pair) (w : Work) (reason : List ℕ) → HoldsNoDesign held (original_file p.original) reason → w.verdict ≡ Refused → w.text.items ≡ refused_line p.original reason → IsWork (task_over task p) held w
-original_work held task p w reason unread is says = outcome_work (task_over task p) held w Refused is
-    (unread_outcome task held p (texts_in w.saves.items) w.text.items (inl (record { reason = reason; unread = unread; says = says })))
-    (not_done held (task_over task p) w.verdict Refused is (λ e. cc))
+  pub original_work : (reason : List ℕ) → HoldsNoDesign held (original_file p.original) reason → w.verdict ≡ Refused → w.text.items ≡ refused_line p.original reason → IsWork (files_over task p) held w
+  original_work reason unread is says = outcome_work (files_over task p) held w Refused is
+      (unread_outcome task held p (texts_in w.saves.items) w.text.items (inl (record { reason = reason; unread = unread; says = says })))
+      (not_done held (files_over task p) w.verdict Refused is (λ e. cc))
 
 -- a fault that is no want of memory is what reading gives
 pub read_fault : (fault : CertFault) (read : Result PlainCert CertFault) → Fails fault read → fault ≢ faults.Memory → read ≡ Err fault

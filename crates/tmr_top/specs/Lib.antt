@@ -17,6 +17,9 @@ pub mod Validated
 pub mod Hardened
 pub mod FlatWithin
 pub mod Flattened
+pub mod ReplayText
+pub mod Replayed
+pub mod Replaying
 pub mod Reported
 pub mod Outcomes
 pub mod Causes

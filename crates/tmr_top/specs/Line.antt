@@ -21,6 +21,12 @@ pub record Hardening : Type 0 where
   pub version : ℕ
   pub most : ℕ
 
+-- the files of `replay ORIG HARD CERT SCHED`, and of `wave ORIG HARD CERT SCHED VCD`, which saves the waves as VCD
+pub record Replaying : Type 0 where
+  pub pair : Pair
+  pub schedule : List ℕ
+  pub waves : Option (List ℕ)
+
 -- the two files of `flatten ORIG FLAT`
 pub record Flattening : Type 0 where
   pub original : List ℕ
@@ -31,6 +37,7 @@ pub data Command : Type 0 where
   Validate : Pair → Command
   Harden : Hardening → Command
   Flatten : Flattening → Command
+  Replay : Replaying → Command
   Report : Pair → Command
 
 -- a file word is not empty
@@ -54,6 +61,20 @@ flattening_of (original ∷ flat ∷ []) =
     then Some (Flatten (record { original = original; flat = flat }))
     else None
 flattening_of words = None
+
+-- a replay over a pair, where no file word is empty, and no waves are saved or those under this name
+abbrev pub replay_over : Option Pair → List ℕ → Option (List ℕ) → Option Command
+replay_over None schedule waves = None
+replay_over (Some pair) schedule waves = if is_file schedule then Some (Replay (record { pair = pair; schedule = schedule; waves = waves })) else None
+
+unfoldable pub replaying_of : List (List ℕ) → Option Command
+replaying_of (original ∷ hardened ∷ certificate ∷ schedule ∷ []) = replay_over (pair_of (original ∷ hardened ∷ certificate ∷ [])) schedule None
+replaying_of words = None
+
+unfoldable pub waving_of : List (List ℕ) → Option Command
+waving_of (original ∷ hardened ∷ certificate ∷ schedule ∷ waves ∷ []) =
+    if is_file waves then replay_over (pair_of (original ∷ hardened ∷ certificate ∷ [])) schedule (Some waves) else None
+waving_of words = None
 
 -- a number from 1 to 4,294,967,295, decimal and without leading zeros
 unfoldable pub positive_number : List ℕ → Option ℕ
@@ -98,7 +119,9 @@ line_of (command ∷ words) =
     if bytes_eq command (codes "validate") then of_plain (over_pair Validate) (words_of words)
     else if bytes_eq command (codes "harden") then of_words hardening_of (words_of words)
     else if bytes_eq command (codes "flatten") then of_plain flattening_of (words_of words)
+    else if bytes_eq command (codes "replay") then of_plain replaying_of (words_of words)
     else if bytes_eq command (codes "report") then of_plain (over_pair Report) (words_of words)
+    else if bytes_eq command (codes "wave") then of_plain waving_of (words_of words)
     else None
 
 -- what the words of a command line mean

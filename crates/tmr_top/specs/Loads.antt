@@ -1,8 +1,8 @@
 -- The files that a command loads, and those that it saves.
-use Rattle.std.specs.Prelude.{ℕ, List, [], ◌∷◌, map, Option, Some, None}
+use Rattle.std.specs.Prelude.{ℕ, List, [], ◌∷◌, ◌++◌, map, Option, Some, None}
 use Rattle.tmr_top.specs.declared.file_words.FileKind.{FileKind}
 use Rattle.tmr_top.specs.declared.file_words.FileKind.TheVariants.{Netlist, Bytes}
-use Rattle.tmr_top.specs.Line.{Command, Pair, Validate, Harden, Flatten, Report}
+use Rattle.tmr_top.specs.Line.{Command, Pair, Replaying, Validate, Harden, Flatten, Replay, Report}
 
 -- a file to be loaded, and the most bytes that it may have; a netlist is read while it is loaded, and of other files the bytes are kept
 pub record Load : Type 0 where
@@ -22,15 +22,29 @@ hardened_file name = record { name = name; limit = 1073741824; kind = Netlist }
 abbrev pub certificate_file : List ℕ → Load
 certificate_file name = record { name = name; limit = 1073741824; kind = Bytes }
 
+-- a schedule has at most 16 MiB
+abbrev pub schedule_file : List ℕ → Load
+schedule_file name = record { name = name; limit = 16777216; kind = Bytes }
+
 -- the three files of a pair
 abbrev pub pair_files : Pair → List Load
 pair_files p = original_file p.original ∷ hardened_file p.hardened ∷ certificate_file p.certificate ∷ []
+
+-- and with them the schedule
+abbrev pub replay_files : Replaying → List Load
+replay_files w = pair_files w.pair ++ schedule_file w.schedule ∷ []
+
+-- the name that waves are saved under, where there is one
+abbrev pub wave_names : Option (List ℕ) → List (List ℕ)
+wave_names None = []
+wave_names (Some name) = name ∷ []
 
 -- the files that a command loads, in this order
 abbrev pub loads_of : Command → List Load
 loads_of (Validate p) = pair_files p
 loads_of (Harden w) = original_file w.original ∷ []
 loads_of (Flatten f) = original_file f.original ∷ []
+loads_of (Replay w) = replay_files w
 loads_of (Report p) = pair_files p
 
 -- the names that a command saves, in this order
@@ -38,6 +52,7 @@ abbrev pub saves_of : Command → List (List ℕ)
 saves_of (Validate p) = []
 saves_of (Harden w) = w.hardened ∷ w.certificate ∷ []
 saves_of (Flatten f) = f.flat ∷ []
+saves_of (Replay w) = wave_names w.waves
 saves_of (Report p) = []
 
 abbrev pub load_name : Load → List ℕ

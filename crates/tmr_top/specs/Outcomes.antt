@@ -2,10 +2,11 @@
 use Rattle.std.specs.Prelude.{ℕ, List}
 use Rattle.tmr_outside.specs.Contents.{Contents}
 use Rattle.tmr_top.specs.declared.decision.Verdict.{Verdict}
-use Rattle.tmr_top.specs.Line.{Command, Validate, Harden, Flatten, Report}
+use Rattle.tmr_top.specs.Line.{Command, Validate, Harden, Flatten, Replay, Report}
 use Rattle.tmr_top.specs.Validated.{Validated}
 use Rattle.tmr_top.specs.Hardened.{Hardened}
 use Rattle.tmr_top.specs.Flattened.{Flattened}
+use Rattle.tmr_top.specs.Replayed.{Replayed}
 use Rattle.tmr_top.specs.Reported.{Reported}
 
 -- The contents at entry, where every file to be loaded is there and is not too long, the status that is decided before the put, the
@@ -14,4 +15,5 @@ abbrev pub Outcome : Command → Contents → Verdict → List (List ℕ) → Li
 Outcome (Validate p) held verdict saved text = Validated p held verdict saved text
 Outcome (Harden w) held verdict saved text = Hardened w held verdict saved text
 Outcome (Flatten f) held verdict saved text = Flattened f held verdict saved text
+Outcome (Replay w) held verdict saved text = Replayed w held verdict saved text
 Outcome (Report p) held verdict saved text = Reported p held verdict saved text

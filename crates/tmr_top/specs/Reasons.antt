@@ -7,9 +7,11 @@ use Rattle.blif_text.specs.declared.fault.TextKind.TheVariants as kind
 use Rattle.certificate.specs.declared.fault.CertFault.{CertFault}
 use Rattle.certificate.specs.declared.fault.CertFault.TheVariants as fault
 use Rattle.blif_text.specs.Kind.{Bad}
+use Rattle.schedule_replay.specs.declared.fault.ScheduleFault.{ScheduleFault}
+use Rattle.schedule_replay.specs.declared.fault.ScheduleFault.TheVariants as schedule
 use Rattle.hierarchy.specs.declared.flat_fault.FlatFault.{FlatFault}
 use Rattle.hierarchy.specs.declared.flat_fault.FlatFault.TheVariants as flat
-use Rattle.tmr_top.specs.Texts.{joined, line_reason}
+use Rattle.tmr_top.specs.Texts.{joined, line_reason, counted_text}
 
 abbrev pub kind_text : TextKind → List ℕ
 kind_text kind.NoModel = codes "no model"
@@ -36,6 +38,19 @@ cert_reason (fault.Order n) = line_reason n (codes "order")
 cert_reason (fault.Range n) = line_reason n (codes "range")
 cert_reason (fault.Doubled n) = line_reason n (codes "doubled")
 cert_reason fault.Memory = []
+
+-- of the first fault of a schedule; rows and upsets are counted from 0
+abbrev pub schedule_reason : ScheduleFault → List ℕ
+schedule_reason schedule.NotToml = codes "not TOML"
+schedule_reason schedule.Top = codes "bad top"
+schedule_reason schedule.TooMany = codes "too many"
+schedule_reason (schedule.Row t) = counted_text (codes "bad inputs row ") t
+schedule_reason (schedule.Entry j) = counted_text (codes "bad upset ") j
+schedule_reason (schedule.UnknownNet j) = counted_text (codes "unknown net in upset ") j
+schedule_reason (schedule.Range j) = counted_text (codes "cycle out of range in upset ") j
+schedule_reason (schedule.Doubled j) = counted_text (codes "doubled upset ") j
+schedule_reason schedule.Start = codes "bad start"
+schedule_reason schedule.Memory = []
 
 -- each name with a blank before it
 abbrev pub spaced : List (List ℕ) → List ℕ

@@ -5,13 +5,16 @@ use Rattle.tmr_outside.specs.Contents.{Contents}
 use Rattle.tmr_outside.specs.Seen.{FilesSeen}
 use Rattle.tmr_top.specs.declared.pair_task.PairTask.{PairTask}
 use Rattle.tmr_top.specs.declared.pair_task.PairTask.TheVariants as task
+use Rattle.tmr_top.specs.declared.replay_words.FileTask.{FileTask}
+use Rattle.tmr_top.specs.declared.replay_words.FileTask.TheVariants as file_task
 use Rattle.tmr_top.specs.declared.decision.Work.{Work}
 use Rattle.tmr_top.specs.declared.decision.Verdict.TheVariants.{Done}
 use Rattle.tmr_top.specs.Line.{Command, Pair, Validate}
 use Rattle.tmr_top.specs.Pairs.{ReadPair, Masked}
 use Rattle.tmr_top.specs.Texts.{accepted_line}
 use Rattle.tmr_top.specs.FileWords.{texts_in}
-use Rattle.tmr_top.specs.Loads.{loads_of, saves_of}
+use Rattle.tmr_top.specs.Loads.{schedule_file, loads_of, saves_of}
+use Rattle.tmr_top.specs.Loaded.{HoldsBytes}
 use Rattle.tmr_top.specs.Files.{OfEach, IsFine}
 use Rattle.tmr_top.specs.Outcomes.{Outcome}
 use Rattle.tmr_top.specs.Runs.{Untouched}
@@ -26,6 +29,11 @@ pub record IsWork (c : Command) (held : Contents) (work : Work) : Type 0 where
 abbrev pub Tells : PairTask → ReadPair → List ℕ → Type 0
 Tells task.Validate r text = text ≡ accepted_line r.certificate (count_by (λ bit. bit) r.free) (count_by (λ bit. bit) r.hardened_free)
 Tells task.Report r text = IsReport r.original r.hardened r.certificate text
+
+-- the file of the task's schedule, where it has one, holds the bytes that were loaded
+abbrev pub HoldsTask : Contents → FileTask → Type 0
+HoldsTask held (file_task.Tell task) = Unit {0}
+HoldsTask held (file_task.Replay s) = HoldsBytes held (schedule_file s.name.now) s.bytes.now
 
 -- where the command is done there are as many texts to be saved as names
 abbrev pub HasTexts : Command → Work → Type 0

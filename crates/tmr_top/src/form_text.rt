@@ -22,7 +22,8 @@ pub struct FormNumbers {
     pub depth: u32,
 }
 
-fn yes_or_no(is: bool) -> &'static [u8]
+/// `yes` or `no`.
+pub fn yes_or_no(is: bool) -> &'static [u8]
     ensures { result.now ≡ yes_or_no is }
 {
     if is {

@@ -14,11 +14,15 @@ mod pair_task;
 mod performing;
 mod program;
 mod reasons;
+mod replay_text;
+mod replay_words;
+mod replaying;
 mod saves;
 mod status;
 mod taker;
 mod texts;
 mod validation;
+mod waves;
 mod words;
 
 pub use program::run;

@@ -1,17 +1,19 @@
 //! What the words of the command line mean.
-ghost use Rattle.std.specs.Prelude.{◌≡◌, ◌<◌, IfOk, IfSome};
+ghost use Rattle.std.specs.Prelude.{◌≡◌, ◌<◌, ◌∷◌, [], IfOk, IfSome};
 ghost use Rattle.std.specs.Option.{option_map};
 ghost use Rattle.tmr_top.specs.Words.{texts};
 ghost use Rattle.tmr_top.specs.WordsRead.{words_in};
-ghost use Rattle.tmr_top.specs.Line.{Validate, Report, is_file, pair_of, over_pair, flattening_of, positive_number, version_number, said, hardening_with, hardening_of, line_of};
-ghost use Rattle.tmr_top.specs.FileWords.{pair_in, command_in, read_words as read_texts};
+ghost use Rattle.tmr_top.specs.Line.{Validate, Report, is_file, pair_of, over_pair, flattening_of, replay_over, replaying_of, waving_of, positive_number, version_number, said, hardening_with, hardening_of, line_of};
+ghost use Rattle.tmr_top.specs.FileWords.{pair_in, word_in, command_in, read_words as read_texts};
 
 use crate::harden_words::HardenWords;
+use crate::replay_words::ReplayWords;
 use crate::words::{ReadWords, is_plain, read_words};
 use std::alloc::{AllocError, Global};
 use tmr_base::read_u32;
 
-/// The three file words of `validate ORIG HARD CERT` and of `report ORIG HARD CERT`.
+/// The three file words of `validate ORIG HARD CERT` and of `report ORIG HARD CERT`, which others
+/// begin with.
 #[derive(Clone, Copy, Drop)]
 pub struct PairWords<'a> {
     pub original: &'a str,
@@ -32,7 +34,27 @@ pub enum CommandWords<'a> {
     Validate(PairWords<'a>),
     Harden(HardenWords<'a>),
     Flatten(FlatWords<'a>),
+    Replay(ReplayWords<'a>),
     Report(PairWords<'a>),
+}
+
+/// A pair of these files, where none is empty.
+#[tactic(auto, unfolding(crate::specs::Line::pair_of))]
+fn pair_with<'a>(
+    original: &'a str,
+    hardened: &'a str,
+    certificate: &'a str,
+) -> Option<PairWords<'a>>
+    ensures { option_map pair_in result ≡ pair_of (original.now ∷ hardened.now ∷ certificate.now ∷ []) }
+{
+    if original.is_empty() || hardened.is_empty() || certificate.is_empty() {
+        return None;
+    }
+    Some(PairWords {
+        original,
+        hardened,
+        certificate,
+    })
 }
 
 /// A pair, where there are three words and none is empty.
@@ -41,16 +63,7 @@ fn read_pair<'a>(plain: &[&'a str]) -> Option<PairWords<'a>>
     ensures { option_map pair_in result ≡ pair_of (read_texts plain.now) }
 {
     match plain {
-        [original, hardened, certificate] => {
-            if original.is_empty() || hardened.is_empty() || certificate.is_empty() {
-                return None;
-            }
-            Some(PairWords {
-                original: *original,
-                hardened: *hardened,
-                certificate: *certificate,
-            })
-        }
+        [original, hardened, certificate] => pair_with(*original, *hardened, *certificate),
         _ => None,
     }
 }
@@ -89,6 +102,61 @@ fn read_flattening<'a>(plain: &[&'a str]) -> Option<CommandWords<'a>>
                 original: *original,
                 flat: *flat,
             }))
+        }
+        _ => None,
+    }
+}
+
+/// A replay over a pair, where there is one and the schedule's word is not empty.
+fn replay_over<'a>(
+    pair: Option<PairWords<'a>>,
+    schedule: &'a str,
+    waves: Option<&'a str>,
+) -> Option<CommandWords<'a>>
+    ensures { option_map command_in result
+        ≡ replay_over (option_map pair_in pair.entry) schedule.now (word_in waves.entry) }
+{
+    match pair {
+        None => None,
+        Some(pair) => {
+            if schedule.is_empty() {
+                return None;
+            }
+            Some(CommandWords::Replay(ReplayWords {
+                pair,
+                schedule,
+                waves,
+            }))
+        }
+    }
+}
+
+/// `replay`, where there are four words and none is empty.
+#[tactic(auto, unfolding(crate::specs::Line::replaying_of))]
+fn read_replaying<'a>(plain: &[&'a str]) -> Option<CommandWords<'a>>
+    ensures { option_map command_in result ≡ replaying_of (read_texts plain.now) }
+{
+    match plain {
+        [original, hardened, certificate, schedule] => {
+            let pair = pair_with(*original, *hardened, *certificate);
+            replay_over(pair, *schedule, None)
+        }
+        _ => None,
+    }
+}
+
+/// `wave`, where there are five words and none is empty.
+#[tactic(auto, unfolding(crate::specs::Line::waving_of))]
+fn read_waving<'a>(plain: &[&'a str]) -> Option<CommandWords<'a>>
+    ensures { option_map command_in result ≡ waving_of (read_texts plain.now) }
+{
+    match plain {
+        [original, hardened, certificate, schedule, waves] => {
+            if waves.is_empty() {
+                return None;
+            }
+            let pair = pair_with(*original, *hardened, *certificate);
+            replay_over(pair, *schedule, Some(*waves))
         }
         _ => None,
     }
@@ -223,8 +291,14 @@ pub fn read_line<'a>(
     if command.as_str() == "flatten" {
         return Ok(read_flattening(read.plain.as_slice()));
     }
+    if command.as_str() == "replay" {
+        return Ok(read_replaying(read.plain.as_slice()));
+    }
     if command.as_str() == "report" {
         return Ok(read_report(read.plain.as_slice()));
+    }
+    if command.as_str() == "wave" {
+        return Ok(read_waving(read.plain.as_slice()));
     }
     Ok(None)
 }

@@ -4,13 +4,14 @@ ghost use Rattle.blif_text.specs.Reader.{StandsFor, most_bytes};
 ghost use Rattle.tmr_outside.specs.Counts.{NoneFell, NoneRose};
 ghost use Rattle.tmr_outside.specs.Pieces.{TakesFile};
 ghost use Rattle.tmr_outside.specs.Seen.{IsTold};
-ghost use Rattle.tmr_top.specs.FileWords.{pair_in, command_in, load_in};
-ghost use Rattle.tmr_top.specs.Loads.{load_name, loads_of, pair_files, original_file as original_load, hardened_file as hardened_load, certificate_file as certificate_load};
+ghost use Rattle.tmr_top.specs.FileWords.{pair_in, replaying_in, command_in, load_in};
+ghost use Rattle.tmr_top.specs.Loads.{load_name, loads_of, pair_files, replay_files, schedule_file as schedule_load, original_file as original_load, hardened_file as hardened_load, certificate_file as certificate_load};
 ghost use Rattle.tmr_top.specs.Changes.{ChangesOnly};
 ghost use Rattle.tmr_top.specs.Loaded.{HoldsText, HoldsBytes, Loads, IsStop, IsSteadyStop};
 
 use crate::file_words::{FileKind, LoadWords};
 use crate::line::{CommandWords, PairWords};
+use crate::replay_words::ReplayWords;
 use crate::taker::TextTaker;
 use blif_text::{Library, TextFault};
 use std::alloc::Global;
@@ -25,6 +26,9 @@ pub const HARDENED_LIMIT: u64 = 1_073_741_824;
 
 /// The most bytes of a certificate.
 pub const CERTIFICATE_LIMIT: u64 = 1_073_741_824;
+
+/// The most bytes of a schedule.
+pub const SCHEDULE_LIMIT: u64 = 16_777_216;
 
 /// Why loads came to no end, and at the file of which name.
 #[derive(Clone, Copy, Debug, PartialEq, Eq, Drop)]
@@ -74,6 +78,17 @@ fn certificate_file<'a>(name: &'a str) -> LoadWords<'a>
     }
 }
 
+/// A schedule.
+fn schedule_file<'a>(name: &'a str) -> LoadWords<'a>
+    ensures { load_in result ≡ schedule_load name.now }
+{
+    LoadWords {
+        name,
+        limit: SCHEDULE_LIMIT,
+        kind: FileKind::Bytes,
+    }
+}
+
 /// The three files of a pair, which come first.
 fn push_pair<'a>(loads: &mut Vec<LoadWords<'a>>, pair: &PairWords<'a>) -> Result<(), OutOfMemory>
     requires { loads.old.items ≡ [] }
@@ -82,6 +97,19 @@ fn push_pair<'a>(loads: &mut Vec<LoadWords<'a>>, pair: &PairWords<'a>) -> Result
     loads.push(original_file(pair.original))?;
     loads.push(hardened_file(pair.hardened))?;
     loads.push(certificate_file(pair.certificate))?;
+    Ok(())
+}
+
+/// The files of a replay.
+fn push_replay<'a>(
+    loads: &mut Vec<LoadWords<'a>>,
+    replay: &ReplayWords<'a>,
+) -> Result<(), OutOfMemory>
+    requires { loads.old.items ≡ [] }
+    ensures { OnOk result (map load_in loads.new.items ≡ replay_files (replaying_in replay.now)) }
+{
+    push_pair(loads, &replay.pair)?;
+    loads.push(schedule_file(replay.schedule))?;
     Ok(())
 }
 
@@ -97,6 +125,7 @@ pub fn list_loads<'a>(
         CommandWords::Validate(pair) => push_pair(&mut loads, pair)?,
         CommandWords::Harden(harden) => loads.push(original_file(harden.original))?,
         CommandWords::Flatten(flat) => loads.push(original_file(flat.original))?,
+        CommandWords::Replay(replay) => push_replay(&mut loads, replay)?,
         CommandWords::Report(pair) => push_pair(&mut loads, pair)?,
     }
     Ok(loads)

@@ -22,7 +22,7 @@ use crate::loads::{Loaded, list_loads, load_all};
 use crate::pair_task::PairTask;
 use crate::saves::{SaveStop, list_saves, save_all};
 use crate::texts::save_fault;
-use crate::validation::judge_files;
+use crate::validation::{judge_files, replay_files};
 use std::alloc::Global;
 use tmr_base::OutOfMemory;
 use tmr_outside::Files;
@@ -38,6 +38,7 @@ fn work(alloc: Global, words: &CommandWords, loaded: &[Loaded]) -> Result<Work, 
         CommandWords::Validate(pair) => judge_files(alloc, PairTask::Validate, pair, loaded),
         CommandWords::Harden(words) => harden(alloc, words, loaded),
         CommandWords::Flatten(flat) => flatten(alloc, flat, loaded),
+        CommandWords::Replay(replay) => replay_files(alloc, replay, loaded),
         CommandWords::Report(pair) => judge_files(alloc, PairTask::Report, pair, loaded),
     }
 }

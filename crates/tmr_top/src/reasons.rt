@@ -3,13 +3,14 @@ ghost use Rattle.std.specs.Prelude.{◌≡◌, IfOk};
 ghost use Rattle.tmr_top.specs.Texts.{line_reason};
 ghost use Rattle.std.specs.Prelude.{◌≢◌, ◌++◌, ◌∷◌, [], codes, OnOk};
 ghost use Rattle.tmr_top.specs.Texts.{joined};
-ghost use Rattle.tmr_top.specs.Reasons.{kind_text, spaced, fault_reason as reason_of_fault, flat_reason as reason_of_flat, cert_reason as reason_of_cert};
+ghost use Rattle.tmr_top.specs.Reasons.{kind_text, spaced, fault_reason as reason_of_fault, flat_reason as reason_of_flat, cert_reason as reason_of_cert, schedule_reason as reason_of_schedule};
 
-use crate::texts::{at_line, join};
+use crate::texts::{at_line, counted, join};
 use blif_text::TextKind;
 use certificate::CertFault;
 use flat_net::NetFault;
 use hierarchy::FlatFault;
+use schedule_replay::ScheduleFault;
 use std::alloc::Global;
 use tmr_base::{Name, OutOfMemory};
 
@@ -59,6 +60,25 @@ fn naming(alloc: Global, text: &str, name: &Name) -> Result<Vec<u8>, OutOfMemory
     ensures { IfOk result (λ reason. reason.items ≡ joined (text.now ∷ name.now ∷ [])) }
 {
     join(alloc, &[text.as_bytes(), name.bytes()])
+}
+
+/// The reason of a schedule that is refused.
+pub fn schedule_reason(alloc: Global, fault: ScheduleFault) -> Result<Vec<u8>, OutOfMemory>
+    ensures reason { IfOk result (λ reason. reason.items ≡ reason_of_schedule fault) }
+    ensures caused { OnOk result (fault ≢ ScheduleFault.Memory) }
+{
+    match fault {
+        ScheduleFault::NotToml => Ok(b"not TOML".to_vec(alloc)?),
+        ScheduleFault::Top => Ok(b"bad top".to_vec(alloc)?),
+        ScheduleFault::TooMany => Ok(b"too many".to_vec(alloc)?),
+        ScheduleFault::Row(t) => counted(alloc, b"bad inputs row ", t as u64),
+        ScheduleFault::Entry(j) => counted(alloc, b"bad upset ", j as u64),
+        ScheduleFault::UnknownNet(j) => counted(alloc, b"unknown net in upset ", j as u64),
+        ScheduleFault::Range(j) => counted(alloc, b"cycle out of range in upset ", j as u64),
+        ScheduleFault::Doubled(j) => counted(alloc, b"doubled upset ", j as u64),
+        ScheduleFault::Start => Ok(b"bad start".to_vec(alloc)?),
+        ScheduleFault::Memory => Err(OutOfMemory),
+    }
 }
 
 /// Puts each name with a blank before it.

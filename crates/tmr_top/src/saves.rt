@@ -1,7 +1,7 @@
 //! Texts, saved one after the other.
 ghost use Rattle.std.specs.Prelude.{◌≡◌, ◌∷◌, [], length, IfOk, IfErr, OnOk};
-ghost use Rattle.tmr_top.specs.FileWords.{command_in, read_words, texts_in};
-ghost use Rattle.tmr_top.specs.Loads.{saves_of};
+ghost use Rattle.tmr_top.specs.FileWords.{command_in, read_words, texts_in, word_in};
+ghost use Rattle.tmr_top.specs.Loads.{saves_of, wave_names};
 ghost use Rattle.tmr_top.specs.Changes.{ChangesOnly};
 ghost use Rattle.tmr_top.specs.Saved.{Saves, IsSaveStop};
 
@@ -17,6 +17,20 @@ pub enum SaveStop<'a> {
     Memory,
 }
 
+/// The name that waves are saved under, where there is one.
+fn push_waves<'a>(names: &mut Vec<&'a str>, waves: Option<&'a str>) -> Result<(), OutOfMemory>
+    requires { names.old.items ≡ [] }
+    ensures { OnOk result (read_words names.new.items ≡ wave_names (word_in waves.entry)) }
+{
+    match waves {
+        None => Ok(()),
+        Some(name) => {
+            names.push(name)?;
+            Ok(())
+        }
+    }
+}
+
 /// The names that a command saves, in this order.
 pub fn list_saves<'a>(alloc: Global, words: &CommandWords<'a>) -> Result<Vec<&'a str>, OutOfMemory>
     ensures { IfOk result (λ names. read_words names.items ≡ saves_of (command_in words.now)) }
@@ -29,6 +43,7 @@ pub fn list_saves<'a>(alloc: Global, words: &CommandWords<'a>) -> Result<Vec<&'a
             names.push(harden.certificate)?;
         }
         CommandWords::Flatten(flat) => names.push(flat.flat)?,
+        CommandWords::Replay(replay) => push_waves(&mut names, replay.waves)?,
         CommandWords::Report(_) => {}
     }
     Ok(names)

@@ -1,14 +1,16 @@
-//! `validate ORIG HARD CERT` and `report ORIG HARD CERT`: a pair is read and checked, and what is told of it goes by the task.
+//! Commands over a pair: it is read and checked, and what is told of it goes by the task.
 ghost use Rattle.std.specs.Prelude.{◌≡◌, ◌≤◌, length, IfOk};
+ghost use Rattle.flat_net.specs.Net.{net_count};
 ghost use Rattle.certificate.specs.Cert.{Fits};
 ghost use Rattle.certificate.specs.Rules.{FreeCorresponds};
 ghost use Rattle.tmr_outside.specs.Contents.{Contents};
-ghost use Rattle.tmr_top.specs.FileWords.{pair_in, task_over};
-ghost use Rattle.tmr_top.specs.Loads.{original_file, hardened_file, certificate_file, pair_files};
+ghost use Rattle.tmr_top.specs.Line.{Replay};
+ghost use Rattle.tmr_top.specs.FileWords.{pair_in, replaying_in, task_over, files_over};
+ghost use Rattle.tmr_top.specs.Loads.{original_file, hardened_file, certificate_file, pair_files, loads_of};
 ghost use Rattle.tmr_top.specs.Loaded.{HoldsText, HoldsBytes, HoldsEach, FitsEach};
 ghost use Rattle.tmr_top.specs.Designs.{HoldsDesign};
 ghost use Rattle.tmr_top.specs.Pairs.{HoldsCertificate};
-ghost use Rattle.tmr_top.specs.Works.{IsWork, HasTexts, Tells};
+ghost use Rattle.tmr_top.specs.Works.{IsWork, HasTexts, HoldsTask, Tells};
 
 use crate::decision::{Verdict, Work, refusal};
 use crate::designs::{Unread, read_design};
@@ -16,6 +18,8 @@ use crate::line::PairWords;
 use crate::loads::{HARDENED_LIMIT, Loaded, ORIGINAL_LIMIT};
 use crate::pair_task::PairTask;
 use crate::reasons::cert_reason;
+use crate::replay_words::{FileTask, ReplayWords, ScheduleFile};
+use crate::replaying::judge_schedule;
 use crate::texts::{accepted, not_accepted};
 use blif_text::{Library, TextFault};
 use certificate::{Certificate, read_cert};
@@ -88,26 +92,54 @@ fn judge_pair(
     }
 }
 
+/// The work where the pair is read.
+fn judge_read(
+    alloc: Global,
+    task: FileTask,
+    words: &PairWords,
+    n: &FreeNet,
+    h: &FreeNet,
+    c: &Certificate,
+) -> Result<Work, OutOfMemory>
+    requires fits { Fits n.now.design.net h.now.design.net c.now }
+    requires small { net_count n.now.design.net ≤ 4194304 }
+    ensures texts { IfOk result (HasTexts (files_over task.entry (pair_in words.now))) }
+    ensures judged { (held : Contents)
+        → HoldsDesign held (original_file words.now.original.now) n.now.design.net n.now.free
+        → HoldsDesign held (hardened_file words.now.hardened.now) h.now.design.net h.now.free
+        → HoldsCertificate held (certificate_file words.now.certificate.now)
+        n.now.design.net h.now.design.net c.now
+        → HoldsTask held task.entry
+        → IfOk result (IsWork (files_over task.entry (pair_in words.now)) held) }
+{
+    match task {
+        FileTask::Tell(task) => judge_pair(alloc, task, words, n, h, c),
+        FileTask::Replay(schedule) => judge_schedule(alloc, &schedule, words, n, h, c),
+    }
+}
+
 /// The work where both designs are read.
 #[tactic(auto, using(crate::proofs::PairLaws::certificate_refusals))]
 fn judge_certificate(
     alloc: Global,
-    task: PairTask,
+    task: FileTask,
     words: &PairWords,
     n: &FreeNet,
     h: &FreeNet,
     certificate: &[u8],
 ) -> Result<Work, OutOfMemory>
-    requires { length certificate.now ≤ 1073741824 }
-    ensures texts { IfOk result (HasTexts (task_over task (pair_in words.now))) }
+    requires short { length certificate.now ≤ 1073741824 }
+    requires small { net_count n.now.design.net ≤ 4194304 }
+    ensures texts { IfOk result (HasTexts (files_over task.entry (pair_in words.now))) }
     ensures judged { (held : Contents)
         → HoldsDesign held (original_file words.now.original.now) n.now.design.net n.now.free
         → HoldsDesign held (hardened_file words.now.hardened.now) h.now.design.net h.now.free
         → HoldsBytes held (certificate_file words.now.certificate.now) certificate.now
-        → IfOk result (IsWork (task_over task (pair_in words.now)) held) }
+        → HoldsTask held task.entry
+        → IfOk result (IsWork (files_over task.entry (pair_in words.now)) held) }
 {
     match read_cert(alloc, certificate, n.net(), h.net()) {
-        Ok(read) => judge_pair(alloc, task, words, n, h, &read),
+        Ok(read) => judge_read(alloc, task, words, n, h, &read),
         Err(fault) => {
             let reason = cert_reason(alloc, fault)?;
             refusal(alloc, words.certificate, &reason)
@@ -119,19 +151,21 @@ fn judge_certificate(
 #[tactic(auto, using(crate::proofs::PairLaws::hardened_refusals))]
 fn judge_hardened(
     alloc: Global,
-    task: PairTask,
+    task: FileTask,
     words: &PairWords,
     n: &FreeNet,
     hardened: &Result<Library, TextFault>,
     certificate: &[u8],
 ) -> Result<Work, OutOfMemory>
-    requires { length certificate.now ≤ 1073741824 }
-    ensures texts { IfOk result (HasTexts (task_over task (pair_in words.now))) }
+    requires short { length certificate.now ≤ 1073741824 }
+    requires small { net_count n.now.design.net ≤ 4194304 }
+    ensures texts { IfOk result (HasTexts (files_over task.entry (pair_in words.now))) }
     ensures judged { (held : Contents)
         → HoldsDesign held (original_file words.now.original.now) n.now.design.net n.now.free
         → HoldsText held (hardened_file words.now.hardened.now) hardened.now
         → HoldsBytes held (certificate_file words.now.certificate.now) certificate.now
-        → IfOk result (IsWork (task_over task (pair_in words.now)) held) }
+        → HoldsTask held task.entry
+        → IfOk result (IsWork (files_over task.entry (pair_in words.now)) held) }
 {
     match read_design(alloc, hardened, HARDENED_LIMIT) {
         Ok(h) => judge_certificate(alloc, task, words, n, &h, certificate),
@@ -144,19 +178,20 @@ fn judge_hardened(
 #[tactic(auto, using(crate::proofs::PairLaws::original_refusals))]
 fn judge(
     alloc: Global,
-    task: PairTask,
+    task: FileTask,
     words: &PairWords,
     original: &Result<Library, TextFault>,
     hardened: &Result<Library, TextFault>,
     certificate: &[u8],
 ) -> Result<Work, OutOfMemory>
     requires { length certificate.now ≤ 1073741824 }
-    ensures texts { IfOk result (HasTexts (task_over task (pair_in words.now))) }
+    ensures texts { IfOk result (HasTexts (files_over task.entry (pair_in words.now))) }
     ensures judged { (held : Contents)
         → HoldsText held (original_file words.now.original.now) original.now
         → HoldsText held (hardened_file words.now.hardened.now) hardened.now
         → HoldsBytes held (certificate_file words.now.certificate.now) certificate.now
-        → IfOk result (IsWork (task_over task (pair_in words.now)) held) }
+        → HoldsTask held task.entry
+        → IfOk result (IsWork (files_over task.entry (pair_in words.now)) held) }
 {
     match read_design(alloc, original, ORIGINAL_LIMIT) {
         Ok(n) => judge_hardened(alloc, task, words, &n, hardened, certificate),
@@ -183,7 +218,41 @@ pub fn judge_files(
             Loaded::Netlist(original),
             Loaded::Netlist(hardened),
             Loaded::Bytes(certificate),
-        ] => { judge(alloc, task, words, original, hardened, certificate) }
+        ] => {
+            let told = FileTask::Tell(task);
+            judge(alloc, told, words, original, hardened, certificate)
+        }
+        _ => unreachable!(),
+    }
+}
+
+/// The work of a replay, where its files are loaded.
+pub fn replay_files(
+    alloc: Global,
+    words: &ReplayWords,
+    loaded: &[Loaded],
+) -> Result<Work, OutOfMemory>
+    requires { FitsEach (loads_of (Replay (replaying_in words.now))) loaded.now }
+    ensures texts { IfOk result (HasTexts (Replay (replaying_in words.now))) }
+    ensures work { (held : Contents)
+        → HoldsEach held (loads_of (Replay (replaying_in words.now))) loaded.now
+        → IfOk result (IsWork (Replay (replaying_in words.now)) held) }
+{
+    match loaded {
+        [
+            Loaded::Netlist(original),
+            Loaded::Netlist(hardened),
+            Loaded::Bytes(certificate),
+            Loaded::Bytes(schedule),
+        ] => {
+            let file = ScheduleFile {
+                name: words.schedule,
+                bytes: schedule.as_slice(),
+                waves: words.waves,
+            };
+            let replay = FileTask::Replay(file);
+            judge(alloc, replay, &words.pair, original, hardened, certificate)
+        }
         _ => unreachable!(),
     }
 }

@@ -1,0 +1,285 @@
+-- What a replay comes to.
+use Rattle.std.proofs.Common.{◌≡◌, ◌≢◌, ℕ, zero, suc, ◌+◌, ◌*◌, ◌<◌, ◌≤◌, ◌⊎◌, inl, inr, Bool, true, false, List, [], ◌∷◌, ◌++◌, length, take, drop, get_or, filter, All, Option, Some, None, Result, Ok, Err, refl, sym, ap, ◌∙◌, subst, append_assoc, add-one, drop-cons, arith}
+use Rattle.std.specs.Prelude.{IfOk, IsTrue, nat_eq, nat_lt, slice_get, slice_index, codes, if◌then◌else◌}
+use Rattle.std.specs.Option.{unwrap_or}
+use Rattle.std.proofs.lemmas.Bool.{eq-eqb, ne_eqb}
+use Rattle.std.proofs.lemmas.Bool.Decides.{nat_tests}
+use Rattle.std.proofs.lemmas.List.{nil_from_length, length-drop, append-nil}
+use Rattle.std.proofs.lemmas.List.Elements.{All-append, All-filter, All-take, All-weaker}
+use Rattle.std.proofs.lemmas.Option.{get_or_from_slice_get}
+use Rattle.tmr_base.specs.declared.ids.Upset.{Upset}
+use Rattle.flat_net.specs.Net.{Net, Design, name_of, node_of, net_count}
+use Rattle.flat_net.specs.Free.{node_bit}
+use Rattle.net_meaning.specs.Meaning.{upset_at, start_at, net_value, row_at, row_before, spread, IsFreeFaultTrace, HasOneTrace}
+use Rattle.certificate.specs.Cert.{PlainCert, IsCert}
+use Rattle.certificate.specs.Rules.{FreeCorresponds, IsFirstFreeFailure}
+use Rattle.certificate.specs.Starts.{counted, spread_start}
+use Rattle.validator.proofs.Starts.{node_bit_none}
+use Rattle.schedule_replay.specs.declared.fault.ScheduleFault.{ScheduleFault}
+use Rattle.schedule_replay.specs.declared.fault.ScheduleFault.TheVariants as fault
+use Rattle.schedule_replay.specs.declared.outcome.Difference.{Difference}
+use Rattle.schedule_replay.specs.Document.{Listed, sched_of}
+use Rattle.schedule_replay.specs.Entries.{HasWhatIsListed}
+use Rattle.schedule_replay.specs.Gives.{Fails}
+use Rattle.schedule_replay.specs.Outcome.{PlainOutcome, IsReplayOf, IsFreeReplay, outputs_in, outputs_until, output_at, differs}
+use Rattle.schedule_replay.specs.Reading.{IsReadAs}
+use Rattle.schedule_replay.specs.Schedule.{PlainSchedule}
+use Rattle.schedule_replay.specs.Starts.{placed_starts, given_starts}
+use Rattle.schedule_replay.proofs.Quiet.{three_outputs}
+use Rattle.tmr_outside.specs.Contents.{Contents}
+use Rattle.tmr_top.specs.declared.decision.Work.{Work}
+use Rattle.tmr_top.specs.declared.decision.Verdict.{Verdict}
+use Rattle.tmr_top.specs.declared.decision.Verdict.TheVariants.{Done, NotAccepted, Refused}
+use Rattle.tmr_top.specs.FileWords.{texts_in}
+use Rattle.tmr_top.specs.Files.{Holds}
+use Rattle.tmr_top.specs.Line.{Replaying, Pair, Replay, Validate}
+use Rattle.tmr_top.specs.Loads.{Load, original_file, hardened_file, certificate_file, schedule_file}
+use Rattle.tmr_top.specs.Loaded.{HoldsBytes}
+use Rattle.tmr_top.specs.Designs.{HoldsDesign}
+use Rattle.tmr_top.specs.Pairs.{ReadPair, HoldsPair, HoldsCertificate, Accepts, Masked}
+use Rattle.tmr_top.specs.Reasons.{schedule_reason}
+use Rattle.tmr_top.specs.ReplayText.{output_name, difference_line, difference_lines, replay_lines}
+use Rattle.tmr_top.specs.Replayed.{HoldsSchedule, HoldsNoSchedule, ReadFiles, SavesWaves, is_too_large}
+use Rattle.tmr_top.specs.Replaying.{ReadsSchedule, IsTold}
+use Rattle.tmr_top.specs.Texts.{not_accepted_line, refused_line}
+use Rattle.tmr_top.specs.Works.{IsWork}
+use Rattle.tmr_top.proofs.PairLaws.{outcome_work}
+
+-- ---- answers
+
+-- what holds of an answer that is Ok goes over to what follows from it
+pub if_ok : {A E : Type 0} (r : Result A E) (P Q : A → Type 0) → ((x : A) → P x → Q x) → IfOk r P → IfOk r Q
+if_ok (Ok x) P Q f p = f x p
+if_ok (Err e) P Q f p = p
+
+pub both_ok : {A E : Type 0} (r : Result A E) (P Q R : A → Type 0) → ((x : A) → P x → Q x → R x) → IfOk r P → IfOk r Q → IfOk r R
+both_ok (Ok x) P Q R f p q = f x p q
+both_ok (Err e) P Q R f p q = p
+
+-- ---- texts
+
+pub named_output : (n : Net) (k x : ℕ) (name : List ℕ) → slice_get n.outputs k ≡ Some x → name ≡ name_of n x → name ≡ output_name n k
+named_output n k x name at is = is ∙ ap (name_of n) (sym (get_or_from_slice_get n.outputs k x 0 at))
+
+pub ruleset names = (named_output)
+
+next : {A : Type 0} (i : ℕ) (xs : List A) (d : A) → i < length xs → drop i xs ≡ get_or xs i d ∷ drop (i + 1) xs
+next i xs d h = rw (add-one, drop-cons xs i d) refl
+
+-- one line more
+pub difference_put : (n : Net) (text line : List ℕ) (ds : List Difference) (i : ℕ) (d : Difference) (whole : List ℕ) → i < length ds → line ≡ difference_line n (get_or ds i d) → text ++ difference_lines n (drop i ds) ≡ whole → (text ++ line) ++ difference_lines n (drop (i + 1) ds) ≡ whole
+difference_put n text line ds i d whole h is e =
+    append_assoc text line (difference_lines n (drop (i + 1) ds))
+    ∙ (ap (λ (l : List ℕ). text ++ (l ++ difference_lines n (drop (i + 1) ds))) is
+    ∙ (ap (λ (xs : List Difference). text ++ difference_lines n xs) (sym (next i ds d h)) ∙ e))
+
+pub all_put : (n : Net) (text : List ℕ) (ds : List Difference) (i : ℕ) (whole : List ℕ) → length ds ≤ i → text ++ difference_lines n (drop i ds) ≡ whole → text ≡ whole
+all_put n text ds i whole h e =
+    let none : drop i ds ≡ [] = nil_from_length (drop i ds) (omega (arith, length-drop i ds)) in
+    sym (append-nil text) ∙ (ap (λ (xs : List Difference). text ++ difference_lines n xs) (sym none) ∙ e)
+
+pub ruleset differences = (difference_put, all_put)
+
+-- ---- reading, by the version of the certificate
+
+counted_none : (k : PlainCert) (free : List Bool) → k.version ≡ 1 → counted k free ≡ []
+counted_none k free e = ap (λ (b : Bool). if b then [] else free) (eq-eqb k.version 1 e)
+
+counted_all : (k : PlainCert) (free : List Bool) → k.version ≢ 1 → counted k free ≡ free
+counted_all k free e = ap (λ (b : Bool). if b then [] else free) (ne_eqb k.version 1 e)
+
+pub version_two : (k : PlainCert) → IsCert k → k.version ≢ 1 → k.version ≡ 2
+version_two k is other = go is.known_version
+  where
+    go : (k.version ≡ 1) ⊎ (k.version ≡ 2) → k.version ≡ 2
+    go (inl e) = absurd (other e)
+    go (inr e) = e
+
+same_plain : (k : PlainCert) (bytes : List ℕ) (n h : Net) (free : List Bool) → k.version ≡ 1 → sched_of 1 bytes n [] h ≡ sched_of k.version bytes n (counted k free) h
+same_plain k bytes n h free e = ap (λ (v : ℕ). sched_of v bytes n [] h) (sym e) ∙ ap (λ (f : List Bool). sched_of k.version bytes n f h) (sym (counted_none k free e))
+
+same_free : (k : PlainCert) (bytes : List ℕ) (n h : Net) (free : List Bool) → k.version ≢ 1 → k.version ≡ 2 → sched_of 2 bytes n free h ≡ sched_of k.version bytes n (counted k free) h
+same_free k bytes n h free other e = ap (λ (v : ℕ). sched_of v bytes n free h) (sym e) ∙ ap (λ (f : List Bool). sched_of k.version bytes n f h) (sym (counted_all k free other))
+
+pub read_plain : (k : PlainCert) (bytes : List ℕ) (n h : Net) (free : List Bool) (s : PlainSchedule) → k.version ≡ 1 → IsReadAs (length n.inputs) (sched_of 1 bytes n [] h) s → IsReadAs (length n.inputs) (sched_of k.version bytes n (counted k free) h) s
+read_plain k bytes n h free s e is = subst (λ (r : Result Listed ScheduleFault). IsReadAs (length n.inputs) r s) (same_plain k bytes n h free e) is
+
+pub read_free : (k : PlainCert) (bytes : List ℕ) (n h : Net) (free : List Bool) (s : PlainSchedule) → k.version ≢ 1 → k.version ≡ 2 → IsReadAs (length n.inputs) (sched_of 2 bytes n free h) s → IsReadAs (length n.inputs) (sched_of k.version bytes n (counted k free) h) s
+read_free k bytes n h free s other e is = subst (λ (r : Result Listed ScheduleFault). IsReadAs (length n.inputs) r s) (same_free k bytes n h free other e) is
+
+pub fails_plain : (k : PlainCert) (bytes : List ℕ) (n h : Net) (free : List Bool) (f : ScheduleFault) → k.version ≡ 1 → Fails f (sched_of 1 bytes n [] h) → Fails f (sched_of k.version bytes n (counted k free) h)
+fails_plain k bytes n h free f e is = subst (λ (r : Result Listed ScheduleFault). Fails f r) (same_plain k bytes n h free e) is
+
+pub fails_free : (k : PlainCert) (bytes : List ℕ) (n h : Net) (free : List Bool) (f : ScheduleFault) → k.version ≢ 1 → k.version ≡ 2 → Fails f (sched_of 2 bytes n free h) → Fails f (sched_of k.version bytes n (counted k free) h)
+fails_free k bytes n h free f other e is = subst (λ (r : Result Listed ScheduleFault). Fails f r) (same_free k bytes n h free other e) is
+
+pub ruleset readings = (version_two, read_plain, read_free, fails_plain, fails_free)
+
+-- ---- a replay where nothing is marked is one where no mark counts
+
+no_start : (n : Net) (w : List Bool) (x : ℕ) → start_at n [] w x ≡ None
+no_start n w x = ap (λ (b : Bool). if b then Some (node_bit (length n.inputs) w x) else None) (node_bit_none (length n.inputs) x)
+
+any_start : (n : Net) (u w : List Bool) (ins : List (List Bool)) (s : List Upset) (tr : List (List Bool)) → IsFreeFaultTrace n [] u ins s tr → IsFreeFaultTrace n [] w ins s tr
+any_start n u w ins s tr is = record {
+  long = is.long;
+  wide = is.wide;
+  equations = λ t x l h. is.equations t x l h ∙ ap (λ (o : Option Bool). unwrap_or (upset_at s t x) (net_value (node_of n x) o t (row_at ins t) (row_before tr t) (row_at tr t) x)) (no_start n u x ∙ sym (no_start n w x));
+}
+
+one_trace : (n : Net) (u w : List Bool) (ins : List (List Bool)) (s : List Upset) → HasOneTrace n [] u ins s → HasOneTrace n [] w ins s
+one_trace n u w ins s one = record {
+  trace = one.trace;
+  is_trace = any_start n u w ins s one.trace one.is_trace;
+  only = λ tr is. one.only tr (any_start n w u ins s tr is);
+}
+
+replay_with : (n h : Net) (u w : List Bool) (k : PlainCert) (s : PlainSchedule) (o : PlainOutcome) → IsReplayOf n [] [] h [] [] k s o → IsReplayOf n [] u h [] w k s o
+replay_with n h u w k s o is = record {
+  original = one_trace n [] u s.rows [] is.original;
+  hardened = one_trace h [] w (spread s.rows) s.upsets is.hardened;
+  outcome = λ tr ft one other. is.outcome tr ft (any_start n u [] s.rows [] tr one) (any_start h w [] (spread s.rows) s.upsets ft other);
+}
+
+free_replay : (n : Net) (f : List Bool) (h : Net) (g : List Bool) (k : PlainCert) (s : PlainSchedule) (o : PlainOutcome) → k.version ≡ 1 → IsReplayOf n [] [] h [] [] k s o → IsFreeReplay n f h g k s o
+free_replay n f h g k s o e is =
+    subst (λ (b : List Bool). IsReplayOf n (counted k f) (given_starts k f s) h b (spread_start k (given_starts k f s)) k s o) (sym (counted_none k g e))
+    (subst (λ (a : List Bool). IsReplayOf n a (placed_starts a s.starts) h [] (spread_start k (placed_starts a s.starts)) k s o) (sym (counted_none k f e))
+    (replay_with n h (placed_starts [] s.starts) (spread_start k (placed_starts [] s.starts)) k s o is))
+
+pub replay_plain : (a n : Design) (f : List Bool) (b h : Design) (g : List Bool) (k : PlainCert) (s : PlainSchedule) (o : PlainOutcome) → a ≡ n → b ≡ h → k.version ≡ 1 → IsReplayOf a.net [] [] b.net [] [] k s o → IsFreeReplay n.net f h.net g k s o
+replay_plain a n f b h g k s o one other e is =
+    free_replay n.net f h.net g k s o e
+    (subst (λ (d : Design). IsReplayOf n.net [] [] d.net [] [] k s o) other
+    (subst (λ (d : Design). IsReplayOf d.net [] [] b.net [] [] k s o) one is))
+
+pub ruleset replays = (version_two, replay_plain)
+
+-- ---- a replay of a pair that is accepted
+
+pub three_inputs : (n : Net) (f : List Bool) (h : Net) (g : List Bool) (k : PlainCert) → FreeCorresponds n f h g k → length h.inputs ≡ 3 * length n.inputs
+three_inputs n f h g k all = (all 1 0).inputs refl refl
+
+pub outputs_in_threes : (n : Net) (f : List Bool) (h : Net) (g : List Bool) (k : PlainCert) → FreeCorresponds n f h g k → length h.outputs ≡ 3 * length n.outputs
+outputs_in_threes n f h g k all = three_outputs n h k (λ place. (all 8 place).outputs refl)
+
+-- a difference is of some output
+abbrev IsOfOutput : ℕ → Difference → Type 0
+IsOfOutput count d = d.output < count
+
+lower : (i : ℕ) (d : Difference) → d.output < i → d.output < suc i
+lower i d l = omega arith
+
+one_more : (i : ℕ) (d : Difference) → d.output ≡ i → All (IsOfOutput (suc i)) (d ∷ [])
+one_more i d e zero x l = omega arith
+one_more i d e (suc j) x l = absurd (omega arith)
+
+shown_in : (n h : Net) (tr ft : List (List Bool)) (t i : ℕ) → All (IsOfOutput i) (outputs_in n h tr ft t i)
+shown_in n h tr ft t zero = λ j x l. absurd (omega arith)
+shown_in n h tr ft t (suc i) =
+    All-append (IsOfOutput (suc i)) (outputs_in n h tr ft t i) (output_at n h tr ft t i ∷ [])
+    (All-weaker (IsOfOutput i) (IsOfOutput (suc i)) (lower i) (outputs_in n h tr ft t i) (shown_in n h tr ft t i))
+    (one_more i (output_at n h tr ft t i) refl)
+
+shown_until : (n h : Net) (tr ft : List (List Bool)) (t : ℕ) → All (IsOfOutput (length n.outputs)) (outputs_until n h tr ft t)
+shown_until n h tr ft zero = λ j x l. absurd (omega arith)
+shown_until n h tr ft (suc t) = All-append (IsOfOutput (length n.outputs)) (outputs_until n h tr ft t) (outputs_in n h tr ft t (length n.outputs)) (shown_until n h tr ft t) (shown_in n h tr ft t (length n.outputs))
+
+pub shown_outputs : (n : Net) (f w : List Bool) (h : Net) (g u : List Bool) (k : PlainCert) (s : PlainSchedule) (o : PlainOutcome) → IsReplayOf n f w h g u k s o → All (λ d. d.output < length n.outputs) o.first
+shown_outputs n f w h g u k s o is =
+    let tr = is.original.trace in
+    let ft = is.hardened.trace in
+    let outcome = is.outcome tr ft is.original.is_trace is.hardened.is_trace in
+    subst (All (IsOfOutput (length n.outputs))) (sym outcome.counts.first_are)
+    (All-take (IsOfOutput (length n.outputs)) 1000 (filter differs (outputs_until n h tr ft (length s.rows)))
+    (All-filter differs (IsOfOutput (length n.outputs)) (outputs_until n h tr ft (length s.rows)) (shown_until n h tr ft (length s.rows))))
+
+pub told : (waves : Option (List ℕ)) (n : Net) (f : List Bool) (h : Net) (g : List Bool) (k : PlainCert) (s : PlainSchedule) (o : PlainOutcome) (saved : List (List ℕ)) (text : List ℕ) → IsFreeReplay n f h g k s o → (IsTrue o.allowed → (o.wrong ≡ 0) × (o.late ≡ 0)) → text ≡ replay_lines n s o → SavesWaves waves (record { original = n; free = f; hardened = h; hardened_free = g; certificate = k }) s saved → IsTold waves (record { original = n; free = f; hardened = h; hardened_free = g; certificate = k }) s saved text
+told waves n f h g k s o saved text replayed masked says saves = record { outcome = o; replayed = replayed; masked = masked; says = says; saves = saves }
+
+pub ruleset done = (three_inputs, outputs_in_threes, shown_outputs, told)
+
+-- ---- works
+
+module _ (held : Contents) (w : Replaying) (v : Work) (n h : Net) (a c : List Bool) (k : PlainCert) (one : HoldsDesign held (original_file w.pair.original) n a) (other : HoldsDesign held (hardened_file w.pair.hardened) h c) (read : HoldsCertificate held (certificate_file w.pair.certificate) n h k) where
+  abbrev pub pair_of_files : ReadPair
+  pair_of_files = record { original = n; free = a; hardened = h; hardened_free = c; certificate = k }
+
+  abbrev holds : HoldsPair held w.pair pair_of_files
+  holds = record { original_read = one; hardened_read = other; certificate_read = read }
+
+  nothing_masked : (p : Pair) → Replay w ≡ Validate p → v.verdict ≡ Done → Masked held p
+  nothing_masked p is = absurd cc
+
+  abbrev files_read : (s : PlainSchedule) (reads : ReadsSchedule held (schedule_file w.schedule) pair_of_files s) → ReadFiles w held
+  files_read s reads = record { pair = pair_of_files; holds = holds; listed = reads.listed; schedule_read = reads.read }
+
+  -- as many rows as are listed
+  same_size : (s : PlainSchedule) (reads : ReadsSchedule held (schedule_file w.schedule) pair_of_files s) (b : Bool) → is_too_large w.waves n (length s.rows) ≡ b → is_too_large w.waves n (length reads.listed.rows) ≡ b
+  same_size s reads b e = ap (λ (rows : List (List Bool)). is_too_large w.waves n (length rows)) (sym reads.is_listed.rows) ∙ e
+
+  pub replayed_work : (s : PlainSchedule) → ReadsSchedule held (schedule_file w.schedule) pair_of_files s → is_too_large w.waves n (length s.rows) ≡ false → FreeCorresponds n a h c k → v.verdict ≡ Done → IsTold w.waves pair_of_files s (texts_in v.saves.items) v.text.items → IsWork (Replay w) held v
+  replayed_work s reads room accepts is tells = outcome_work (Replay w) held v Done is
+      (record {
+        files = files_read s reads;
+        room = same_size s reads false room;
+        accepts = accepts;
+        schedule = s;
+        is_listed = reads.is_listed;
+        outcome = tells.outcome;
+        replayed = tells.replayed;
+        masked = tells.masked;
+        says = tells.says;
+        saves = tells.saves;
+      })
+      nothing_masked
+
+  pub denied_work : (s : PlainSchedule) (rule place : ℕ) → ReadsSchedule held (schedule_file w.schedule) pair_of_files s → is_too_large w.waves n (length s.rows) ≡ false → v.verdict ≡ NotAccepted → v.text.items ≡ not_accepted_line h rule place → IsFirstFreeFailure n a h c k rule place → IsWork (Replay w) held v
+  denied_work s rule place reads room is says first = outcome_work (Replay w) held v NotAccepted is
+      (record { files = files_read s reads; room = same_size s reads false room; rule = rule; place = place; first = first; says = says })
+      nothing_masked
+
+  pub large_work : (s : PlainSchedule) → ReadsSchedule held (schedule_file w.schedule) pair_of_files s → is_too_large w.waves n (length s.rows) ≡ true → v.verdict ≡ Refused → v.text.items ≡ refused_line w.schedule (codes "wave too large") → IsWork (Replay w) held v
+  large_work s reads large is says = outcome_work (Replay w) held v Refused is
+      (inr (inr (record { files = files_read s reads; large = same_size s reads true large; says = says })))
+      nothing_masked
+
+  pub schedule_work : (f : ScheduleFault) → HoldsNoSchedule held (schedule_file w.schedule) pair_of_files f → v.verdict ≡ Refused → v.text.items ≡ refused_line w.schedule (schedule_reason f) → IsWork (Replay w) held v
+  schedule_work f unread is says = outcome_work (Replay w) held v Refused is
+      (inr (inl (record { pair = pair_of_files; holds = holds; fault = f; unread = unread; says = says })))
+      nothing_masked
+
+-- a fault that is no want of memory is what reading gives
+pub schedule_fault : (f : ScheduleFault) (read : Result Listed ScheduleFault) → Fails f read → f ≢ fault.Memory → read ≡ Err f
+schedule_fault fault.NotToml read fails caused = fails
+schedule_fault fault.Top read fails caused = fails
+schedule_fault fault.TooMany read fails caused = fails
+schedule_fault (fault.Row t) read fails caused = fails
+schedule_fault (fault.Entry j) read fails caused = fails
+schedule_fault (fault.UnknownNet j) read fails caused = fails
+schedule_fault (fault.Range j) read fails caused = fails
+schedule_fault (fault.Doubled j) read fails caused = fails
+schedule_fault fault.Start read fails caused = fails
+schedule_fault fault.Memory read fails caused = absurd (caused refl)
+
+module _ (held : Contents) (load : Load) (bytes : List ℕ) (n h : Net) (a c : List Bool) (k : PlainCert) (there : HoldsBytes held load bytes) where
+  abbrev lists : List ℕ → Result Listed ScheduleFault
+  lists bytes = sched_of k.version bytes n (counted k a) h
+
+  pub holds_no_schedule : (f : ScheduleFault) → sched_of k.version bytes n (counted k a) h ≡ Err f → HoldsNoSchedule held load (record { original = n; free = a; hardened = h; hardened_free = c; certificate = k }) f
+  holds_no_schedule f e = record { bytes = there.bytes; there = there.there; short = there.short; fact = ap lists there.fact ∙ e }
+
+  pub reads_schedule : (s : PlainSchedule) → IsReadAs (length n.inputs) (sched_of k.version bytes n (counted k a) h) s → ReadsSchedule held load (record { original = n; free = a; hardened = h; hardened_free = c; certificate = k }) s
+  reads_schedule s is = go (lists bytes) refl is
+    where
+      go : (r : Result Listed ScheduleFault) → lists bytes ≡ r → IsReadAs (length n.inputs) r s → ReadsSchedule held load (record { original = n; free = a; hardened = h; hardened_free = c; certificate = k }) s
+      go (Ok l) e has = record {
+        listed = l;
+        read = record { bytes = there.bytes; there = there.there; short = there.short; fact = ap lists there.fact ∙ e };
+        is_listed = has;
+      }
+      go (Err f) e has = absurd has
+
+pub ruleset verdicts = (replayed_work, denied_work, large_work)
+
+pub ruleset refusals = (schedule_work, schedule_fault, holds_no_schedule, reads_schedule)
