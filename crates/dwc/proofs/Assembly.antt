@@ -1,8 +1,8 @@
 -- The lists that are made are the guarded design.
-use Rattle.std.proofs.Common.{◌≡◌, ℕ, ◌+◌, ◌*◌, length, map, Option, sym, ◌∙◌, List}
+use Rattle.std.proofs.Common.{◌≡◌, ◌+◌, ◌*◌, length, map, sym, ◌∙◌}
 use Rattle.std.specs.Option.{option_map}
 use Rattle.tmr_base.specs.Names.{clock_text}
-use Rattle.flat_net.specs.Net.{Net, node_name, net_names}
+use Rattle.flat_net.specs.Net.{Net}
 use Rattle.flat_net.specs.Nodes.{number_of}
 use Rattle.flat_net.specs.declared.wiring.Wiring.TheInside.{Inside}
 use Rattle.flat_net.proofs.PacksLaws.{IsAssembled}

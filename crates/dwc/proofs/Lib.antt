@@ -7,3 +7,4 @@ pub mod Making
 pub mod Order
 pub mod Telling
 pub mod Assembly
+pub mod SameDesign

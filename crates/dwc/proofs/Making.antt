@@ -1,15 +1,14 @@
 -- One node more of the guarded design.
-use Rattle.std.proofs.Common.{◌≡◌, ℕ, zero, suc, ◌+◌, ◌-◌, ◌*◌, ◌<◌, ◌≤◌, ◌⊎◌, inl, inr, List, [], ◌∷◌, ◌++◌, length, map, take, get_or, Option, Some, None, slice_get, refl, sym, ap, ◌∙◌, subst, arith, Bool}
-use Rattle.std.specs.Prelude.{slice_index, sum_by, count_by, codes}
+use Rattle.std.proofs.Common.{◌≡◌, ℕ, ◌+◌, ◌-◌, ◌*◌, ◌<◌, ◌≤◌, List, [], ◌∷◌, ◌++◌, length, map, take, get_or, Option, Some, None, slice_get, refl, sym, ap, ◌∙◌, subst, arith, Bool}
+use Rattle.std.specs.Prelude.{slice_index, sum_by, codes}
 use Rattle.std.specs.List.{range_with_len}
 use Rattle.std.specs.Str.{bytes_eq}
-use Rattle.std.proofs.lemmas.Bool.{cases_lt}
 use Rattle.std.proofs.lemmas.List.{length-append, length-map, map-append, take_more, take_all, take_at, length-take-le, get_or_append_left, get_or-append-add, get_or-map}
 use Rattle.std.proofs.lemmas.List.Sums.{sum_by-append, sum_by-cons, sum_by-take-drop, count_by-le-length}
 use Rattle.std.proofs.lemmas.Option.{get_or_from_slice_get, slice_get_within}
 use Rattle.table_cover.specs.Cover.{PlainCover}
 use Rattle.indexmap.specs.IndexSet.{insert_key}
-use Rattle.flat_net.specs.Net.{Net, Node, Table, Register, net_count, pin_total, node_of, node_name, net_names, name_of, pins_of, pins_at, is_register, IsTable, IsRegister, IsCoverOf, IsInitOf, IsValid}
+use Rattle.flat_net.specs.Net.{Net, Node, Table, Register, net_count, node_of, node_name, net_names, name_of, pins_of, pins_at, is_register, IsTable, IsRegister, IsCoverOf, IsInitOf, IsValid}
 use Rattle.flat_net.specs.Kinds.{kind_of}
 use Rattle.flat_net.specs.declared.kind.Kind.TheVariants as kind
 use Rattle.flat_net.specs.declared.nodes.PackedNodes.{PackedNodes}

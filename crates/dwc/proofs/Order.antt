@@ -1,12 +1,12 @@
 -- The order of the guarded design is one.
-use Rattle.std.proofs.Common.{◌≡◌, ◌≢◌, ℕ, zero, suc, ◌+◌, ◌-◌, ◌*◌, ◌<◌, ◌≤◌, ◌⊎◌, inl, inr, List, [], ◌∷◌, ◌++◌, length, map, Option, Some, None, slice_get, get_or, refl, sym, ap, ◌∙◌, subst, arith}
+use Rattle.std.proofs.Common.{◌≡◌, ◌≢◌, ℕ, zero, suc, ◌+◌, ◌-◌, ◌*◌, ◌<◌, ◌≤◌, ◌⊎◌, inl, inr, List, length, map, Option, Some, slice_get, sym, ap, ◌∙◌, subst, arith}
 use Rattle.std.specs.Prelude.{slice_index}
 use Rattle.std.specs.List.{flat_map, range_with_len}
 use Rattle.std.proofs.lemmas.Bool.{cases_lt}
 use Rattle.std.proofs.lemmas.List.{length-append, length-map, get_or-map}
 use Rattle.std.proofs.lemmas.Option.{slice_get-get_or, get_or_from_slice_get, slice_get_within}
 use Rattle.flat_net.specs.Net.{Net, Node, Table, Register, net_count, node_of, table_pins, IsTable, ComesBefore, IsOrder, IsValid}
-use Rattle.flat_net.proofs.Slots.{slot_within, slot_there, slice_get_there}
+use Rattle.flat_net.proofs.Slots.{slot_there, slice_get_there}
 use Rattle.dwc.specs.Guard.{twin, twofold, node_twin, comparator, alarm, alarm_net, guard_net}
 use Rattle.dwc.specs.Making.{guard_order}
 use Rattle.dwc.proofs.Lists.{get_before, get_after, length-twos, twos_at, halves, same_half}
@@ -55,8 +55,17 @@ module _ (n : Net) (valid : IsValid n) (order : List ℕ) (ordered : IsOrder n o
           let (x, there) = slice_get_there order p.half within in
           let range = ordered.nodes p.half within in
           let own = get_or_from_slice_get order p.half x 0 there in
-          inl (record { place = p.half; net = x; copy = p.copy; listed = there; low = omega (arith, range.0, own); high = omega (arith, range.1, own); few = p.few; at = p.is;
-          is = get_or_from_slice_get (guard_order n order) k (twin p.copy x) 0 (ap (slice_get (guard_order n order)) p.is ∙ order_twin p.half p.copy x there p.few) })
+          inl (record {
+            place = p.half;
+            net = x;
+            copy = p.copy;
+            listed = there;
+            low = omega (arith, range.0, own);
+            high = omega (arith, range.1, own);
+            few = p.few;
+            at = p.is;
+            is = get_or_from_slice_get (guard_order n order) k (twin p.copy x) 0 (ap (slice_get (guard_order n order)) p.is ∙ order_twin p.half p.copy x there p.few);
+          })
       go (inr l) =
           let j = k - 2 * length order in
           let e : k ≡ 2 * length order + j = omega (arith, l) in

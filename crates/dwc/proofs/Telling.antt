@@ -1,20 +1,20 @@
 -- The alarm of the guarded design tells of what strikes copies of one number alone.
-use Rattle.std.proofs.Common.{◌≡◌, ◌≢◌, ℕ, zero, suc, ◌+◌, ◌-◌, ◌*◌, ◌<◌, ◌≤◌, ◌⊎◌, inl, inr, List, [], ◌∷◌, ◌++◌, length, map, Option, Some, None, slice_get, get_or, refl, sym, ap, ◌∙◌, subst, subst₂, arith, Bool, true, false, replicate, if◌then◌else◌}
-use Rattle.std.specs.Prelude.{◌↔◌, slice_index, Contains, nat_lt, not, ◌||◌}
-use Rattle.std.specs.List.{range_with_len, list_all, list_any}
+use Rattle.std.proofs.Common.{◌≡◌, ◌≢◌, ℕ, zero, suc, ◌+◌, ◌*◌, ◌<◌, ◌≤◌, List, [], ◌∷◌, length, map, Option, Some, None, slice_get, get_or, refl, sym, ap, ◌∙◌, subst, subst₂, arith, Bool, true, false, replicate, if◌then◌else◌}
+use Rattle.std.specs.Prelude.{slice_index, Contains, nat_lt, not, ◌||◌}
+use Rattle.std.specs.List.{range_with_len, list_any}
 use Rattle.std.specs.Option.{unwrap_or}
-use Rattle.std.proofs.lemmas.Bool.{cases_lt, false≢true}
+use Rattle.std.proofs.lemmas.Bool.{false≢true}
 use Rattle.std.proofs.lemmas.Bool.Decides.{nat_tests}
 use Rattle.std.proofs.lemmas.List.{length-map}
-use Rattle.std.proofs.lemmas.Option.{get_or_from_slice_get, slice_get-get_or}
+use Rattle.std.proofs.lemmas.Option.{get_or_from_slice_get}
 use Rattle.tmr_base.specs.declared.ids.Upset.{Upset}
-use Rattle.table_cover.specs.Cover.{PlainCover, cover_value, row_matches}
+use Rattle.table_cover.specs.Cover.{cover_value, row_matches}
 use Rattle.flat_net.specs.Net.{Net, Node, Table, Register, net_count, node_of, IsValid}
 use Rattle.flat_net.specs.Free.{node_bit}
 use Rattle.flat_net.proofs.Slots.{slot_within, slot_none_below, slice_get_there}
-use Rattle.net_meaning.specs.Meaning.{bit, row_at, row_before, value_at, node_value, upset_at, start_at, net_value, AreRows, IsSchedule, IsTrace, IsFaultTrace}
+use Rattle.net_meaning.specs.Meaning.{bit, row_at, row_before, value_at, node_value, upset_at, start_at, net_value, IsTrace, IsFaultTrace}
 use Rattle.net_meaning.proofs.Order.{net_induction}
-use Rattle.dwc.specs.Guard.{twin, twofold, node_twin, differ_cover, any_cover, comparator, alarm, alarm_net, guard_net}
+use Rattle.dwc.specs.Guard.{twin, node_twin, differ_cover, any_cover, comparator, alarm, alarm_net, guard_net}
 use Rattle.dwc.specs.Tells.{twice, StrikesOne, copy_value, alarm_value, SomeDiffer, TellsInCycle, Guards}
 use Rattle.dwc.proofs.Lists.{same_half}
 use Rattle.dwc.proofs.Nodes

@@ -1,6 +1,7 @@
 //! Whether a design is the guarded design of another.
 ghost use Rattle.std.specs.Prelude.{◌≡◌, ◌↔◌, ◌+◌, ◌≤◌, ◌<◌, length, IsTrue, IfOk, MatchOption};
 ghost use Rattle.flat_net.specs.Net.{net_count, node_of, pins_at, pin_total};
+ghost use Rattle.flat_net.specs.Kinds.{kind_of};
 ghost use Rattle.dwc.specs.Guard.{guard_net};
 ghost use Rattle.dwc.specs.Tells.{Guards};
 ghost use Rattle.dwc.specs.Answer.{DifferFirst, SameFrame, IsAnswer};
@@ -8,13 +9,27 @@ ghost use Rattle.dwc.specs.Answer.{DifferFirst, SameFrame, IsAnswer};
 use crate::guarding::{guard, guarded_designs_tell};
 use flat_net::{FlatNet, Kind};
 use std::alloc::Global;
-use tmr_base::{NetId, OutOfMemory};
+use tmr_base::{Name, NetId, OutOfMemory};
 
 /// What `check_guard` answers: the least rule that fails, and the first place where it does.
 #[derive(Clone, Copy, Debug, PartialEq, Eq, Drop)]
 pub enum GuardAnswer {
     Guarded,
     Not { rule: u8, at: u32 },
+}
+
+/// Two names are the same.
+fn same_name(a: &Name, b: &Name) -> bool
+    ensures { IsTrue result ↔ (a.now ≡ b.now) }
+{
+    a == b
+}
+
+/// Two initial values are the same.
+fn same_bit(a: bool, b: bool) -> bool
+    ensures { IsTrue result ↔ (a ≡ b) }
+{
+    a == b
 }
 
 /// Both have the same clock, or none.
@@ -38,7 +53,7 @@ fn same_inputs(a: &FlatNet, b: &FlatNet) -> bool
         return false;
     }
     for x in 0..a.input_count() {
-        if a.name(NetId(x)) != b.name(NetId(x)) {
+        if !same_name(a.name(NetId(x)), b.name(NetId(x))) {
             return false;
         }
     }
@@ -77,6 +92,15 @@ fn same_pins(a: &FlatNet, b: &FlatNet, x: NetId) -> bool
     true
 }
 
+/// Net x of both is of the same kind.
+fn same_kind(a: &FlatNet, b: &FlatNet, x: NetId) -> bool
+    requires left { x.0 < net_count a.now.net }
+    requires right { x.0 < net_count b.now.net }
+    ensures { IsTrue result ↔ (kind_of (node_of a.now.net x.0) ≡ kind_of (node_of b.now.net x.0)) }
+{
+    a.kind(x) == b.kind(x)
+}
+
 /// Node x of both has the same name, kind, cover or initial value, and pins.
 #[tactic(auto, using(flat_net::proofs::Bodies::from_kind))]
 fn same_node(a: &FlatNet, b: &FlatNet, x: NetId) -> bool
@@ -86,16 +110,19 @@ fn same_node(a: &FlatNet, b: &FlatNet, x: NetId) -> bool
     requires right_node { length b.now.net.inputs ≤ x.0 }
     ensures { IsTrue result ↔ (node_of a.now.net x.0 ≡ node_of b.now.net x.0) }
 {
-    if a.name(x) != b.name(x) {
+    if !same_name(a.name(x), b.name(x)) {
         return false;
     }
     if !same_pins(a, b, x) {
         return false;
     }
-    match (a.kind(x), b.kind(x)) {
-        (Kind::Table, Kind::Table) => a.cover(x).same(b.cover(x)),
-        (Kind::Register, Kind::Register) => a.init(x) == b.init(x),
-        _ => false,
+    if !same_kind(a, b, x) {
+        return false;
+    }
+    match a.kind(x) {
+        Kind::Input => false,
+        Kind::Table => a.cover(x).same(b.cover(x)),
+        Kind::Register => same_bit(a.init(x), b.init(x)),
     }
 }
 

@@ -66,7 +66,11 @@ pub fn push_alarm(alloc: Global, n: &FlatNet, made: &mut Made) -> Result<(), Out
     let name = name_of_bytes(alloc, b"alarm~z")?;
     made.names.insert(name)?;
     let cover = any_cover(alloc, n.output_count())?;
-    let pins = numbers_from(alloc, 2 * (n.input_count() + n.node_count()), n.output_count())?;
+    let pins = numbers_from(
+        alloc,
+        2 * (n.input_count() + n.node_count()),
+        n.output_count(),
+    )?;
     push_table(&mut made.nodes, cover, &pins)?;
     Ok(())
 }

@@ -47,7 +47,13 @@ pub fn twin_name(alloc: Global, x: &Name, c: u32) -> Result<Name, OutOfMemory>
 }
 
 /// Adds the name of copy c of input i.
-fn push_input_name(alloc: Global, n: &FlatNet, i: u32, c: u32, names: &mut IndexSet<Name>) -> Result<(), OutOfMemory>
+fn push_input_name(
+    alloc: Global,
+    n: &FlatNet,
+    i: u32,
+    c: u32,
+    names: &mut IndexSet<Name>,
+) -> Result<(), OutOfMemory>
     requires input { i < length n.now.net.inputs }
     requires copy { c < 2 }
     requires distinct { AreDistinct (guard_net n.now.net).inputs }

@@ -35,7 +35,13 @@ fn twin_pins(alloc: Global, n: &FlatNet, x: NetId, c: u32) -> Result<Vec<NetId>,
 }
 
 /// Adds copy c of table x.
-fn push_table_twin(alloc: Global, n: &FlatNet, x: NetId, c: u32, nodes: &mut PackedNodes) -> Result<(), OutOfMemory>
+fn push_table_twin(
+    alloc: Global,
+    n: &FlatNet,
+    x: NetId,
+    c: u32,
+    nodes: &mut PackedNodes,
+) -> Result<(), OutOfMemory>
     requires range { x.0 < net_count n.now.net }
     requires node { length n.now.net.inputs ≤ x.0 }
     requires table { IsTable (node_of n.now.net x.0) }
@@ -51,7 +57,12 @@ fn push_table_twin(alloc: Global, n: &FlatNet, x: NetId, c: u32, nodes: &mut Pac
 }
 
 /// Adds copy c of register x.
-fn push_register_twin(n: &FlatNet, x: NetId, c: u32, nodes: &mut PackedNodes) -> Result<(), OutOfMemory>
+fn push_register_twin(
+    n: &FlatNet,
+    x: NetId,
+    c: u32,
+    nodes: &mut PackedNodes,
+) -> Result<(), OutOfMemory>
     requires range { x.0 < net_count n.now.net }
     requires node { length n.now.net.inputs ≤ x.0 }
     requires register { IsRegister (node_of n.now.net x.0) }
@@ -68,7 +79,13 @@ fn push_register_twin(n: &FlatNet, x: NetId, c: u32, nodes: &mut PackedNodes) ->
 
 /// Adds copy c of node x.
 #[tactic(auto, using(flat_net::proofs::Bodies::from_kind))]
-fn push_body(alloc: Global, n: &FlatNet, x: NetId, c: u32, nodes: &mut PackedNodes) -> Result<(), OutOfMemory>
+fn push_body(
+    alloc: Global,
+    n: &FlatNet,
+    x: NetId,
+    c: u32,
+    nodes: &mut PackedNodes,
+) -> Result<(), OutOfMemory>
     requires range { x.0 < net_count n.now.net }
     requires node { length n.now.net.inputs ≤ x.0 }
     requires few { net_count n.now.net ≤ 16777216 }

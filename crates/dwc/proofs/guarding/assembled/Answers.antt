@@ -1,9 +1,8 @@
-use Rattle.std.proofs.Common.{◌+◌, ◌*◌, ℕ, List, map, refl, sym, subst, ap, ◌∙◌}
+use Rattle.std.proofs.Common.{◌*◌, ℕ, List, map, refl, sym, subst, ap, ◌∙◌}
 use Rattle.flat_net.specs.Net.{Net, Design, IsOrder}
 use Rattle.flat_net.specs.Nodes.{number_of}
 use Rattle.flat_net.proofs.PacksLaws.{net_assembled, wiring_assembled, unordered_from_valid}
 use Rattle.dwc.specs.Guard.{guard_net}
-use Rattle.dwc.specs.Making.{guard_order}
 use Rattle.dwc.proofs.Assembly.{assembles}
 use Rattle.dwc.proofs.guarding.assembled.Goals as goal
 

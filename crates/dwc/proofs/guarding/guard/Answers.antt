@@ -1,4 +1,4 @@
-use Rattle.std.proofs.Common.{◌≤◌, sym, subst, arith}
+use Rattle.std.proofs.Common.{sym, subst, arith}
 use Rattle.flat_net.specs.Net.{Net}
 use Rattle.dwc.specs.Guard.{guard_net}
 use Rattle.dwc.specs.Making.{guard_order}

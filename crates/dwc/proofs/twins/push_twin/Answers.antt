@@ -1,4 +1,4 @@
-use Rattle.std.proofs.Common.{◌≡◌, ◌+◌, ℕ, List, length, ap, ◌∙◌, arith}
+use Rattle.std.proofs.Common.{◌+◌, ℕ, List, ap, ◌∙◌, arith}
 use Rattle.dwc.specs.Guard.{twin_text}
 use Rattle.dwc.proofs.Making.{twin_room, twin_more}
 use Rattle.dwc.proofs.twins.push_twin.Goals as goal
