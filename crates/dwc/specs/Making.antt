@@ -9,7 +9,8 @@ use Rattle.dwc.specs.Guard.{twin, twofold}
 
 -- behind the nodes that are packed stands this one too
 abbrev pub PacksMore : PackedNodes → PackedNodes → Node → Type 0
-PacksMore old new node = (names : List (List ℕ)) (done : List Node) → Packs names old done → Packs (names ++ node_name node ∷ []) new (done ++ node ∷ [])
+PacksMore old new node =
+    (names : List (List ℕ)) (done : List Node) → Packs names old done → Packs (names ++ node_name node ∷ []) new (done ++ node ∷ [])
 
 -- the names of the inputs and of the first nodes, and those nodes
 pub record IsMade (g : Net) (count : ℕ) (made : Made) : Type 0 where

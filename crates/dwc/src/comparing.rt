@@ -56,9 +56,22 @@ pub fn numbers_from(alloc: Global, first: u32, count: u32) -> Result<Vec<NetId>,
     Ok(numbers)
 }
 
+/// The comparators of all outputs.
+fn comparators(alloc: Global, n: &FlatNet) -> Result<Vec<NetId>, OutOfMemory>
+    requires few { net_count n.now.net ≤ 16777216 }
+    requires outputs { length n.now.net.outputs ≤ 16777216 }
+    ensures { IfOk result (λ numbers. map number_of numbers.items ≡ range_with_len (2 * net_count n.now.net) (length n.now.net.outputs)) }
+{
+    let first = 2 * (n.input_count() + n.node_count());
+    let count = n.output_count();
+    let numbers = numbers_from(alloc, first, count)?;
+    Ok(numbers)
+}
+
 /// Adds the alarm, which reads all comparators, and its name.
 pub fn push_alarm(alloc: Global, n: &FlatNet, made: &mut Made) -> Result<(), OutOfMemory>
     requires few { net_count n.now.net ≤ 16777216 }
+    requires outputs { length n.now.net.outputs ≤ 16777216 }
     requires valid { IsValid (guard_net n.now.net) }
     requires made { IsMade (guard_net n.now.net) (2 * length n.now.net.nodes + length n.now.net.outputs) made.old }
     ensures { OnOk result (IsMade (guard_net n.now.net) (2 * length n.now.net.nodes + length n.now.net.outputs + 1) made.new) }
@@ -66,11 +79,7 @@ pub fn push_alarm(alloc: Global, n: &FlatNet, made: &mut Made) -> Result<(), Out
     let name = name_of_bytes(alloc, b"alarm~z")?;
     made.names.insert(name)?;
     let cover = any_cover(alloc, n.output_count())?;
-    let pins = numbers_from(
-        alloc,
-        2 * (n.input_count() + n.node_count()),
-        n.output_count(),
-    )?;
+    let pins = comparators(alloc, n)?;
     push_table(&mut made.nodes, cover, &pins)?;
     Ok(())
 }

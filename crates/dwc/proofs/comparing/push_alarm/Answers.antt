@@ -2,30 +2,26 @@ use Rattle.std.proofs.Common.{◌≡◌, ◌+◌, ◌*◌, length, map, ap, ◌�
 use Rattle.std.specs.Prelude.{codes}
 use Rattle.std.specs.Str.{bytes_eq}
 use Rattle.std.specs.List.{range_with_len}
-use Rattle.indexmap.specs.IndexSet.{insert_key}
 use Rattle.std.proofs.lemmas.List.{length-map}
+use Rattle.indexmap.specs.IndexSet.{insert_key}
 use Rattle.flat_net.specs.Net.{net_count}
 use Rattle.flat_net.specs.Nodes.{number_of}
 use Rattle.dwc.specs.Guard.{any_cover, alarm, guard_net}
-use Rattle.dwc.proofs.Nodes.{alarm_get, length-guarded}
+use Rattle.dwc.proofs.Nodes.{alarm_get}
 use Rattle.dwc.proofs.Making.{room_for_pins, alarm_is, table_more}
 use Rattle.dwc.proofs.Valid.{length-range}
 use Rattle.dwc.proofs.comparing.push_alarm.Goals as goal
-
-pub numbers_from-requires : goal.numbers_from-requires
-numbers_from-requires c = omega (arith, c.requires.valid.few, length-guarded c.args.n.now.net, c.input_count.ensures.count, c.node_count.ensures, c.output_count-2.ensures)
 
 pub push_table-requires : goal.push_table-requires
 push_table-requires c =
     let n = c.args.n.now.net in
     let long = ap length (ap (map number_of) c.deref.ensures.value ∙ c.in_ok-pins.ensures) in
-    omega (arith, room_for_pins (guard_net n) (2 * length n.nodes + length n.outputs) (alarm n) c.args.made.now c.requires.valid (alarm_get n) c.requires.made, length-range (2 * net_count n) (length n.outputs), long, length-map c.deref.result.now number_of, length-range (2 * (c.input_count.result + c.node_count.result)) c.output_count-2.result, c.output_count-2.ensures)
+    omega (arith, room_for_pins (guard_net n) (2 * length n.nodes + length n.outputs) (alarm n) c.args.made.now c.requires.valid (alarm_get n) c.requires.made, length-range (2 * net_count n) (length n.outputs), long, length-map c.deref.result.now number_of)
 
 pub returns : goal.returns
 returns c =
     let n = c.args.n.now.net in
-    let first : 2 * (c.input_count.result + c.node_count.result) ≡ 2 * net_count n = omega (arith, c.input_count.ensures.count, c.node_count.ensures) in
-    let pins : map number_of c.deref.result.now ≡ range_with_len (2 * net_count n) (length n.outputs) = ap (map number_of) c.deref.ensures.value ∙ (c.in_ok-pins.ensures ∙ (ap (λ a. range_with_len a c.output_count-2.result) first ∙ ap (range_with_len (2 * net_count n)) c.output_count-2.ensures)) in
+    let pins : map number_of c.deref.result.now ≡ range_with_len (2 * net_count n) (length n.outputs) = ap (map number_of) c.deref.ensures.value ∙ c.in_ok-pins.ensures in
     table_more (guard_net n) (2 * length n.nodes + length n.outputs) (alarm n) c.args.made.now _ (codes "alarm~z") c.in_ok-cover.cover _ c.requires.valid (alarm_get n) c.requires.made
     (alarm_is n (map number_of c.deref.result.now) c.in_ok-cover.cover (c.in_ok-cover.ensures ∙ ap any_cover c.output_count.ensures) pins)
     (c.in_ok-insert.ensures.keys ∙ ap (insert_key bytes_eq c.args.made.now.names.keys) c.in_ok-name.ensures)
