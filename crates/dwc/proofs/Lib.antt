@@ -1,0 +1,10 @@
+pub mod Lists
+pub mod Texts
+pub mod Few
+pub mod Nodes
+pub mod Valid
+pub mod Making
+pub mod Order
+pub mod Telling
+pub mod Assembly
+pub mod SameDesign

@@ -1,0 +1,4 @@
+pub mod Guard
+pub mod Tells
+pub mod Answer
+pub mod Making
