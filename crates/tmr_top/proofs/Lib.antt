@@ -7,6 +7,7 @@ pub mod TextLaws
 pub mod DesignLaws
 pub mod PairLaws
 pub mod ReplayLaws
+pub mod GuardLaws
 pub mod WaveLaws
 pub mod FlatLaws
 pub mod HardenLaws

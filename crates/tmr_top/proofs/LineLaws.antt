@@ -5,7 +5,7 @@ use Rattle.std.specs.Option.{option_and_then, option_map}
 use Rattle.std.specs.Str.{bytes_eq}
 use Rattle.flat_net.proofs.Names.{eq_true}
 use Rattle.tmr_top.specs.Words.{Words, has_no_options, words_of}
-use Rattle.tmr_top.specs.Line.{Command, Pair, Hardening, Flattening, Validate, Harden, Flatten, Report, is_file, said, positive_number, version_number, pair_of, over_pair, flattening_of, replay_over, replaying_of, waving_of, hardening_with, hardening_of, of_words, of_plain, line_of}
+use Rattle.tmr_top.specs.Line.{Command, Pair, Hardening, Flattening, Guarding, Validate, Harden, Flatten, Report, Guard, CheckGuard, is_file, said, positive_number, version_number, pair_of, over_pair, flattening_of, guarding_of, over_guarding, replay_over, replaying_of, waving_of, hardening_with, hardening_of, of_words, of_plain, line_of}
 
 pub all_said : (words : Words) (size version most : ℕ) → said positive_number 64 words.sizes ≡ Some size → said version_number 1 words.versions ≡ Some version → said positive_number 4294967295 words.depths ≡ Some most → hardening_of words ≡ hardening_with size version most words.plain
 unfolding hardening_of
@@ -40,6 +40,20 @@ report_has words = go (pair_of words)
     go : (o : Option Pair) → HasTwoNames (option_map Report o)
     go None = none_has
     go (Some p) = λ w is. absurd cc
+
+guard_has : (words : List (List ℕ)) → HasTwoNames (over_guarding Guard words)
+guard_has words = go (guarding_of words)
+  where
+    go : (o : Option Guarding) → HasTwoNames (option_map Guard o)
+    go None = none_has
+    go (Some g) = λ w is. absurd cc
+
+guarded_has : (words : List (List ℕ)) → HasTwoNames (over_guarding CheckGuard words)
+guarded_has words = go (guarding_of words)
+  where
+    go : (o : Option Guarding) → HasTwoNames (option_map CheckGuard o)
+    go None = none_has
+    go (Some g) = λ w is. absurd cc
 
 flattening_has : (words : List (List ℕ)) → HasTwoNames (flattening_of words)
 unfolding flattening_of
@@ -129,4 +143,6 @@ two_names (command ∷ words) =
     (choice_has (bytes_eq command (codes "flatten")) _ _ (plain_has flattening_of flattening_has (words_of words))
     (choice_has (bytes_eq command (codes "replay")) _ _ (plain_has replaying_of replaying_has (words_of words))
     (choice_has (bytes_eq command (codes "report")) _ _ (plain_has (over_pair Report) report_has (words_of words))
-    (choice_has (bytes_eq command (codes "wave")) _ _ (plain_has waving_of waving_has (words_of words)) none_has)))))
+    (choice_has (bytes_eq command (codes "guard")) _ _ (plain_has (over_guarding Guard) guard_has (words_of words))
+    (choice_has (bytes_eq command (codes "guarded")) _ _ (plain_has (over_guarding CheckGuard) guarded_has (words_of words))
+    (choice_has (bytes_eq command (codes "wave")) _ _ (plain_has waving_of waving_has (words_of words)) none_has)))))))

@@ -4,16 +4,21 @@ use Rattle.std.specs.FinMap.{get}
 use Rattle.tmr_outside.specs.Contents.{Contents}
 use Rattle.tmr_top.specs.declared.decision.Verdict.{Verdict}
 use Rattle.tmr_top.specs.declared.decision.Verdict.TheVariants.{Done, NotAccepted, Refused}
-use Rattle.tmr_top.specs.Line.{Command, Pair, Hardening, Flattening, Replaying, Validate, Harden, Flatten, Replay, Report}
-use Rattle.tmr_top.specs.Loads.{original_file, schedule_file}
+use Rattle.tmr_top.specs.Line.{Command, Pair, Hardening, Flattening, Replaying, Guarding, Validate, Harden, Flatten, Replay, Report, Guard, CheckGuard}
+use Rattle.tmr_top.specs.Loads.{original_file, hardened_file, schedule_file}
 use Rattle.tmr_top.specs.Pairs.{ReadPair, HoldsPair, Accepts}
 use Rattle.tmr_top.specs.Replayed.{Replayed, ReadFiles, HoldsSchedule, HoldsNoSchedule, IsReplayDenied, IsReplayRefused, is_too_large}
 use Rattle.tmr_top.specs.Validated.{Validated}
 use Rattle.tmr_top.specs.Hardened.{Hardened}
 use Rattle.tmr_top.specs.Flattened.{Flattened}
 use Rattle.tmr_top.specs.Reported.{Reported}
+use Rattle.tmr_top.specs.Guarded.{Guarded, GuardChecked, IsUnguarded, IsGuardUnread, ReadGuard}
+use Rattle.dwc.specs.Answer.{FailsFirst}
+use Rattle.dwc.specs.Guard.{guard_net}
+use Rattle.flat_net.specs.Net.{Net}
 use Rattle.tmr_top.specs.Outcomes.{Outcome}
-use Rattle.tmr_top.proofs.DesignLaws.{design_or_none}
+use Rattle.tmr_top.proofs.GuardLaws.{no_failure}
+use Rattle.tmr_top.proofs.DesignLaws.{one_design, design_or_none}
 use Rattle.schedule_replay.specs.declared.fault.ScheduleFault.{ScheduleFault}
 use Rattle.schedule_replay.specs.Document.{Listed, sched_of}
 use Rattle.certificate.specs.Starts.{counted}
@@ -117,9 +122,46 @@ module _ (w : Replaying) (held : Contents) where
   one_replayed NotAccepted Refused s t x y one other = absurd (read_or_refused y one.files one.room other)
   one_replayed Refused NotAccepted s t x y one other = absurd (read_or_refused x other.files other.room one)
 
+-- ---- guarded designs
+
+one_guarded : (g : Guarding) (held : Contents) (v w : Verdict) (s t : List (List ℕ)) (x y : List ℕ) → Guarded g held v s x → Guarded g held w t y → v ≡ w
+one_guarded g held Done Done s t x y one other = refl
+one_guarded g held Refused Refused s t x y one other = refl
+one_guarded g held Done Refused s t x y one other = absurd (design_or_none held (original_file g.original) one.original one.free other.reason one.holds other.unread)
+one_guarded g held Refused Done s t x y one other = absurd (design_or_none held (original_file g.original) other.original other.free one.reason other.holds one.unread)
+one_guarded g held NotAccepted w s t x y one other = absurd one
+one_guarded g held Done NotAccepted s t x y one other = absurd other
+one_guarded g held Refused NotAccepted s t x y one other = absurd other
+
+module _ (w : Guarding) (held : Contents) where
+  -- files that are read are not refused
+  guard_or_unread : (text : List ℕ) (one : ReadGuard w held) → IsUnguarded w held text ⊎ IsGuardUnread w held text → ⊥
+  guard_or_unread text one (inl unread) = design_or_none held (original_file w.original) one.original one.free unread.reason one.original_read unread.unread
+  guard_or_unread text one (inr unread) = design_or_none held (hardened_file w.guarded) one.guarded one.guarded_free unread.reason one.guarded_read unread.unread
+
+  -- a guarded design is no other one
+  guard_or_other : (one other : ReadGuard w held) (rule place : ℕ) → guard_net one.original ≡ one.guarded → FailsFirst (guard_net other.original) other.guarded rule place → ⊥
+  guard_or_other one other rule place is fails =
+      let original = one_design held (original_file w.original) one.original other.original one.free other.free one.original_read other.original_read in
+      let guarded = one_design held (hardened_file w.guarded) one.guarded other.guarded one.guarded_free other.guarded_free one.guarded_read other.guarded_read in
+      no_failure (guard_net other.original) other.guarded rule place (sym (ap guard_net original.0) ∙ (is ∙ guarded.0)) fails
+
+  one_checked : (v u : Verdict) (s t : List (List ℕ)) (x y : List ℕ) → GuardChecked w held v s x → GuardChecked w held u t y → v ≡ u
+  one_checked Done Done s t x y one other = refl
+  one_checked NotAccepted NotAccepted s t x y one other = refl
+  one_checked Refused Refused s t x y one other = refl
+  one_checked Done NotAccepted s t x y one other = absurd (guard_or_other one.0.files other.files other.rule other.place one.0.is other.first)
+  one_checked NotAccepted Done s t x y one other = absurd (guard_or_other other.0.files one.files one.rule one.place other.0.is one.first)
+  one_checked Done Refused s t x y one other = absurd (guard_or_unread y one.0.files other)
+  one_checked Refused Done s t x y one other = absurd (guard_or_unread x other.0.files one)
+  one_checked NotAccepted Refused s t x y one other = absurd (guard_or_unread y one.files other)
+  one_checked Refused NotAccepted s t x y one other = absurd (guard_or_unread x other.files one)
+
 pub one_verdict : (c : Command) (held : Contents) (v w : Verdict) (s t : List (List ℕ)) (x y : List ℕ) → Outcome c held v s x → Outcome c held w t y → v ≡ w
 one_verdict (Validate p) held v w s t x y one other = one_validated p held v w s t x y one other
 one_verdict (Harden h) held v w s t x y one other = one_hardened h held v w s t x y one other
 one_verdict (Flatten f) held v w s t x y one other = one_flattened f held v w s t x y one other
 one_verdict (Replay r) held v w s t x y one other = one_replayed r held v w s t x y one other
 one_verdict (Report p) held v w s t x y one other = one_reported p held v w s t x y one other
+one_verdict (Guard g) held v w s t x y one other = one_guarded g held v w s t x y one other
+one_verdict (CheckGuard g) held v w s t x y one other = one_checked g held v w s t x y one other

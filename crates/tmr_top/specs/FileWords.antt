@@ -10,13 +10,14 @@ use Rattle.tmr_top.specs.declared.line.FlatWords.{FlatWords}
 use Rattle.tmr_top.specs.declared.replay_words.ReplayWords.{ReplayWords}
 use Rattle.tmr_top.specs.declared.replay_words.ScheduleFile.{ScheduleFile}
 use Rattle.tmr_top.specs.declared.harden_words.HardenWords.{HardenWords}
+use Rattle.tmr_top.specs.declared.line.GuardWords.{GuardWords}
 use Rattle.tmr_top.specs.declared.line.CommandWords.{CommandWords}
 use Rattle.tmr_top.specs.declared.line.CommandWords.TheVariants as words
 use Rattle.tmr_top.specs.declared.pair_task.PairTask.{PairTask}
 use Rattle.tmr_top.specs.declared.pair_task.PairTask.TheVariants as task
 use Rattle.tmr_top.specs.declared.replay_words.FileTask.{FileTask}
 use Rattle.tmr_top.specs.declared.replay_words.FileTask.TheVariants as file_task
-use Rattle.tmr_top.specs.Line.{Pair, Hardening, Flattening, Replaying, Command, Validate, Harden, Flatten, Replay, Report}
+use Rattle.tmr_top.specs.Line.{Pair, Hardening, Flattening, Replaying, Guarding, Command, Validate, Harden, Flatten, Replay, Report, Guard, CheckGuard}
 
 abbrev pub pair_in : PairWords → Pair
 pair_in words = record { original = words.original.now; hardened = words.hardened.now; certificate = words.certificate.now }
@@ -34,6 +35,9 @@ hardening_in words = record {
 abbrev pub flattening_in : FlatWords → Flattening
 flattening_in words = record { original = words.original.now; flat = words.flat.now }
 
+abbrev pub guarding_in : GuardWords → Guarding
+guarding_in words = record { original = words.original.now; guarded = words.guarded.now }
+
 abbrev pub word_in : Option (Bor (List ℕ)) → Option (List ℕ)
 word_in word = option_map (λ w. w.now) word
 
@@ -46,6 +50,8 @@ command_in (words.Harden harden) = Harden (hardening_in harden)
 command_in (words.Flatten flat) = Flatten (flattening_in flat)
 command_in (words.Replay replay) = Replay (replaying_in replay)
 command_in (words.Report pair) = Report (pair_in pair)
+command_in (words.Guard guard) = Guard (guarding_in guard)
+command_in (words.CheckGuard guard) = CheckGuard (guarding_in guard)
 
 -- the command over a pair that has this task
 abbrev pub task_over : PairTask → Pair → Command

@@ -21,6 +21,7 @@ pub mod ReplayText
 pub mod Replayed
 pub mod Replaying
 pub mod Reported
+pub mod Guarded
 pub mod Outcomes
 pub mod Causes
 pub mod HardenedFiles

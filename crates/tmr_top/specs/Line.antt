@@ -32,6 +32,11 @@ pub record Flattening : Type 0 where
   pub original : List ℕ
   pub flat : List ℕ
 
+-- the two files of `guard ORIG GUARDED` and of `guarded ORIG GUARDED`
+pub record Guarding : Type 0 where
+  pub original : List ℕ
+  pub guarded : List ℕ
+
 -- what the words of a command line can mean
 pub data Command : Type 0 where
   Validate : Pair → Command
@@ -39,6 +44,8 @@ pub data Command : Type 0 where
   Flatten : Flattening → Command
   Replay : Replaying → Command
   Report : Pair → Command
+  Guard : Guarding → Command
+  CheckGuard : Guarding → Command
 
 -- a file word is not empty
 abbrev pub is_file : List ℕ → Bool
@@ -61,6 +68,15 @@ flattening_of (original ∷ flat ∷ []) =
     then Some (Flatten (record { original = original; flat = flat }))
     else None
 flattening_of words = None
+
+unfoldable pub guarding_of : List (List ℕ) → Option Guarding
+guarding_of (original ∷ guarded ∷ []) =
+    if is_file original && is_file guarded then Some (record { original = original; guarded = guarded }) else None
+guarding_of words = None
+
+-- a command over a design and a guarded one
+abbrev pub over_guarding : (Guarding → Command) → List (List ℕ) → Option Command
+over_guarding command words = option_map command (guarding_of words)
 
 -- a replay over a pair, where no file word is empty, and no waves are saved or those under this name
 abbrev pub replay_over : Option Pair → List ℕ → Option (List ℕ) → Option Command
@@ -121,6 +137,8 @@ line_of (command ∷ words) =
     else if bytes_eq command (codes "flatten") then of_plain flattening_of (words_of words)
     else if bytes_eq command (codes "replay") then of_plain replaying_of (words_of words)
     else if bytes_eq command (codes "report") then of_plain (over_pair Report) (words_of words)
+    else if bytes_eq command (codes "guard") then of_plain (over_guarding Guard) (words_of words)
+    else if bytes_eq command (codes "guarded") then of_plain (over_guarding CheckGuard) (words_of words)
     else if bytes_eq command (codes "wave") then of_plain waving_of (words_of words)
     else None
 

@@ -2,7 +2,7 @@
 use Rattle.std.specs.Prelude.{ℕ, List, [], ◌∷◌, ◌++◌, map, Option, Some, None}
 use Rattle.tmr_top.specs.declared.file_words.FileKind.{FileKind}
 use Rattle.tmr_top.specs.declared.file_words.FileKind.TheVariants.{Netlist, Bytes}
-use Rattle.tmr_top.specs.Line.{Command, Pair, Replaying, Validate, Harden, Flatten, Replay, Report}
+use Rattle.tmr_top.specs.Line.{Command, Pair, Replaying, Validate, Harden, Flatten, Replay, Report, Guard, CheckGuard}
 
 -- a file to be loaded, and the most bytes that it may have; a netlist is read while it is loaded, and of other files the bytes are kept
 pub record Load : Type 0 where
@@ -14,7 +14,7 @@ pub record Load : Type 0 where
 abbrev pub original_file : List ℕ → Load
 original_file name = record { name = name; limit = 8388608; kind = Netlist }
 
--- a hardened design has at most 1 GiB
+-- a hardened design, and a guarded one, has at most 1 GiB
 abbrev pub hardened_file : List ℕ → Load
 hardened_file name = record { name = name; limit = 1073741824; kind = Netlist }
 
@@ -46,6 +46,8 @@ loads_of (Harden w) = original_file w.original ∷ []
 loads_of (Flatten f) = original_file f.original ∷ []
 loads_of (Replay w) = replay_files w
 loads_of (Report p) = pair_files p
+loads_of (Guard w) = original_file w.original ∷ []
+loads_of (CheckGuard w) = original_file w.original ∷ hardened_file w.guarded ∷ []
 
 -- the names that a command saves, in this order
 abbrev pub saves_of : Command → List (List ℕ)
@@ -54,6 +56,8 @@ saves_of (Harden w) = w.hardened ∷ w.certificate ∷ []
 saves_of (Flatten f) = f.flat ∷ []
 saves_of (Replay w) = wave_names w.waves
 saves_of (Report p) = []
+saves_of (Guard w) = w.guarded ∷ []
+saves_of (CheckGuard w) = []
 
 abbrev pub load_name : Load → List ℕ
 load_name load = load.name

@@ -34,6 +34,18 @@ flattened_line n assumed =
     ∷ counted_text (codes " nodes ") (length n.nodes) ∷ counted_text (codes " registers ") (register_count n)
     ∷ counted_text (codes " assumed ") assumed ∷ codes "\n" ∷ [])
 
+-- how many nodes a design and its guarded design have, how many outputs it has, and how many initial values were taken as 0
+unfoldable pub guard_line : Net → Net → ℕ → List ℕ
+guard_line n g assumed =
+    joined (counted_text (codes "guard nodes ") (length n.nodes) ∷ counted_text (codes " to ") (length g.nodes)
+    ∷ counted_text (codes " outputs ") (length n.outputs) ∷ counted_text (codes " assumed ") assumed ∷ codes "\n" ∷ [])
+
+unfoldable pub guarded_line : List ℕ
+guarded_line = codes "guarded\n"
+
+unfoldable pub not_guarded_line : ℕ → ℕ → List ℕ
+not_guarded_line rule place = joined (counted_text (codes "not guarded: rule ") rule ∷ counted_text (codes " at ") place ∷ codes "\n" ∷ [])
+
 -- where a rule fails: at the inputs, at the clock, at a hardened node, or at an output position
 unfoldable pub place_text : Net → ℕ → ℕ → List ℕ
 place_text h rule place =
@@ -59,7 +71,7 @@ unfoldable pub save_fault_line : List ℕ → List ℕ
 save_fault_line file = joined (codes "fault: save " ∷ file ∷ codes "\n" ∷ [])
 
 unfoldable pub usage_text : List ℕ
-usage_text = codes "usage: tmr validate ORIG HARD CERT\n       tmr harden ORIG HARD CERT [--size S] [--cert V] [--depth D]\n       tmr flatten ORIG FLAT\n       tmr replay ORIG HARD CERT SCHED\n       tmr report ORIG HARD CERT\n       tmr wave ORIG HARD CERT SCHED VCD\n"
+usage_text = codes "usage: tmr validate ORIG HARD CERT\n       tmr harden ORIG HARD CERT [--size S] [--cert V] [--depth D]\n       tmr flatten ORIG FLAT\n       tmr replay ORIG HARD CERT SCHED\n       tmr report ORIG HARD CERT\n       tmr guard ORIG GUARDED\n       tmr guarded ORIG GUARDED\n       tmr wave ORIG HARD CERT SCHED VCD\n"
 
 unfoldable pub memory_text : List ℕ
 memory_text = codes "want of memory\n"

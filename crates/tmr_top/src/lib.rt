@@ -3,6 +3,7 @@
 
 mod decision;
 mod designs;
+mod duplicating;
 mod file_words;
 mod flattening;
 mod form_text;

@@ -3,8 +3,8 @@ ghost use Rattle.std.specs.Prelude.{◌≡◌, ◌<◌, ◌∷◌, [], IfOk, IfS
 ghost use Rattle.std.specs.Option.{option_map};
 ghost use Rattle.tmr_top.specs.Words.{texts};
 ghost use Rattle.tmr_top.specs.WordsRead.{words_in};
-ghost use Rattle.tmr_top.specs.Line.{Validate, Report, is_file, pair_of, over_pair, flattening_of, replay_over, replaying_of, waving_of, positive_number, version_number, said, hardening_with, hardening_of, line_of};
-ghost use Rattle.tmr_top.specs.FileWords.{pair_in, word_in, command_in, read_words as read_texts};
+ghost use Rattle.tmr_top.specs.Line.{Validate, Report, Guard, CheckGuard, is_file, pair_of, over_pair, flattening_of, guarding_of, over_guarding, replay_over, replaying_of, waving_of, positive_number, version_number, said, hardening_with, hardening_of, line_of};
+ghost use Rattle.tmr_top.specs.FileWords.{pair_in, word_in, guarding_in, command_in, read_words as read_texts};
 
 use crate::harden_words::HardenWords;
 use crate::replay_words::ReplayWords;
@@ -28,6 +28,13 @@ pub struct FlatWords<'a> {
     pub flat: &'a str,
 }
 
+/// The two file words of `guard ORIG GUARDED` and of `guarded ORIG GUARDED`.
+#[derive(Clone, Copy, Drop)]
+pub struct GuardWords<'a> {
+    pub original: &'a str,
+    pub guarded: &'a str,
+}
+
 /// A command with its files.
 #[derive(Clone, Copy, Drop)]
 pub enum CommandWords<'a> {
@@ -36,6 +43,8 @@ pub enum CommandWords<'a> {
     Flatten(FlatWords<'a>),
     Replay(ReplayWords<'a>),
     Report(PairWords<'a>),
+    Guard(GuardWords<'a>),
+    CheckGuard(GuardWords<'a>),
 }
 
 /// A pair of these files, where none is empty.
@@ -104,6 +113,45 @@ fn read_flattening<'a>(plain: &[&'a str]) -> Option<CommandWords<'a>>
             }))
         }
         _ => None,
+    }
+}
+
+/// A design and a guarded one, where there are two words and none is empty.
+#[tactic(auto, unfolding(crate::specs::Line::guarding_of))]
+fn read_guarding<'a>(plain: &[&'a str]) -> Option<GuardWords<'a>>
+    ensures { option_map guarding_in result ≡ guarding_of (read_texts plain.now) }
+{
+    match plain {
+        [original, guarded] => {
+            if original.is_empty() || guarded.is_empty() {
+                return None;
+            }
+            Some(GuardWords {
+                original: *original,
+                guarded: *guarded,
+            })
+        }
+        _ => None,
+    }
+}
+
+/// `guard`, where its files can be read.
+fn read_guard<'a>(plain: &[&'a str]) -> Option<CommandWords<'a>>
+    ensures { option_map command_in result ≡ over_guarding Guard (read_texts plain.now) }
+{
+    match read_guarding(plain) {
+        None => None,
+        Some(words) => Some(CommandWords::Guard(words)),
+    }
+}
+
+/// `guarded`, where its files can be read.
+fn read_guarded<'a>(plain: &[&'a str]) -> Option<CommandWords<'a>>
+    ensures { option_map command_in result ≡ over_guarding CheckGuard (read_texts plain.now) }
+{
+    match read_guarding(plain) {
+        None => None,
+        Some(words) => Some(CommandWords::CheckGuard(words)),
     }
 }
 
@@ -296,6 +344,12 @@ pub fn read_line<'a>(
     }
     if command.as_str() == "report" {
         return Ok(read_report(read.plain.as_slice()));
+    }
+    if command.as_str() == "guard" {
+        return Ok(read_guard(read.plain.as_slice()));
+    }
+    if command.as_str() == "guarded" {
+        return Ok(read_guarded(read.plain.as_slice()));
     }
     if command.as_str() == "wave" {
         return Ok(read_waving(read.plain.as_slice()));

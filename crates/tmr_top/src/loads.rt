@@ -127,6 +127,11 @@ pub fn list_loads<'a>(
         CommandWords::Flatten(flat) => loads.push(original_file(flat.original))?,
         CommandWords::Replay(replay) => push_replay(&mut loads, replay)?,
         CommandWords::Report(pair) => push_pair(&mut loads, pair)?,
+        CommandWords::Guard(guard) => loads.push(original_file(guard.original))?,
+        CommandWords::CheckGuard(guard) => {
+            loads.push(original_file(guard.original))?;
+            loads.push(hardened_file(guard.guarded))?;
+        }
     }
     Ok(loads)
 }

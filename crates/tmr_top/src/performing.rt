@@ -15,6 +15,7 @@ ghost use Rattle.tmr_top.specs.Runs.{Performs, Untouched};
 
 use crate::Status;
 use crate::decision::{Decision, Verdict, Work, stopped};
+use crate::duplicating::{check_files, guard_file};
 use crate::flattening::flatten;
 use crate::hardening::harden;
 use crate::line::CommandWords;
@@ -40,6 +41,8 @@ fn work(alloc: Global, words: &CommandWords, loaded: &[Loaded]) -> Result<Work, 
         CommandWords::Flatten(flat) => flatten(alloc, flat, loaded),
         CommandWords::Replay(replay) => replay_files(alloc, replay, loaded),
         CommandWords::Report(pair) => judge_files(alloc, PairTask::Report, pair, loaded),
+        CommandWords::Guard(words) => guard_file(alloc, words, loaded),
+        CommandWords::CheckGuard(words) => check_files(alloc, words, loaded),
     }
 }
 

@@ -45,6 +45,8 @@ pub fn list_saves<'a>(alloc: Global, words: &CommandWords<'a>) -> Result<Vec<&'a
         CommandWords::Flatten(flat) => names.push(flat.flat)?,
         CommandWords::Replay(replay) => push_waves(&mut names, replay.waves)?,
         CommandWords::Report(_) => {}
+        CommandWords::Guard(guard) => names.push(guard.guarded)?,
+        CommandWords::CheckGuard(_) => {}
     }
     Ok(names)
 }

@@ -2,7 +2,7 @@
 ghost use Rattle.std.specs.Prelude.{◌≡◌, ◌+◌, ◌≤◌, ◌<◌, ◌∷◌, [], codes, length, max, IfOk};
 ghost use Rattle.std.specs.Fmt.{decimal};
 ghost use Rattle.tmr_top.specs.FileWords.{read_words as read_pieces};
-ghost use Rattle.tmr_top.specs.Texts.{joined, greatest, open_word, accepted_line, place_text, not_accepted_line, refused_line, load_fault_line, save_fault_line, counted_text, flattened_line, line_reason, usage_text, memory_text};
+ghost use Rattle.tmr_top.specs.Texts.{joined, greatest, open_word, accepted_line, place_text, not_accepted_line, refused_line, load_fault_line, save_fault_line, counted_text, flattened_line, guard_line, guarded_line, not_guarded_line, line_reason, usage_text, memory_text};
 ghost use Rattle.flat_net.specs.Net.{net_count};
 ghost use Rattle.validator.specs.Place.{IsPlace};
 
@@ -17,7 +17,7 @@ use validator::Refusal;
 pub fn usage() -> &'static str
     ensures { result.now ≡ usage_text }
 {
-    "usage: tmr validate ORIG HARD CERT\n       tmr harden ORIG HARD CERT [--size S] [--cert V] [--depth D]\n       tmr flatten ORIG FLAT\n       tmr replay ORIG HARD CERT SCHED\n       tmr report ORIG HARD CERT\n       tmr wave ORIG HARD CERT SCHED VCD\n"
+    "usage: tmr validate ORIG HARD CERT\n       tmr harden ORIG HARD CERT [--size S] [--cert V] [--depth D]\n       tmr flatten ORIG FLAT\n       tmr replay ORIG HARD CERT SCHED\n       tmr report ORIG HARD CERT\n       tmr guard ORIG GUARDED\n       tmr guarded ORIG GUARDED\n       tmr wave ORIG HARD CERT SCHED VCD\n"
 }
 
 /// What is put where there was no memory.
@@ -230,5 +230,52 @@ pub fn at_line(alloc: Global, line: u32, kind: &str) -> Result<Vec<u8>, OutOfMem
             b": ".as_slice(),
             kind.as_bytes(),
         ],
+    )
+}
+
+/// The line of a design that is guarded.
+#[tactic(auto, unfolding(crate::specs::Texts::guard_line))]
+pub fn guard_made(
+    alloc: Global,
+    net: &FlatNet,
+    guarded: &FlatNet,
+    assumed: u32,
+) -> Result<Vec<u8>, OutOfMemory>
+    ensures { IfOk result (λ text. text.items ≡ guard_line net.now.net guarded.now.net assumed) }
+{
+    let nodes = counted(alloc, b"guard nodes ", net.node_count() as u64)?;
+    let guarded_nodes = counted(alloc, b" to ", guarded.node_count() as u64)?;
+    let outputs = counted(alloc, b" outputs ", net.output_count() as u64)?;
+    let open_values = counted(alloc, b" assumed ", assumed as u64)?;
+    join(
+        alloc,
+        &[
+            nodes.as_slice(),
+            guarded_nodes.as_slice(),
+            outputs.as_slice(),
+            open_values.as_slice(),
+            b"\n".as_slice(),
+        ],
+    )
+}
+
+/// The line of a guarded design that is one.
+#[tactic(auto, unfolding(crate::specs::Texts::guarded_line))]
+pub fn guard_found(alloc: Global) -> Result<Vec<u8>, OutOfMemory>
+    ensures { IfOk result (λ text. text.items ≡ guarded_line) }
+{
+    Ok(b"guarded\n".to_vec(alloc)?)
+}
+
+/// The line of a design that is no guarded one.
+#[tactic(auto, unfolding(crate::specs::Texts::not_guarded_line))]
+pub fn guard_not_found(alloc: Global, rule: u8, at: u32) -> Result<Vec<u8>, OutOfMemory>
+    ensures { IfOk result (λ text. text.items ≡ not_guarded_line rule at) }
+{
+    let rule = counted(alloc, b"not guarded: rule ", rule as u64)?;
+    let place = counted(alloc, b" at ", at as u64)?;
+    join(
+        alloc,
+        &[rule.as_slice(), place.as_slice(), b"\n".as_slice()],
     )
 }

@@ -1,0 +1,20 @@
+use Rattle.std.proofs.Common.{◌≡◌, ℕ, Bool, List, [], ◌∷◌, ◌++◌, refl, ap, subst, ◌∙◌}
+use Rattle.std.specs.Prelude.{Vec, count_by}
+use Rattle.std.specs.declared.alloc.Global.{Global}
+use Rattle.flat_net.specs.Net.{Net, Design}
+use Rattle.dwc.specs.Guard.{guard_net}
+use Rattle.dwc.specs.Tells.{Guards}
+use Rattle.tmr_top.specs.FileWords.{guarding_in, texts_in}
+use Rattle.tmr_top.specs.Texts.{guard_line}
+use Rattle.tmr_top.proofs.GuardLaws.{guarded_work}
+use Rattle.tmr_top.proofs.duplicating.guard_design.Goals as goal
+
+pub returns-clause-work : goal.returns-clause-work
+returns-clause-work c = λ held one.
+    let n = c.args.n.now.design.net in
+    let g = c.in_ok-guarded.guarded.net in
+    let design : g ≡ guard_net n = c.in_ok-guarded.ensures.design ∙ ap (λ (d : Design). guard_net d.net) c.net.ensures.net in
+    let guards = subst (λ (d : Design). Guards d.net g) c.net.ensures.net c.in_ok-guarded.ensures.guards in
+    let says = c.in_ok-text.ensures ∙ (ap (λ (d : Design). guard_line d.net g c.free_count.result) c.net-2.ensures.net ∙ ap (guard_line n g) c.free_count.ensures) in
+    let saves = ap texts_in (c.in_ok-push.ensures.items ∙ ap (λ (xs : List (Vec ℕ Global)). xs ++ c.in_ok-bytes.bytes ∷ []) c.new-saves.ensures.items) in
+    guarded_work held (guarding_in c.args.words.now) n g c.args.n.now.free c.in_ok-bytes.bytes.items _ one design guards c.in_ok-bytes.ensures.text refl saves says
