@@ -3,7 +3,7 @@ use Rattle.std.proofs.Common.{◌≡◌, ℕ, List, refl}
 use Rattle.tmr_outside.specs.Contents.{Contents}
 use Rattle.tmr_top.specs.declared.decision.Verdict.{Verdict}
 use Rattle.tmr_top.specs.declared.decision.Verdict.TheVariants.{Done, NotAccepted, Refused}
-use Rattle.tmr_top.specs.Line.{Command, Pair, Hardening, Flattening, Validate, Harden, Flatten, Report}
+use Rattle.tmr_top.specs.Line.{Command, Pair, Hardening, Flattening, Validate, Harden, Flatten, Report, TryOut}
 use Rattle.tmr_top.specs.Loads.{original_file}
 use Rattle.tmr_top.specs.Validated.{Validated}
 use Rattle.tmr_top.specs.Hardened.{Hardened}
@@ -12,6 +12,7 @@ use Rattle.tmr_top.specs.Reported.{Reported}
 use Rattle.tmr_top.specs.Outcomes.{Outcome}
 use Rattle.tmr_top.proofs.DesignLaws.{design_or_none}
 use Rattle.tmr_top.proofs.PairLaws.{unread_pair, agrees}
+use Rattle.tmr_top.proofs.TrialVerdicts.{one_tried}
 
 one_validated : (p : Pair) (held : Contents) (v w : Verdict) (s t : List (List ℕ)) (x y : List ℕ) → Validated p held v s x → Validated p held w t y → v ≡ w
 one_validated p held Done Done s t x y one other = refl
@@ -58,3 +59,4 @@ one_verdict (Validate p) held v w s t x y one other = one_validated p held v w s
 one_verdict (Harden h) held v w s t x y one other = one_hardened h held v w s t x y one other
 one_verdict (Flatten f) held v w s t x y one other = one_flattened f held v w s t x y one other
 one_verdict (Report p) held v w s t x y one other = one_reported p held v w s t x y one other
+one_verdict (TryOut q) held v w s t x y one other = one_tried q v w s t x y one other

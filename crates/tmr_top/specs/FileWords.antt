@@ -11,7 +11,8 @@ use Rattle.tmr_top.specs.declared.line.CommandWords.{CommandWords}
 use Rattle.tmr_top.specs.declared.line.CommandWords.TheVariants as words
 use Rattle.tmr_top.specs.declared.pair_task.PairTask.{PairTask}
 use Rattle.tmr_top.specs.declared.pair_task.PairTask.TheVariants as task
-use Rattle.tmr_top.specs.Line.{Pair, Hardening, Flattening, Command, Validate, Harden, Flatten, Report}
+use Rattle.tmr_top.specs.Line.{Pair, Hardening, Flattening, Command, Validate, Harden, Flatten, Report, TryOut}
+use Rattle.tmr_top.specs.TrialWords.{trial_in}
 
 abbrev pub pair_in : PairWords → Pair
 pair_in words = record { original = words.original.now; hardened = words.hardened.now; certificate = words.certificate.now }
@@ -34,6 +35,7 @@ command_in (words.Validate pair) = Validate (pair_in pair)
 command_in (words.Harden harden) = Harden (hardening_in harden)
 command_in (words.Flatten flat) = Flatten (flattening_in flat)
 command_in (words.Report pair) = Report (pair_in pair)
+command_in (words.Trial trial) = TryOut (trial_in trial)
 
 -- the command over a pair that has this task
 abbrev pub task_over : PairTask → Pair → Command

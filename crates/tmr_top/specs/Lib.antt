@@ -1,6 +1,8 @@
 pub mod Codes
 pub mod Words
 pub mod WordsRead
+pub mod Trials
+pub mod TrialWords
 pub mod Line
 pub mod FileWords
 pub mod Loads
@@ -18,6 +20,8 @@ pub mod Hardened
 pub mod FlatWithin
 pub mod Flattened
 pub mod Reported
+pub mod Tried
+pub mod Trying
 pub mod Outcomes
 pub mod Causes
 pub mod HardenedFiles

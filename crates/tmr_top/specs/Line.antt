@@ -5,6 +5,7 @@ use Rattle.std.specs.Str.{bytes_eq}
 use Rattle.std.specs.declared.alloc.Global.{Global}
 use Rattle.tmr_base.specs.Numbers.{number_of}
 use Rattle.tmr_top.specs.Words.{texts, Words, has_no_options, words_of}
+use Rattle.tmr_top.specs.Trials.{Trial, trial_of}
 
 -- the three files of `validate ORIG HARD CERT` and of `report ORIG HARD CERT`
 pub record Pair : Type 0 where
@@ -32,6 +33,7 @@ pub data Command : Type 0 where
   Harden : Hardening → Command
   Flatten : Flattening → Command
   Report : Pair → Command
+  TryOut : Trial → Command
 
 -- a file word is not empty
 abbrev pub is_file : List ℕ → Bool
@@ -47,6 +49,9 @@ pair_of words = None
 -- a command over a pair
 abbrev pub over_pair : (Pair → Command) → List (List ℕ) → Option Command
 over_pair command words = option_map command (pair_of words)
+
+abbrev pub over_trial : List (List ℕ) → Option Command
+over_trial words = option_map TryOut (trial_of words)
 
 unfoldable pub flattening_of : List (List ℕ) → Option Command
 flattening_of (original ∷ flat ∷ []) =
@@ -99,6 +104,7 @@ line_of (command ∷ words) =
     else if bytes_eq command (codes "harden") then of_words hardening_of (words_of words)
     else if bytes_eq command (codes "flatten") then of_plain flattening_of (words_of words)
     else if bytes_eq command (codes "report") then of_plain (over_pair Report) (words_of words)
+    else if bytes_eq command (codes "trial") then of_plain over_trial (words_of words)
     else None
 
 -- what the words of a command line mean

@@ -2,7 +2,7 @@
 use Rattle.std.specs.Prelude.{ℕ, List, [], ◌∷◌, map, Option, Some, None}
 use Rattle.tmr_top.specs.declared.file_words.FileKind.{FileKind}
 use Rattle.tmr_top.specs.declared.file_words.FileKind.TheVariants.{Netlist, Bytes}
-use Rattle.tmr_top.specs.Line.{Command, Pair, Validate, Harden, Flatten, Report}
+use Rattle.tmr_top.specs.Line.{Command, Pair, Validate, Harden, Flatten, Report, TryOut}
 
 -- a file to be loaded, and the most bytes that it may have; a netlist is read while it is loaded, and of other files the bytes are kept
 pub record Load : Type 0 where
@@ -32,6 +32,7 @@ loads_of (Validate p) = pair_files p
 loads_of (Harden w) = original_file w.original ∷ []
 loads_of (Flatten f) = original_file f.original ∷ []
 loads_of (Report p) = pair_files p
+loads_of (TryOut t) = []
 
 -- the names that a command saves, in this order
 abbrev pub saves_of : Command → List (List ℕ)
@@ -39,6 +40,7 @@ saves_of (Validate p) = []
 saves_of (Harden w) = w.hardened ∷ w.certificate ∷ []
 saves_of (Flatten f) = f.flat ∷ []
 saves_of (Report p) = []
+saves_of (TryOut t) = []
 
 abbrev pub load_name : Load → List ℕ
 load_name load = load.name

@@ -2,11 +2,12 @@
 use Rattle.std.specs.Prelude.{ℕ, List}
 use Rattle.tmr_outside.specs.Contents.{Contents}
 use Rattle.tmr_top.specs.declared.decision.Verdict.{Verdict}
-use Rattle.tmr_top.specs.Line.{Command, Validate, Harden, Flatten, Report}
+use Rattle.tmr_top.specs.Line.{Command, Validate, Harden, Flatten, Report, TryOut}
 use Rattle.tmr_top.specs.Validated.{Validated}
 use Rattle.tmr_top.specs.Hardened.{Hardened}
 use Rattle.tmr_top.specs.Flattened.{Flattened}
 use Rattle.tmr_top.specs.Reported.{Reported}
+use Rattle.tmr_top.specs.Tried.{Tried}
 
 -- The contents at entry, where every file to be loaded is there and is not too long, the status that is decided before the put, the
 -- texts to be saved, in the order of the names to be saved, and the text to be printed. Where the status is not Done nothing is saved.
@@ -15,3 +16,4 @@ Outcome (Validate p) held verdict saved text = Validated p held verdict saved te
 Outcome (Harden w) held verdict saved text = Hardened w held verdict saved text
 Outcome (Flatten f) held verdict saved text = Flattened f held verdict saved text
 Outcome (Report p) held verdict saved text = Reported p held verdict saved text
+Outcome (TryOut t) held verdict saved text = Tried t verdict saved text

@@ -18,6 +18,9 @@ mod saves;
 mod status;
 mod taker;
 mod texts;
+mod trial_line;
+mod trial_words;
+mod trying;
 mod validation;
 mod words;
 

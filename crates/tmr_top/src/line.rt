@@ -3,10 +3,12 @@ ghost use Rattle.std.specs.Prelude.{◌≡◌, ◌<◌, IfOk, IfSome};
 ghost use Rattle.std.specs.Option.{option_map};
 ghost use Rattle.tmr_top.specs.Words.{texts};
 ghost use Rattle.tmr_top.specs.WordsRead.{words_in};
-ghost use Rattle.tmr_top.specs.Line.{Validate, Report, is_file, pair_of, over_pair, flattening_of, positive_number, version_number, said, hardening_with, hardening_of, line_of};
+ghost use Rattle.tmr_top.specs.Line.{Validate, Report, is_file, pair_of, over_pair, over_trial, flattening_of, positive_number, version_number, said, hardening_with, hardening_of, line_of};
 ghost use Rattle.tmr_top.specs.FileWords.{pair_in, command_in, read_words as read_texts};
 
 use crate::harden_words::HardenWords;
+use crate::trial_line::read_trial_words;
+use crate::trial_words::TrialWords;
 use crate::words::{ReadWords, is_plain, read_words};
 use std::alloc::{AllocError, Global};
 use tmr_base::read_u32;
@@ -33,6 +35,7 @@ pub enum CommandWords<'a> {
     Harden(HardenWords<'a>),
     Flatten(FlatWords<'a>),
     Report(PairWords<'a>),
+    Trial(TrialWords),
 }
 
 /// A pair, where there are three words and none is empty.
@@ -72,6 +75,16 @@ fn read_report<'a>(plain: &[&'a str]) -> Option<CommandWords<'a>>
     match read_pair(plain) {
         None => None,
         Some(pair) => Some(CommandWords::Report(pair)),
+    }
+}
+
+/// `trial`, where its numbers can be read.
+fn read_trial<'a>(plain: &[&'a str]) -> Option<CommandWords<'a>>
+    ensures { option_map command_in result ≡ over_trial (read_texts plain.now) }
+{
+    match read_trial_words(plain) {
+        None => None,
+        Some(trial) => Some(CommandWords::Trial(trial)),
     }
 }
 
@@ -225,6 +238,9 @@ pub fn read_line<'a>(
     }
     if command.as_str() == "report" {
         return Ok(read_report(read.plain.as_slice()));
+    }
+    if command.as_str() == "trial" {
+        return Ok(read_trial(read.plain.as_slice()));
     }
     Ok(None)
 }

@@ -98,6 +98,7 @@ pub fn list_loads<'a>(
         CommandWords::Harden(harden) => loads.push(original_file(harden.original))?,
         CommandWords::Flatten(flat) => loads.push(original_file(flat.original))?,
         CommandWords::Report(pair) => push_pair(&mut loads, pair)?,
+        CommandWords::Trial(_) => {}
     }
     Ok(loads)
 }

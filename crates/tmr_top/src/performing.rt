@@ -22,6 +22,7 @@ use crate::loads::{Loaded, list_loads, load_all};
 use crate::pair_task::PairTask;
 use crate::saves::{SaveStop, list_saves, save_all};
 use crate::texts::save_fault;
+use crate::trying::try_out;
 use crate::validation::judge_files;
 use std::alloc::Global;
 use tmr_base::OutOfMemory;
@@ -39,6 +40,7 @@ fn work(alloc: Global, words: &CommandWords, loaded: &[Loaded]) -> Result<Work, 
         CommandWords::Harden(words) => harden(alloc, words, loaded),
         CommandWords::Flatten(flat) => flatten(alloc, flat, loaded),
         CommandWords::Report(pair) => judge_files(alloc, PairTask::Report, pair, loaded),
+        CommandWords::Trial(trial) => try_out(alloc, trial),
     }
 }
 

@@ -30,6 +30,7 @@ pub fn list_saves<'a>(alloc: Global, words: &CommandWords<'a>) -> Result<Vec<&'a
         }
         CommandWords::Flatten(flat) => names.push(flat.flat)?,
         CommandWords::Report(_) => {}
+        CommandWords::Trial(_) => {}
     }
     Ok(names)
 }
