@@ -99,10 +99,10 @@ outputs_many n h tr ft t zero = refl
 outputs_many n h tr ft t (suc count) = omega (arith, length-append (outputs_in n h tr ft t count) (output_at n h tr ft t count ∷ []), outputs_many n h tr ft t count)
 
 -- so many outputs are compared
-pub outputs_compared : (n h : Net) (tr ft : List (List Bool)) (most cycles : ℕ) → length n.outputs ≤ most → length (outputs_until n h tr ft cycles) ≤ cycles * most
-outputs_compared n h tr ft most zero few = omega arith
-outputs_compared n h tr ft most (suc cycles) few =
-    omega (arith, few, length-append (outputs_until n h tr ft cycles) (outputs_in n h tr ft cycles (length n.outputs)), outputs_many n h tr ft cycles (length n.outputs), outputs_compared n h tr ft most cycles few)
+pub outputs_compared : (n h : Net) (tr ft : List (List Bool)) (cycles : ℕ) → length n.outputs < 4294967295 → length (outputs_until n h tr ft cycles) ≤ cycles * 4294967295
+outputs_compared n h tr ft zero few = omega arith
+outputs_compared n h tr ft (suc cycles) few =
+    omega (arith, few, length-append (outputs_until n h tr ft cycles) (outputs_in n h tr ft cycles (length n.outputs)), outputs_many n h tr ft cycles (length n.outputs), outputs_compared n h tr ft cycles few)
 
 -- a schedule that the certificate allows does no harm where the pair masks
 pub calm_outcome : (n h : Net) (k : PlainCert) (s : PlainSchedule) (o : Outcome) → length n.outputs < 4294967295 → Masks n h k → IsRunnable n h k s → IsReplayOf n [] [] h [] [] k s (plain_outcome o) → IsCalm o
@@ -111,7 +111,7 @@ calm_outcome n h k s o few masks run is =
     let ft = is.hardened.trace in
     let outcome = is.outcome tr ft is.original.is_trace is.hardened.is_trace in
     let harm = plain_unharmed n h k s (plain_outcome o) run.plain run.inputs run.nodes masks is (outcome.allowed.1 run.allowed) in
-    let compared = outputs_compared n h tr ft 4294967295 (length s.rows) (omega (arith, few)) in
+    let compared = outputs_compared n h tr ft (length s.rows) few in
     record {
       differences = omega (arith, run.cycles, outcome.counts.differences_are, length-filter differs (outputs_until n h tr ft (length s.rows)), count_by-le-length differs (outputs_until n h tr ft (length s.rows)), compared);
       wrong = harm.0;

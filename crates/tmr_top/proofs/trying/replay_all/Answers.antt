@@ -1,0 +1,16 @@
+use Rattle.tmr_top.proofs.TrialLaws.{form_fits, three_inputs, three_of_each, one_length, calm_outcomes}
+use Rattle.tmr_top.proofs.trying.replay_all.Goals as goal
+
+pub replay_wide-requires : goal.replay_wide-requires
+replay_wide-requires c =
+    let form = c.requires.hardened.form in
+    record {
+      fits = form_fits _ 64 _ _ form;
+      inputs = three_inputs _ 64 _ _ form;
+      outputs = three_of_each _ 64 _ _ form;
+      some = ?;
+      few = ?;
+      rows = λ j d l. (c.requires.runnable j d l).inputs;
+      cycles = one_length _ _ _ _ c.requires.runnable;
+      nodes = λ j d l. (c.requires.runnable j d l).nodes;
+    }
