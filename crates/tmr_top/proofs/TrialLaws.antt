@@ -127,8 +127,12 @@ calm_outcomes n h k list outcomes few masks all replays j d within =
 
 -- one run more
 pub run_added : {A : Type 0} (f : A → ℕ) (xs : List A) (i : ℕ) (x : A) (old new : ℕ) → i < length xs → x ≡ get_or xs i x → old ≡ sum_by f (take i xs) → new ≡ old + f x → new ≡ sum_by f (take (i + 1) xs)
-run_added f xs i x old new within is before added =
+run_added {A = A} f xs i x old new within is before added =
     added ∙ (ap (λ (m : ℕ). m + f x) before ∙ (ap (λ (y : A). sum_by f (take i xs) + f y) is ∙ sym (sum_by_more f xs i x within)))
+
+-- an outcome at its place
+pub calm_at : (outcomes : List Outcome) (j : ℕ) (o : Outcome) → All (λ x. IsCalm x) outcomes → j < length outcomes → o ≡ get_or outcomes j o → IsCalm o
+calm_at outcomes j o all within is = subst (λ (x : Outcome). IsCalm x) (sym is) (all j o within)
 
 -- ---- the work
 

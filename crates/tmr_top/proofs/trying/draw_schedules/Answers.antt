@@ -1,4 +1,4 @@
-use Rattle.std.proofs.Common.{◌≡◌, ◌+◌, ◌∷◌, ◌++◌, [], List, length, sym, ap, subst, ◌∙◌, arith}
+use Rattle.std.proofs.Common.{◌≡◌, ◌+◌, ◌∷◌, ◌++◌, [], List, length, refl, sym, ap, subst, ◌∙◌, arith}
 use Rattle.std.specs.Prelude.{All}
 use Rattle.std.proofs.lemmas.List.{length-append}
 use Rattle.std.proofs.lemmas.List.Elements.{All-push}
@@ -17,6 +17,6 @@ loop-j-preserved c =
     let s : PlainSchedule = c.in_ok-s.s in
     record {
       many = let same = ap length c.in_ok-push.ensures.items in let before = c.loop-j.invariant.many in omega (arith, same, before, length-append old (s ∷ []));
-      drawn = drawn_more c.args.number n h k old new s c.loop-j.j c.wrapping_add.result c.loop-j.invariant.drawn c.loop-j.invariant.many c.in_ok-push.ensures.items c.wrapping_add.ensures c.in_ok-s.ensures.drawn;
+      drawn = drawn_more c.args.number n h k old new s c.loop-j.j _ c.loop-j.invariant.drawn c.loop-j.invariant.many c.in_ok-push.ensures.items refl c.in_ok-s.ensures.drawn;
       runnable = subst (λ (ss : List PlainSchedule). All (λ s. IsRunnable n h k s) ss) (sym c.in_ok-push.ensures.items) (All-push (λ s. IsRunnable n h k s) old s c.loop-j.invariant.runnable c.in_ok-s.ensures.runnable);
     }
