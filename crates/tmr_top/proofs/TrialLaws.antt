@@ -171,5 +171,3 @@ tried_work held t n h k minimal sums w drawn form is_minimal runs done none says
     (λ p is. cc)
 
 pub ruleset runs = (summed, form_fits)
-
-pub ruleset works = (tried_work)

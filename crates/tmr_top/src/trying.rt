@@ -227,7 +227,6 @@ fn trial_lines(alloc: Global, f: &FormNumbers, sums: &RunSums) -> Result<Vec<u8>
 }
 
 /// The work of `trial`, which loads no file.
-#[tactic(auto, using(crate::proofs::TrialLaws::works))]
 pub fn try_out(alloc: Global, words: &TrialWords) -> Result<Work, OutOfMemory>
     ensures texts { IfOk result (HasTexts (TryOut (trial_in words.now))) }
     ensures work { (held : Contents) → IfOk result (IsWork (TryOut (trial_in words.now)) held) }
