@@ -1,18 +1,17 @@
 -- What a trial comes to.
-use Rattle.std.proofs.Common.{◌≡◌, ℕ, zero, suc, ◌+◌, ◌*◌, ◌<◌, ◌≤◌, ◌⊎◌, inl, inr, List, [], ◌∷◌, ◌++◌, length, map, get_or, take, slice_get, Option, Some, refl, sym, ap, subst, ◌∙◌, arith}
-use Rattle.std.specs.Prelude.{◌↔◌, ◌%◌, ◌^◌, All, Bool, IsTrue, filter, count_by, sum_by}
+use Rattle.std.proofs.Common.{◌≡◌, ℕ, zero, suc, ◌+◌, ◌*◌, ◌<◌, ◌≤◌, ◌⊎◌, inl, inr, List, [], ◌∷◌, ◌++◌, length, get_or, take, slice_get, Some, refl, sym, ap, subst, ◌∙◌, arith}
+use Rattle.std.specs.Prelude.{◌↔◌, ◌%◌, ◌^◌, All, Bool, IsTrue, sum_by}
 use Rattle.std.proofs.lemmas.List.{length-append}
 use Rattle.std.proofs.lemmas.List.FromFn.{length-map-range_with_len}
 use Rattle.std.proofs.lemmas.List.Sums.{length-filter, count_by-le-length, sum_by_more}
 use Rattle.std.proofs.lemmas.Option.{slice_get-get_or, get_or_from_slice_get, slice_get_within}
-use Rattle.flat_net.specs.Net.{Net, IsValid, net_count, pin_total}
+use Rattle.flat_net.specs.Net.{Net, net_count, pin_total}
 use Rattle.flat_net.proofs.Slots.{slice_get_there}
 use Rattle.certificate.specs.Cert.{PlainCert, Fits}
-use Rattle.certificate.specs.Rules.{Corresponds, IsFirstFailure}
+use Rattle.certificate.specs.Rules.{IsFirstFailure}
 use Rattle.partitioner.specs.Refining.{IsMinimal}
 use Rattle.triplicate.specs.Form.{HardenedForm, parts_of}
 use Rattle.validator.specs.Masking.{Masks}
-use Rattle.schedule_replay.specs.declared.outcome.Difference.{Difference}
 use Rattle.schedule_replay.specs.declared.outcome.Outcome.{Outcome}
 use Rattle.schedule_replay.specs.Many.{AreReplaysOf, HaveOneLength}
 use Rattle.schedule_replay.specs.Outcome.{IsReplayOf, differs, output_at, outputs_in, outputs_until}

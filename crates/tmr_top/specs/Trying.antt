@@ -1,5 +1,5 @@
 -- Schedules and outcomes of a trial. Private functions alone speak of these.
-use Rattle.std.specs.Prelude.{◌≡◌, ℕ, ◌≤◌, All, length}
+use Rattle.std.specs.Prelude.{◌≡◌, ◌≤◌, All, length}
 use Rattle.flat_net.specs.Net.{Net}
 use Rattle.certificate.specs.Cert.{PlainCert}
 use Rattle.certificate.specs.Schedules.{Allowed}

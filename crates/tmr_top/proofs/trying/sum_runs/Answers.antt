@@ -1,6 +1,4 @@
-use Rattle.std.proofs.Common.{◌≡◌, ◌+◌, ◌*◌, length, take, sym, ap, ◌∙◌, arith}
-use Rattle.std.specs.Prelude.{sum_by}
-use Rattle.std.proofs.lemmas.List.{take_all}
+use Rattle.std.proofs.Common.{length, arith}
 use Rattle.tmr_top.proofs.TrialLaws.{run_added, calm_at}
 use Rattle.tmr_top.proofs.trying.sum_runs.Goals as goal
 
