@@ -1,18 +1,14 @@
 -- What `harden` leaves in its files.
-use Rattle.std.proofs.Common.{◌≡◌, ◌≢◌, ℕ, ◌≤◌, Bool, List, [], ◌∷◌, length, Option, Some, None, refl, ap, subst, ◌∙◌}
+use Rattle.std.proofs.Common.{◌≡◌, ◌≢◌, ℕ, List, [], ◌∷◌, Option, Some, None, refl, ap, subst, ◌∙◌}
 use Rattle.std.specs.Prelude.{IfSome, IsSomeAnd, count_by}
 use Rattle.std.specs.FinMap.{get, insert}
-use Rattle.flat_net.specs.Net.{Net}
 use Rattle.blif_writer.specs.Text.{free_text}
-use Rattle.certificate.specs.Cert.{PlainCert}
 use Rattle.certificate.specs.Text.{cert_text}
 use Rattle.tmr_outside.specs.Contents.{Contents}
 use Rattle.tmr_outside.specs.Seen.{FilesSeen}
 use Rattle.tmr_outside.proofs.ContentsLemmas.{get-insert_other, get-insert_same}
-use Rattle.tmr_top.specs.declared.decision.Verdict.TheVariants as verdict
 use Rattle.tmr_top.specs.Line.{Command, Hardening, Harden, Validate}
 use Rattle.tmr_top.specs.Loads.{original_file, hardened_file, certificate_file}
-use Rattle.tmr_top.specs.Files.{IsFine}
 use Rattle.tmr_top.specs.Designs.{HoldsDesign}
 use Rattle.tmr_top.specs.Pairs.{ReadPair, HoldsPair, HoldsCertificate}
 use Rattle.tmr_top.specs.Texts.{accepted_line}

@@ -13,6 +13,8 @@ pub mod FlatLaws
 pub mod HardenLaws
 pub mod PerformLaws
 pub mod RunLaws
+pub mod TrialVerdicts
+pub mod TrialLaws
 pub mod OutcomeLaws
 pub mod RunClauses
 pub mod LeaveLaws

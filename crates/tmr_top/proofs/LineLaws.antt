@@ -5,7 +5,8 @@ use Rattle.std.specs.Option.{option_and_then, option_map}
 use Rattle.std.specs.Str.{bytes_eq}
 use Rattle.flat_net.proofs.Names.{eq_true}
 use Rattle.tmr_top.specs.Words.{Words, has_no_options, words_of}
-use Rattle.tmr_top.specs.Line.{Command, Pair, Hardening, Flattening, Guarding, Validate, Harden, Flatten, Report, Guard, CheckGuard, is_file, said, positive_number, version_number, pair_of, over_pair, flattening_of, guarding_of, over_guarding, replay_over, replaying_of, waving_of, hardening_with, hardening_of, of_words, of_plain, line_of}
+use Rattle.tmr_top.specs.Trials.{Trial, trial_of}
+use Rattle.tmr_top.specs.Line.{Command, Pair, Hardening, Flattening, Guarding, Validate, Harden, Flatten, Report, Guard, CheckGuard, TryOut, is_file, said, positive_number, version_number, pair_of, over_pair, over_trial, flattening_of, guarding_of, over_guarding, replay_over, replaying_of, waving_of, hardening_with, hardening_of, of_words, of_plain, line_of}
 
 pub all_said : (words : Words) (size version most : ℕ) → said positive_number 64 words.sizes ≡ Some size → said version_number 1 words.versions ≡ Some version → said positive_number 4294967295 words.depths ≡ Some most → hardening_of words ≡ hardening_with size version most words.plain
 unfolding hardening_of
@@ -54,6 +55,13 @@ guarded_has words = go (guarding_of words)
     go : (o : Option Guarding) → HasTwoNames (option_map CheckGuard o)
     go None = none_has
     go (Some g) = λ w is. absurd cc
+
+trial_has : (words : List (List ℕ)) → HasTwoNames (over_trial words)
+trial_has words = go (trial_of words)
+  where
+    go : (o : Option Trial) → HasTwoNames (option_map TryOut o)
+    go None = none_has
+    go (Some t) = λ w is. absurd cc
 
 flattening_has : (words : List (List ℕ)) → HasTwoNames (flattening_of words)
 unfolding flattening_of
@@ -143,6 +151,7 @@ two_names (command ∷ words) =
     (choice_has (bytes_eq command (codes "flatten")) _ _ (plain_has flattening_of flattening_has (words_of words))
     (choice_has (bytes_eq command (codes "replay")) _ _ (plain_has replaying_of replaying_has (words_of words))
     (choice_has (bytes_eq command (codes "report")) _ _ (plain_has (over_pair Report) report_has (words_of words))
+    (choice_has (bytes_eq command (codes "trial")) _ _ (plain_has over_trial trial_has (words_of words))
     (choice_has (bytes_eq command (codes "guard")) _ _ (plain_has (over_guarding Guard) guard_has (words_of words))
     (choice_has (bytes_eq command (codes "guarded")) _ _ (plain_has (over_guarding CheckGuard) guarded_has (words_of words))
-    (choice_has (bytes_eq command (codes "wave")) _ _ (plain_has waving_of waving_has (words_of words)) none_has)))))))
+    (choice_has (bytes_eq command (codes "wave")) _ _ (plain_has waving_of waving_has (words_of words)) none_has))))))))

@@ -17,7 +17,8 @@ use Rattle.tmr_top.specs.declared.pair_task.PairTask.{PairTask}
 use Rattle.tmr_top.specs.declared.pair_task.PairTask.TheVariants as task
 use Rattle.tmr_top.specs.declared.replay_words.FileTask.{FileTask}
 use Rattle.tmr_top.specs.declared.replay_words.FileTask.TheVariants as file_task
-use Rattle.tmr_top.specs.Line.{Pair, Hardening, Flattening, Replaying, Guarding, Command, Validate, Harden, Flatten, Replay, Report, Guard, CheckGuard}
+use Rattle.tmr_top.specs.Line.{Pair, Hardening, Flattening, Replaying, Guarding, Command, Validate, Harden, Flatten, Replay, Report, Guard, CheckGuard, TryOut}
+use Rattle.tmr_top.specs.TrialWords.{trial_in}
 
 abbrev pub pair_in : PairWords → Pair
 pair_in words = record { original = words.original.now; hardened = words.hardened.now; certificate = words.certificate.now }
@@ -52,6 +53,7 @@ command_in (words.Replay replay) = Replay (replaying_in replay)
 command_in (words.Report pair) = Report (pair_in pair)
 command_in (words.Guard guard) = Guard (guarding_in guard)
 command_in (words.CheckGuard guard) = CheckGuard (guarding_in guard)
+command_in (words.Trial trial) = TryOut (trial_in trial)
 
 -- the command over a pair that has this task
 abbrev pub task_over : PairTask → Pair → Command

@@ -1,6 +1,8 @@
 pub mod Codes
 pub mod Words
 pub mod WordsRead
+pub mod Trials
+pub mod TrialWords
 pub mod Line
 pub mod FileWords
 pub mod Loads
@@ -22,6 +24,8 @@ pub mod Replayed
 pub mod Replaying
 pub mod Reported
 pub mod Guarded
+pub mod Tried
+pub mod Trying
 pub mod Outcomes
 pub mod Causes
 pub mod HardenedFiles

@@ -5,6 +5,7 @@ use Rattle.std.specs.Str.{bytes_eq}
 use Rattle.std.specs.declared.alloc.Global.{Global}
 use Rattle.tmr_base.specs.Numbers.{number_of}
 use Rattle.tmr_top.specs.Words.{texts, Words, has_no_options, words_of}
+use Rattle.tmr_top.specs.Trials.{Trial, trial_of}
 
 -- the three files of `validate ORIG HARD CERT` and of `report ORIG HARD CERT`
 pub record Pair : Type 0 where
@@ -44,6 +45,7 @@ pub data Command : Type 0 where
   Flatten : Flattening → Command
   Replay : Replaying → Command
   Report : Pair → Command
+  TryOut : Trial → Command
   Guard : Guarding → Command
   CheckGuard : Guarding → Command
 
@@ -61,6 +63,9 @@ pair_of words = None
 -- a command over a pair
 abbrev pub over_pair : (Pair → Command) → List (List ℕ) → Option Command
 over_pair command words = option_map command (pair_of words)
+
+abbrev pub over_trial : List (List ℕ) → Option Command
+over_trial words = option_map TryOut (trial_of words)
 
 unfoldable pub flattening_of : List (List ℕ) → Option Command
 flattening_of (original ∷ flat ∷ []) =
@@ -137,6 +142,7 @@ line_of (command ∷ words) =
     else if bytes_eq command (codes "flatten") then of_plain flattening_of (words_of words)
     else if bytes_eq command (codes "replay") then of_plain replaying_of (words_of words)
     else if bytes_eq command (codes "report") then of_plain (over_pair Report) (words_of words)
+    else if bytes_eq command (codes "trial") then of_plain over_trial (words_of words)
     else if bytes_eq command (codes "guard") then of_plain (over_guarding Guard) (words_of words)
     else if bytes_eq command (codes "guarded") then of_plain (over_guarding CheckGuard) (words_of words)
     else if bytes_eq command (codes "wave") then of_plain waving_of (words_of words)

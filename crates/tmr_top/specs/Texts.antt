@@ -71,7 +71,7 @@ unfoldable pub save_fault_line : List ℕ → List ℕ
 save_fault_line file = joined (codes "fault: save " ∷ file ∷ codes "\n" ∷ [])
 
 unfoldable pub usage_text : List ℕ
-usage_text = codes "usage: tmr validate ORIG HARD CERT\n       tmr harden ORIG HARD CERT [--size S] [--cert V] [--depth D]\n       tmr flatten ORIG FLAT\n       tmr replay ORIG HARD CERT SCHED\n       tmr report ORIG HARD CERT\n       tmr guard ORIG GUARDED\n       tmr guarded ORIG GUARDED\n       tmr wave ORIG HARD CERT SCHED VCD\n"
+usage_text = codes "usage: tmr validate ORIG HARD CERT\n       tmr harden ORIG HARD CERT [--size S] [--cert V] [--depth D]\n       tmr flatten ORIG FLAT\n       tmr replay ORIG HARD CERT SCHED\n       tmr report ORIG HARD CERT\n       tmr trial NUMBER NODES\n       tmr guard ORIG GUARDED\n       tmr guarded ORIG GUARDED\n       tmr wave ORIG HARD CERT SCHED VCD\n"
 
 unfoldable pub memory_text : List ℕ
 memory_text = codes "want of memory\n"

@@ -3,11 +3,13 @@ ghost use Rattle.std.specs.Prelude.{◌≡◌, ◌<◌, ◌∷◌, [], IfOk, IfS
 ghost use Rattle.std.specs.Option.{option_map};
 ghost use Rattle.tmr_top.specs.Words.{texts};
 ghost use Rattle.tmr_top.specs.WordsRead.{words_in};
-ghost use Rattle.tmr_top.specs.Line.{Validate, Report, Guard, CheckGuard, is_file, pair_of, over_pair, flattening_of, guarding_of, over_guarding, replay_over, replaying_of, waving_of, positive_number, version_number, said, hardening_with, hardening_of, line_of};
+ghost use Rattle.tmr_top.specs.Line.{Validate, Report, Guard, CheckGuard, is_file, pair_of, over_pair, over_trial, flattening_of, guarding_of, over_guarding, replay_over, replaying_of, waving_of, positive_number, version_number, said, hardening_with, hardening_of, line_of};
 ghost use Rattle.tmr_top.specs.FileWords.{pair_in, word_in, guarding_in, command_in, read_words as read_texts};
 
 use crate::harden_words::HardenWords;
 use crate::replay_words::ReplayWords;
+use crate::trial_line::read_trial_words;
+use crate::trial_words::TrialWords;
 use crate::words::{ReadWords, is_plain, read_words};
 use std::alloc::{AllocError, Global};
 use tmr_base::read_u32;
@@ -43,6 +45,7 @@ pub enum CommandWords<'a> {
     Flatten(FlatWords<'a>),
     Replay(ReplayWords<'a>),
     Report(PairWords<'a>),
+    Trial(TrialWords),
     Guard(GuardWords<'a>),
     CheckGuard(GuardWords<'a>),
 }
@@ -94,6 +97,16 @@ fn read_report<'a>(plain: &[&'a str]) -> Option<CommandWords<'a>>
     match read_pair(plain) {
         None => None,
         Some(pair) => Some(CommandWords::Report(pair)),
+    }
+}
+
+/// `trial`, where its numbers can be read.
+fn read_trial<'a>(plain: &[&'a str]) -> Option<CommandWords<'a>>
+    ensures { option_map command_in result ≡ over_trial (read_texts plain.now) }
+{
+    match read_trial_words(plain) {
+        None => None,
+        Some(trial) => Some(CommandWords::Trial(trial)),
     }
 }
 
@@ -344,6 +357,9 @@ pub fn read_line<'a>(
     }
     if command.as_str() == "report" {
         return Ok(read_report(read.plain.as_slice()));
+    }
+    if command.as_str() == "trial" {
+        return Ok(read_trial(read.plain.as_slice()));
     }
     if command.as_str() == "guard" {
         return Ok(read_guard(read.plain.as_slice()));

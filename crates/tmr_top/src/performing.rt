@@ -23,6 +23,7 @@ use crate::loads::{Loaded, list_loads, load_all};
 use crate::pair_task::PairTask;
 use crate::saves::{SaveStop, list_saves, save_all};
 use crate::texts::save_fault;
+use crate::trying::try_out;
 use crate::validation::{judge_files, replay_files};
 use std::alloc::Global;
 use tmr_base::OutOfMemory;
@@ -43,6 +44,7 @@ fn work(alloc: Global, words: &CommandWords, loaded: &[Loaded]) -> Result<Work, 
         CommandWords::Report(pair) => judge_files(alloc, PairTask::Report, pair, loaded),
         CommandWords::Guard(words) => guard_file(alloc, words, loaded),
         CommandWords::CheckGuard(words) => check_files(alloc, words, loaded),
+        CommandWords::Trial(trial) => try_out(alloc, trial),
     }
 }
 

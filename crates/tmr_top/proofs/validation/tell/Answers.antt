@@ -1,4 +1,4 @@
-use Rattle.std.proofs.Common.{Bool, [], subst, sym}
+use Rattle.std.proofs.Common.{[], subst, sym}
 use Rattle.flat_net.specs.Net.{Design}
 use Rattle.certificate.specs.Rules.{AllHold}
 use Rattle.certificate.specs.Starts.{counted}
