@@ -1,0 +1,18 @@
+use Rattle.std.proofs.Common.{◌≡◌, ℕ, ◌<◌, ◌∙◌, List, Bool, false, Some, length, sym, subst, arith}
+use Rattle.std.proofs.lemmas.List.{ext_get_or}
+use Rattle.std.proofs.lemmas.Option.{slice_get_within, get_or_from_slice_get}
+use Rattle.std.specs.Prelude.{slice_get, All}
+use Rattle.table_cover.specs.Words.{bits_of}
+use Rattle.net_meaning.specs.Meaning.{row_at}
+use Rattle.net_simulator.proofs.Lanes.{bit_of_words, length_bits}
+use Rattle.schedule_replay.specs.Schedule.{PlainSchedule}
+use Rattle.schedule_replay.proofs.WideRows.{row_words, spread_words}
+use Rattle.schedule_replay.proofs.wide_rows.write_rows.Goals as goal
+
+pub returns-clause-row : goal.returns-clause-row
+returns-clause-row c = λ j s at. row_words c.args.list.now c.args.t j s c.args.inputs c.write_row.new.row at c.requires.plain (omega arith) (λ i h. c.write_row.ensures j s i at h)
+
+pub returns-clause-spread : goal.returns-clause-spread
+returns-clause-spread c = λ j s at.
+    spread_words j c.write_row.new.row c.write_spread.new.spread (row_at s.rows c.args.t) (omega arith) c.write_spread.ensures
+    (row_words c.args.list.now c.args.t j s c.args.inputs c.write_row.new.row at c.requires.plain (omega arith) (λ i h. c.write_row.ensures j s i at h))
