@@ -1,5 +1,5 @@
 -- A replay of several runs between two cycles. Private functions alone cite it.
-use Rattle.std.specs.Prelude.{◌≡◌, ℕ, ◌+◌, ◌*◌, ◌<◌, ◌≤◌, ◌||◌, ◌↔◌, IsTrue, Bool, nat_eq, nat_le, List, [], ◌∷◌, ◌++◌, length, slice_get, slice_index, option_map, replicate, Some, if◌then◌else◌}
+use Rattle.std.specs.Prelude.{◌≡◌, ℕ, ◌+◌, ◌*◌, ◌≤◌, ◌||◌, ◌↔◌, IsTrue, Bool, nat_eq, nat_le, List, [], ◌∷◌, ◌++◌, length, slice_get, slice_index, option_map, replicate, Some, if◌then◌else◌}
 use Rattle.tmr_base.specs.declared.ids.Upset.{Upset}
 use Rattle.table_cover.specs.Words.{word_bit, bits_of}
 use Rattle.flat_net.specs.Net.{Net}
@@ -29,7 +29,8 @@ pub record HaveTaken (k : PlainCert) (list : List PlainSchedule) (t : ℕ) (runs
 
 -- each run knows which partitions are quiet in cycle t
 abbrev pub AreToldQuiet : PlainCert → List PlainSchedule → ℕ → List Progress → Type 0
-AreToldQuiet k list t runs = (j : ℕ) (s : PlainSchedule) (p : Progress) → slice_get list j ≡ Some s → slice_get runs j ≡ Some p → TellQuiet k s.upsets t p.lasts.items
+AreToldQuiet k list t runs =
+    (j : ℕ) (s : PlainSchedule) (p : Progress) → slice_get list j ≡ Some s → slice_get runs j ≡ Some p → TellQuiet k s.upsets t p.lasts.items
 
 -- the two simulators are of these designs, and there is room for a cycle's inputs
 pub record IsWideReady (n h : Net) (r : WideRunning) : Type 0 where
@@ -110,7 +111,9 @@ NotesRun w t i j a b = IsNoted (difference_in w t i j ∷ []) 1 a b
 
 -- a node of partition p was counted in run j
 abbrev pub LateRun : FourWords → List Progress → ℕ → ℕ → ℕ → ℕ → Outcome → Outcome → Type 0
-LateRun w runs p depth t j a b = (q : Progress) → slice_get runs j ≡ Some q → b ≡ record a { late = a.late + late_in_run w (is_told_quiet (slice_index q.lasts.items p) depth t) j }
+LateRun w runs p depth t j a b =
+    (q : Progress) → slice_get runs j ≡ Some q →
+    b ≡ record a { late = a.late + late_in_run w (is_told_quiet (slice_index q.lasts.items p) depth t) j }
 
 -- no partition was struck yet
 pub record IsFresh (k : PlainCert) (p : Progress) : Type 0 where

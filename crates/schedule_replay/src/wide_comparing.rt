@@ -151,14 +151,7 @@ fn add_late(o: &mut Outcome, count: u64)
 }
 
 /// Counts a node of partition p in cycle t, in all runs.
-fn late_runs(
-    o: &mut Vec<Outcome>,
-    w: &FourWords,
-    runs: &[Progress],
-    p: PartId,
-    depth: u32,
-    t: u32,
-)
+fn late_runs(o: &mut Vec<Outcome>, w: &FourWords, runs: &[Progress], p: PartId, depth: u32, t: u32)
     requires few { length o.old.items ≤ 64 }
     requires long { length runs.now ≡ length o.old.items }
     requires lasts { All (λ q. p.0 < length q.lasts.items) runs.now }

@@ -65,7 +65,8 @@ returns-clause-counted c = λ j s a b tr ft at_s at_a at_b is_tr is_ft before co
     let ran = c.in_ok-advance_runs.ensures.ran j s tr ft at_s is_tr is_ft before in
     let original = ran.original ∙ ap (before_cycle tr) next in
     let hardened = ran.hardened ∙ ap (before_cycle ft) next in
-    let there : slice_get c.deref.result.now j ≡ Some q = ap (λ (ps : List Progress). slice_get ps j) c.deref.ensures.value ∙ at_q in
-    (ran,
-     cycle_counted n h c.args.c.now s.upsets tr ft t a m b counted (c.in_ok-compare_outputs_wide.ensures.counts j a m tr ft at_a at_m original hardened) (c.in_ok-compare_outputs_wide.ensures.bounded j a m at_a at_m).late
-     (c.compare_nodes_wide.ensures.late j m b q tr ft s.upsets at_m at_b there original hardened (c.in_ok-advance_runs.ensures.quiet j s q at_s at_q)))
+    let there : slice_get c.deref.result.now j ≡ Some q = ap (λ (ps : List Progress). slice_get ps j) c.deref.ensures.value ∙ at_q in (
+      ran,
+      cycle_counted n h c.args.c.now s.upsets tr ft t a m b counted (c.in_ok-compare_outputs_wide.ensures.counts j a m tr ft at_a at_m original hardened) (c.in_ok-compare_outputs_wide.ensures.bounded j a m at_a at_m).late
+          (c.compare_nodes_wide.ensures.late j m b q tr ft s.upsets at_m at_b there original hardened (c.in_ok-advance_runs.ensures.quiet j s q at_s at_q)),
+    )

@@ -1,4 +1,4 @@
-use Rattle.std.proofs.Common.{◌≡◌, ◌∙◌, ◌*◌, ◌<◌, ◌≤◌, [], ℕ, List, Bool, Some, length, get_or, slice_get, refl, sym, ap, subst, arith}
+use Rattle.std.proofs.Common.{◌≡◌, ◌*◌, ◌<◌, [], ℕ, List, Bool, Some, length, get_or, slice_get, refl, sym, ap, subst, arith}
 use Rattle.std.specs.Prelude.{All, IsTrue, ◌↔◌, option_map}
 use Rattle.flat_net.specs.Net.{net_count}
 use Rattle.std.proofs.lemmas.Option.{slice_get-get_or, slice_get_within, slice_get_read}
@@ -25,9 +25,10 @@ loop-t-init c = record {
       let (s, at_s) = slice_get_there c.args.list.now j (let long = c.in_ok-outcomes.ensures.begun.long in omega arith) in
       begun_bounded c.args.c.now s o (c.in_ok-outcomes.ensures.begun.each j s o at_s at_o);
   allowed = λ j s o at_s at_o. (c.in_ok-outcomes.ensures.begun.each j s o at_s at_o).allowed;
-  counted = λ j s o tr ft at_s at_o is_tr is_ft.
-      (record { original = ap (option_map (bits_of j)) c.in_ok-running.ensures.original; hardened = ap (option_map (bits_of j)) c.in_ok-running.ensures.hardened },
-       begun_counted c.args.n.now.net c.args.h.now.net c.args.c.now s tr ft o (c.in_ok-outcomes.ensures.begun.each j s o at_s at_o));
+  counted = λ j s o tr ft at_s at_o is_tr is_ft. (
+    record { original = ap (option_map (bits_of j)) c.in_ok-running.ensures.original; hardened = ap (option_map (bits_of j)) c.in_ok-running.ensures.hardened },
+    begun_counted c.args.n.now.net c.args.h.now.net c.args.c.now s tr ft o (c.in_ok-outcomes.ensures.begun.each j s o at_s at_o),
+  );
 }
 
 pub count_cycle_wide-requires-clause-t : goal.count_cycle_wide-requires-clause-t

@@ -1,4 +1,4 @@
-use Rattle.std.proofs.Common.{◌≡◌, ℕ, Some, length, get_or, slice_get, arith}
+use Rattle.std.proofs.Common.{◌≡◌, Some, length, get_or, slice_get, arith}
 use Rattle.std.specs.Prelude.{All}
 use Rattle.std.proofs.lemmas.Option.{slice_get-get_or}
 use Rattle.flat_net.proofs.Slots.{slice_get_there}

@@ -1,9 +1,8 @@
-use Rattle.std.proofs.Common.{◌≡◌, ◌<◌, ◌≤◌, ◌+◌, ◌∙◌, ℕ, suc, Some, length, get_or, slice_get, slice_index, refl, sym, ap, subst, arith}
+use Rattle.std.proofs.Common.{◌≡◌, ◌<◌, ◌+◌, ◌∙◌, ℕ, suc, Some, length, get_or, slice_get, slice_index, refl, sym, ap, subst, arith}
 use Rattle.std.proofs.lemmas.Option.{slice_get-get_or, slice_get_within}
 use Rattle.flat_net.proofs.Slots.{slice_get_there}
 use Rattle.certificate.specs.Cert.{part_of}
 use Rattle.schedule_replay.specs.declared.outcome.Outcome.{Outcome}
-use Rattle.schedule_replay.specs.declared.wide_rows.Progress.{Progress}
 use Rattle.schedule_replay.specs.Outcome.{late_at, late_in}
 use Rattle.schedule_replay.specs.Wide.{late_in_run, is_told_quiet}
 use Rattle.schedule_replay.proofs.Turns.{at_place}

@@ -29,8 +29,8 @@ loop-j-preserved c =
     let last : c.index.result.now ≡ slice_index r.lasts.items p = c.index.ensures ∙ (ap (λ (x : Progress). get_or x.lasts.items p c.index.result.now) (sym c.index-runs-j.is) ∙ get_or_default_zero r.lasts.items p c.index.result.now parts) in
     let quiet : c.is_quiet-quiet.result ≡ is_told_quiet (slice_index r.lasts.items p) c.args.depth c.args.t = c.is_quiet-quiet.ensures ∙ ap (λ (m : ℕ). is_told_quiet m c.args.depth c.args.t) last in
     let late : LateRun c.args.w.now c.args.runs.now p c.args.depth c.args.t j v w = λ q at_q.
-        subst (λ (x : Progress). w ≡ record v { late = v.late + late_in_run c.args.w.now (is_told_quiet (slice_index x.lasts.items p) c.args.depth c.args.t) j }) (let same : r ≡ q = cc in same)
-        (c.add_late.ensures ∙ ap (λ (m : ℕ). record v { late = v.late + m }) (c.late_of.ensures.value ∙ ap (λ (b : Bool). late_in_run c.args.w.now b j) quiet)) in
+    subst (λ (x : Progress). w ≡ record v { late = v.late + late_in_run c.args.w.now (is_told_quiet (slice_index x.lasts.items p) c.args.depth c.args.t) j }) (let same : r ≡ q = cc in same)
+    (c.add_late.ensures ∙ ap (λ (m : ℕ). record v { late = v.late + m }) (c.late_of.ensures.value ∙ ap (λ (b : Bool). late_in_run c.args.w.now b j) quiet)) in
     record {
       long = length-set c.loop-j.o.items j w ∙ c.loop-j.invariant.long;
       done = done_more (LateRun c.args.w.now c.args.runs.now c.args.p.0 c.args.depth c.args.t) c.args.o.now.items c.loop-j.o.items j v w within c.index_mut.ensures.value c.loop-j.invariant.done c.loop-j.invariant.rest late;

@@ -1,4 +1,4 @@
-use Rattle.std.proofs.Common.{◌≡◌, ◌∙◌, ℕ, ap}
+use Rattle.std.proofs.Common.{◌∙◌, ap}
 use Rattle.net_meaning.specs.Meaning.{value_at}
 use Rattle.schedule_replay.proofs.WideOutcomes.{read_run, same_wrong}
 use Rattle.schedule_replay.proofs.wide_comparing.node_words.Goals as goal

@@ -1,5 +1,4 @@
-use Rattle.std.proofs.Common.{◌≡◌, ◌∙◌, ◌*◌, ◌+◌, ℕ, List, Bool, ap}
-use Rattle.table_cover.specs.Words.{word_bit}
+use Rattle.std.proofs.Common.{◌∙◌, ◌*◌, ◌+◌, ℕ, ap}
 use Rattle.net_meaning.specs.Meaning.{value_at}
 use Rattle.schedule_replay.proofs.SeenLaws.{output_is}
 use Rattle.schedule_replay.proofs.WideOutcomes.{read_run, same_difference}

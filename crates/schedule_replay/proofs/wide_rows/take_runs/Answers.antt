@@ -1,4 +1,4 @@
-use Rattle.std.proofs.Common.{◌≡◌, ◌≢◌, ◌<◌, ◌+◌, ◌∙◌, ℕ, Bool, List, Some, length, slice_get, refl, sym, ap, subst, arith}
+use Rattle.std.proofs.Common.{◌≡◌, ◌<◌, ◌+◌, ◌∙◌, ℕ, Bool, List, Some, length, slice_get, refl, sym, ap, subst, arith}
 use Rattle.std.specs.Prelude.{All}
 use Rattle.std.proofs.lemmas.List.{length-set}
 use Rattle.std.proofs.lemmas.Option.{slice_get_read, slice_get_within}
@@ -33,7 +33,7 @@ loop-j-preserved c =
     let small : j < 64 = let few = c.requires.few in omega arith in
     let listed : slice_get list j ≡ Some r = slice_get_read list (length list) j r refl c.loop-j-test.true c.index-list-j.is in
     let turned : HasTurned k list t j c.index_mut.result.now w = λ s at.
-        subst (λ (x : PlainSchedule). TakesCycle k x.upsets t w) (let same : r ≡ s = cc in same) (record { taken = c.in_ok-take_run.ensures.taken; quiet = c.in_ok-take_run.ensures.quiet }) in
+    subst (λ (x : PlainSchedule). TakesCycle k x.upsets t w) (let same : r ≡ s = cc in same) (record { taken = c.in_ok-take_run.ensures.taken; quiet = c.in_ok-take_run.ensures.quiet }) in
     record {
       long = length-set c.loop-j.runs.items j w ∙ c.loop-j.invariant.long;
       done = done_more (HasTurned k list t) c.args.runs.now.items c.loop-j.runs.items j c.index_mut.result.now w within c.index_mut.ensures.value c.loop-j.invariant.done c.loop-j.invariant.rest turned;

@@ -1,4 +1,4 @@
-use Rattle.std.proofs.Common.{ℕ, arith}
+use Rattle.std.proofs.Common.{arith}
 use Rattle.net_meaning.specs.Meaning.{value_at}
 use Rattle.schedule_replay.proofs.WideRows.{word_done}
 use Rattle.schedule_replay.proofs.wide_rows.write_row.Goals as goal

@@ -1,11 +1,5 @@
-use Rattle.std.proofs.Common.{◌≡◌, ℕ, ◌<◌, ◌∙◌, List, Bool, false, Some, length, sym, subst, arith}
-use Rattle.std.proofs.lemmas.List.{ext_get_or}
-use Rattle.std.proofs.lemmas.Option.{slice_get_within, get_or_from_slice_get}
-use Rattle.std.specs.Prelude.{slice_get, All}
-use Rattle.table_cover.specs.Words.{bits_of}
+use Rattle.std.proofs.Common.{arith}
 use Rattle.net_meaning.specs.Meaning.{row_at}
-use Rattle.net_simulator.proofs.Lanes.{bit_of_words, length_bits}
-use Rattle.schedule_replay.specs.Schedule.{PlainSchedule}
 use Rattle.schedule_replay.proofs.WideRows.{row_words, spread_words}
 use Rattle.schedule_replay.proofs.wide_rows.write_rows.Goals as goal
 

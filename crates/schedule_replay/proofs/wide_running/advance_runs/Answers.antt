@@ -1,4 +1,4 @@
-use Rattle.std.proofs.Common.{◌≡◌, ◌<◌, ◌∙◌, ℕ, suc, ◌+◌, [], List, Bool, Some, length, slice_get, refl, sym, ap, subst, arith}
+use Rattle.std.proofs.Common.{◌≡◌, ◌<◌, ◌∙◌, ℕ, suc, ◌+◌, [], List, Some, length, refl, sym, ap, arith}
 use Rattle.std.specs.Prelude.{option_map}
 use Rattle.std.proofs.lemmas.List.{length-map, with_items_is}
 use Rattle.std.proofs.lemmas.Option.{slice_get_within}
@@ -6,7 +6,7 @@ use Rattle.tmr_base.specs.declared.ids.NetId.{NetId}
 use Rattle.table_cover.specs.Words.{bits_of}
 use Rattle.net_meaning.specs.Meaning.{spread, spread_row, row_at}
 use Rattle.net_meaning.proofs.Lists.{row_at-spread}
-use Rattle.net_simulator.specs.Cycle.{IsCycle, forced_in}
+use Rattle.net_simulator.specs.Cycle.{forced_in}
 use Rattle.schedule_replay.proofs.Starting.{step_row, unmarked}
 use Rattle.schedule_replay.proofs.Turns.{at_place}
 use Rattle.schedule_replay.proofs.WideLaws.{rows_wide, upsets_alone}
