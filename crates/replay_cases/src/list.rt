@@ -1,5 +1,5 @@
 //! Schedules that are replayed at once.
-ghost use Rattle.std.specs.Prelude.{◌≡◌, ◌*◌, ◌<◌, ◌≤◌, All, IfOk, IsTrue, length};
+ghost use Rattle.std.specs.Prelude.{◌≡◌, ◌++◌, ◌∷◌, [], ◌*◌, ◌<◌, ◌≤◌, All, IfOk, OnOk, IsTrue, length};
 ghost use Rattle.certificate.specs.Cert.{Fits};
 ghost use Rattle.schedule_replay.specs.Many.{HaveOneLength};
 ghost use Rattle.schedule_replay.specs.Reading.{IsNodeOf};
@@ -28,6 +28,16 @@ fn read_plain(
     read_schedule(alloc, bytes, n, h)
 }
 
+/// One schedule more.
+fn push(list: &mut Vec<Schedule>, s: Schedule) -> Result<(), ScheduleFault>
+    ensures { OnOk result (list.new.items ≡ list.old.items ++ s ∷ []) }
+{
+    match list.push(s) {
+        Ok(()) => Ok(()),
+        Err(_) => Err(ScheduleFault::Memory),
+    }
+}
+
 /// The schedules that stand between bars.
 pub fn read_list(
     alloc: Global,
@@ -41,7 +51,7 @@ pub fn read_list(
     let mut list = Vec::new(alloc);
     for piece in text.split('|') {
         let schedule = read_plain(alloc, n, h, piece)?;
-        list.push(schedule)?;
+        push(&mut list, schedule)?;
     }
     Ok(list)
 }
