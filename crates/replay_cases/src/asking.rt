@@ -6,9 +6,10 @@ ghost use Rattle.schedule_replay.specs.Reading.{IsNodeOf};
 
 use crate::designs::design_of;
 use crate::files::{Files, lines_of};
+use crate::list::{read_list, wide_text};
 use crate::printing::{allowed_text, fault_text, replay_text, schedule_text, wave_text};
 use certificate::{Certificate, read_cert};
-use flat_net::FreeNet;
+use flat_net::{FlatNet, FreeNet};
 use schedule_replay::{
     Outcome, Schedule, ScheduleFault, is_allowed, read_schedule, read_schedule_free, replay,
     replay_free, wave_values,
@@ -117,6 +118,24 @@ fn of_schedule(
     }
 }
 
+/// What replaying all schedules of a text at once answers.
+fn of_list(
+    alloc: Global,
+    n: &FlatNet,
+    h: &FlatNet,
+    c: &Certificate,
+    text: &str,
+) -> Result<String, OutOfMemory>
+    requires fits { Fits n.now.net h.now.net c.now }
+    requires inputs { length h.now.net.inputs ≡ 3 * length n.now.net.inputs }
+    requires outputs { length h.now.net.outputs ≡ 3 * length n.now.net.outputs }
+{
+    match read_list(alloc, n, h, text) {
+        Ok(list) => wide_text(alloc, n, h, c, &list),
+        Err(fault) => Ok(fault_text(alloc, fault)?),
+    }
+}
+
 /// What a verb answers of a schedule file.
 fn of_text(
     alloc: Global,
@@ -130,6 +149,9 @@ fn of_text(
     requires inputs { length h.now.design.net.inputs ≡ 3 * length n.now.design.net.inputs }
     requires outputs { length h.now.design.net.outputs ≡ 3 * length n.now.design.net.outputs }
 {
+    if verb == "wide" {
+        return of_list(alloc, n.net(), h.net(), c, text);
+    }
     match read(alloc, n, h, c, text) {
         Ok(s) => of_schedule(alloc, n, h, c, verb, &s),
         Err(fault) => Ok(fault_text(alloc, fault)?),

@@ -10,6 +10,7 @@
 mod asking;
 mod designs;
 mod files;
+mod list;
 mod printing;
 
 use crate::asking::answer;

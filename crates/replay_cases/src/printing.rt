@@ -38,16 +38,15 @@ fn yes_or_no(is: bool) -> &'static str {
     if is { "yes" } else { "no" }
 }
 
-/// The differences and the six lines of a replay.
-pub fn replay_text(
-    alloc: Global,
+/// Adds the differences and the six lines of a replay.
+pub fn put_replay(
+    text: &mut String,
     n: &FlatNet,
     s: &Schedule,
     o: &Outcome,
-) -> Result<String, AllocError> {
-    let mut text = String::new(alloc);
+) -> Result<(), AllocError> {
     for d in o.first.as_slice() {
-        put_difference(&mut text, n, d)?;
+        put_difference(text, n, d)?;
     }
     write!(
         text,
@@ -61,7 +60,18 @@ pub fn replay_text(
         yes_or_no(o.allowed),
         o.differences
     )?;
-    write!(text, "wrong {} / late {}", o.wrong, o.late)?;
+    write!(text, "wrong {} / late {}", o.wrong, o.late)
+}
+
+/// The differences and the six lines of a replay.
+pub fn replay_text(
+    alloc: Global,
+    n: &FlatNet,
+    s: &Schedule,
+    o: &Outcome,
+) -> Result<String, AllocError> {
+    let mut text = String::new(alloc);
+    put_replay(&mut text, n, s, o)?;
     Ok(text)
 }
 

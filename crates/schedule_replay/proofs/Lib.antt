@@ -1,5 +1,6 @@
 pub mod Apart
 pub mod Quiet
+pub mod RunWords
 pub mod SeenLaws
 pub mod Taking
 pub mod Counting
@@ -12,5 +13,8 @@ pub mod Listing
 pub mod Starting
 pub mod Placing
 pub mod WaveLaws
+pub mod Turns
+pub mod WideLaws
+pub mod WideRows
+pub mod WideOutcomes
 pub mod Unharmed
-pub mod Several

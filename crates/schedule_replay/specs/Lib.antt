@@ -12,3 +12,4 @@ pub mod Starts
 pub mod Striking
 pub mod View
 pub mod Waves
+pub mod Wide

@@ -77,7 +77,7 @@ pub fn compare_outputs(
 }
 
 /// The partition is quiet in cycle t.
-fn is_quiet(last: u32, depth: u32, t: u32) -> bool
+pub fn is_quiet(last: u32, depth: u32, t: u32) -> bool
     ensures { result ≡ (nat_eq last 0 || nat_le (last + depth) t) }
 {
     last == 0 || u64::from(last) + u64::from(depth) <= u64::from(t)

@@ -17,11 +17,17 @@ mod running;
 mod schedule;
 mod starts;
 mod waving;
+mod wide;
+mod wide_comparing;
+mod wide_rows;
+mod wide_running;
+mod words;
 
 pub use allowing::is_allowed;
 pub use fault::ScheduleFault;
 pub use outcome::{Difference, Outcome};
 pub use reading::{read_schedule, read_schedule_free};
-pub use replaying::{replay, replay_free, replay_wide};
+pub use replaying::{replay, replay_free};
 pub use schedule::Schedule;
 pub use waving::wave_values;
+pub use wide::replay_wide;

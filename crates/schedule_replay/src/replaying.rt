@@ -4,7 +4,6 @@ ghost use Rattle.flat_net.specs.Net.{net_count};
 ghost use Rattle.certificate.specs.Cert.{Fits};
 ghost use Rattle.net_meaning.specs.Meaning.{IsFreeTrace, IsFreeFaultTrace, spread};
 ghost use Rattle.validator.specs.Masking.{Masks, FreeMasks};
-ghost use Rattle.schedule_replay.specs.Many.{HaveOneLength, AreReplaysOf};
 ghost use Rattle.schedule_replay.specs.Outcome.{IsReplayOf, IsFreeReplay};
 ghost use Rattle.schedule_replay.specs.Reading.{IsNodeOf};
 ghost use Rattle.schedule_replay.specs.OutcomeView.{plain_outcome};
@@ -146,30 +145,4 @@ pub fn replay_free(
         Ok(outcome) => Ok(outcome),
         Err(error) => Err(error),
     }
-}
-
-/// What each of the schedules does: outcome j is that of schedule j, as `replay` tells it.
-pub fn replay_wide(
-    alloc: Global,
-    n: &FlatNet,
-    h: &FlatNet,
-    c: &Certificate,
-    list: &[Schedule],
-) -> Result<Vec<Outcome>, OutOfMemory>
-    requires fits { Fits n.now.net h.now.net c.now }
-    requires inputs { length h.now.net.inputs ≡ 3 * length n.now.net.inputs }
-    requires outputs { length h.now.net.outputs ≡ 3 * length n.now.net.outputs }
-    requires some { 0 < length list.now }
-    requires few { length list.now ≤ 64 }
-    requires rows { All (λ s. s.inputs ≡ length n.now.net.inputs) list.now }
-    requires cycles { HaveOneLength list.now }
-    requires nodes { All (λ s. All (λ u. IsNodeOf h.now.net u.net.0) s.upsets) list.now }
-    ensures { IfOk result (λ v. AreReplaysOf n.now.net h.now.net c.now list.now v.items) }
-{
-    let mut outcomes = Vec::new(alloc);
-    for j in 0..list.len() {
-        let outcome = replay(alloc, n, h, c, &list[j])?;
-        outcomes.push(outcome)?;
-    }
-    Ok(outcomes)
 }

@@ -1,0 +1,11 @@
+use Rattle.std.proofs.Common.{◌≡◌, ◌<◌, ◌≤◌, ℕ, Some, length, slice_get}
+use Rattle.schedule_replay.specs.declared.outcome.Outcome.{Outcome}
+use Rattle.schedule_replay.specs.Wide.{NotesRun}
+use Rattle.schedule_replay.proofs.wide_comparing.note_runs.Given as goal
+
+abbrev pub invariant-loop-j : goal.invariant-loop-j
+invariant-loop-j l = record {
+  long : length l.o.items ≡ length l.fn.o.items;
+  done : (k : ℕ) (a b : Outcome) → k < l.j → slice_get l.fn.o.items k ≡ Some a → slice_get l.o.items k ≡ Some b → NotesRun l.w l.t l.i k a b;
+  rest : (k : ℕ) → l.j ≤ k → slice_get l.o.items k ≡ slice_get l.fn.o.items k;
+}
