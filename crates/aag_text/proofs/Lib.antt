@@ -1,0 +1,9 @@
+pub mod Stacks
+pub mod Chains
+pub mod Making
+pub mod Firsts
+pub mod Latches
+pub mod Agree
+pub mod Exist
+pub mod Puts
+pub mod Rows
