@@ -119,12 +119,12 @@ length_map f [] = refl
 length_map f (x ∷ xs) = ap suc (length_map f xs)
 
 -- a latch has its place's number, and the gates come behind it
-record Numbered (count first j : ℕ) (l : Latch) : Type 0 where
-  variable : l.variable ≡ count + 1 + j
-  below : l.variable < first
+pub record Numbered (count first j : ℕ) (l : Latch) : Type 0 where
+  pub variable : l.variable ≡ count + 1 + j
+  pub below : l.variable < first
 
 module _ (n : FreeDesign) (a : PlainAig) (g : IsGraphOf n a) (w : List Bool) (ins : List (List Bool)) where
-  abbrev count : ℕ
+  abbrev pub count : ℕ
   count = length n.design.net.inputs
 
   -- the values of all variables, cycle by cycle
@@ -144,7 +144,7 @@ module _ (n : FreeDesign) (a : PlainAig) (g : IsGraphOf n a) (w : List Bool) (in
   all_met zero = extend_met _ g.gates.first g.gates.list g.stacked
   all_met (suc t) = extend_met _ g.gates.first g.gates.list g.stacked
 
-  latch_numbered : (j : ℕ) (l : Latch) → slice_get a.latches j ≡ Some l → Numbered count g.gates.first j l
+  pub latch_numbered : (j : ℕ) (l : Latch) → slice_get a.latches j ≡ Some l → Numbered count g.gates.first j l
   latch_numbered j l at =
       let mapped : slice_get (map (latch_at n.design.net n.free g.literals) (registers n.design.net)) j ≡ Some l = ap (λ (ls : List Latch). slice_get ls j) (sym g.latches) ∙ at in
       let within : j < length (map (latch_at n.design.net n.free g.literals) (registers n.design.net)) = slice_get_within (map (latch_at n.design.net n.free g.literals) (registers n.design.net)) j l mapped in

@@ -76,9 +76,3 @@ outputs_more literals (y ∷ outputs) (suc k) x old new own at is e f =
     let rest : map (literal_at literals) (take k outputs) ++ own ∷ [] ≡ map (literal_at literals) (take (k + 1) outputs) = outputs_more literals outputs k x (map (literal_at literals) (take k outputs)) _ own at is refl refl in
     let count : suc k + 1 ≡ suc (k + 1) = omega arith in
     f ∙ (ap (λ (o : List Literal). o ++ own ∷ []) e ∙ (ap (λ (r : List Literal). literal_at literals y ∷ r) rest ∙ ap (λ (m : ℕ). map (literal_at literals) (take m (y ∷ outputs))) (sym count)))
-
--- registers are nodes
-pub registers_few : (x : ℕ) (nodes : List Node) → length (registers_from x nodes) ≤ length nodes
-registers_few x [] = omega arith
-registers_few x (Table name cover pins ∷ nodes) = let rest = registers_few (x + 1) nodes in omega (arith, rest)
-registers_few x (Register name init pin ∷ nodes) = let rest = registers_few (x + 1) nodes in omega (arith, rest)

@@ -7,3 +7,5 @@ pub mod Agree
 pub mod Exist
 pub mod Puts
 pub mod Rows
+pub mod Spelling
+pub mod Within

@@ -17,7 +17,7 @@ use Rattle.aag_text.specs.Same.{registers, registers_from}
 use Rattle.aag_text.specs.Nets.{is_register_at}
 use Rattle.aag_text.specs.Puts.{symbol_line, register_symbols, next_symbol}
 use Rattle.aag_text.specs.Aig.{PlainAig}
-use Rattle.aag_text.specs.Text.{variable_word, literal_word, header_line, latch_line, gate_line, aig_lines, symbol_lines, design_symbols, aag_text}
+use Rattle.aag_text.specs.Text.{variable_word, literal_word, header, header_line, latch_line, gate_line, aig_lines, symbol_lines, design_symbols, aag_text}
 
 -- one line more of a list
 pub lines_more : {A : Type 0} (f : A → List (List ℕ)) (xs : List A) (i : ℕ) (d : A) (old new total : List ℕ) → i < length xs → new ≡ old ++ line_text (f (get_or xs i d)) → old ++ lines_text (map f (drop i xs)) ≡ total → new ++ lines_text (map f (drop (i + 1) xs)) ≡ total
@@ -28,9 +28,9 @@ lines_more f xs i d old new total l is e =
     ∙ (ap (λ (r : List _). old ++ lines_text (map f r)) (sym here) ∙ e))
 
 -- the lines of a graph are put
-pub graph_put : (a : PlainAig) (m : ℕ) (o0 o1 o2 o3 o4 o5 : List ℕ) → o1 ≡ o0 ++ line_text (header_line m a) → o2 ≡ o1 ++ lines_text (map (λ v. variable_word v ∷ []) a.inputs) → o3 ≡ o2 ++ lines_text (map latch_line a.latches) → o4 ≡ o3 ++ lines_text (map (λ (l : Literal). literal_word l ∷ []) a.outputs) → o5 ≡ o4 ++ lines_text (map gate_line a.gates) → o5 ≡ o0 ++ lines_text (aig_lines m a)
+pub graph_put : (a : PlainAig) (m : ℕ) (o0 o1 o2 o3 o4 o5 : List ℕ) → o1 ≡ o0 ++ line_text (header_line (header m a)) → o2 ≡ o1 ++ lines_text (map (λ v. variable_word v ∷ []) a.inputs) → o3 ≡ o2 ++ lines_text (map latch_line a.latches) → o4 ≡ o3 ++ lines_text (map (λ (l : Literal). literal_word l ∷ []) a.outputs) → o5 ≡ o4 ++ lines_text (map gate_line a.gates) → o5 ≡ o0 ++ lines_text (aig_lines m a)
 graph_put a m o0 o1 o2 o3 o4 o5 e1 e2 e3 e4 e5 =
-    let h : List ℕ = line_text (header_line m a) in
+    let h : List ℕ = line_text (header_line (header m a)) in
     let i : List (List (List ℕ)) = map (λ v. variable_word v ∷ []) a.inputs in
     let l : List (List (List ℕ)) = map latch_line a.latches in
     let o : List (List (List ℕ)) = map (λ (k : Literal). literal_word k ∷ []) a.outputs in

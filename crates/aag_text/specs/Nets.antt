@@ -11,7 +11,7 @@ use Rattle.aag_text.specs.Aig.{PlainAig, literal_value}
 use Rattle.aag_text.specs.Same.{registers, register_start}
 use Rattle.hierarchy.specs.Sizes.{row_total}
 use Rattle.aag_text.specs.declared.aig.Aig.{Aig}
-use Rattle.aag_text.specs.Gates.{PlainGates, next_of, AreMet, AreStacked}
+use Rattle.aag_text.specs.Gates.{PlainGates, next_of, AreMet, AreStacked, AreBelow}
 
 -- the literal of a variable as it is
 abbrev pub positive : ℕ → Literal
@@ -97,6 +97,7 @@ pub record HasLiterals (d : Design) (literals : List Literal) (gates : PlainGate
   pub others : OnlyTables d.net (first_literals d.net) literals
   pub first : gates.first ≡ length d.net.inputs + register_count d.net + 1
   pub few : length gates.list ≤ row_total d.net
+  pub below : AreBelow (next_of gates) literals
 
 -- the graph of a design, whose nets have these literals
 pub record IsGraphOf (n : FreeDesign) (a : PlainAig) : Type 0 where

@@ -3,6 +3,7 @@ use Rattle.std.specs.Prelude.{ℕ, ◌+◌, ◌*◌, List, [], ◌∷◌, ◌++�
 use Rattle.std.specs.Fmt.{decimal}
 use Rattle.flat_net.specs.Net.{Net, name_of}
 use Rattle.blif_writer.specs.Text.{lines_text}
+use Rattle.aag_text.specs.declared.aig.Header.{Header}
 use Rattle.aag_text.specs.declared.aig.Literal.{Literal}
 use Rattle.aag_text.specs.declared.aig.Latch.{Latch}
 use Rattle.aag_text.specs.declared.aig.Gate.{Gate}
@@ -24,9 +25,13 @@ start_words v Zero = []
 start_words v One = codes "1" ∷ []
 start_words v Free = variable_word v ∷ []
 
+-- the header of a graph with the greatest variable m
+abbrev pub header : ℕ → PlainAig → Header
+header m a = record { most = m; inputs = length a.inputs; latches = length a.latches; outputs = length a.outputs; gates = length a.gates }
+
 -- `aag M I L O A`
-abbrev pub header_line : ℕ → PlainAig → List (List ℕ)
-header_line m a = codes "aag" ∷ decimal m ∷ decimal (length a.inputs) ∷ decimal (length a.latches) ∷ decimal (length a.outputs) ∷ decimal (length a.gates) ∷ []
+abbrev pub header_line : Header → List (List ℕ)
+header_line h = codes "aag" ∷ decimal h.most ∷ decimal h.inputs ∷ decimal h.latches ∷ decimal h.outputs ∷ decimal h.gates ∷ []
 
 abbrev pub latch_line : Latch → List (List ℕ)
 latch_line l = variable_word l.variable ∷ literal_word l.next ∷ start_words l.variable l.start
@@ -49,7 +54,7 @@ design_symbols n =
 -- the lines of a graph with the greatest variable m, without symbols
 abbrev pub aig_lines : ℕ → PlainAig → List (List (List ℕ))
 aig_lines m a =
-    header_line m a ∷
+    header_line (header m a) ∷
     (map (λ v. variable_word v ∷ []) a.inputs ++
     (map latch_line a.latches ++
     (map (λ (l : Literal). literal_word l ∷ []) a.outputs ++

@@ -31,6 +31,16 @@ pub struct Gate {
     pub right: Literal,
 }
 
+/// What the first line of a file says: the greatest variable, and how many inputs, latches, outputs and gates there are.
+#[derive(Clone, Copy, Debug, Drop)]
+pub struct Header {
+    pub most: u32,
+    pub inputs: u32,
+    pub latches: u32,
+    pub outputs: u32,
+    pub gates: u32,
+}
+
 /// An and-inverter graph: the variables of its inputs, its latches, the literals of its outputs and its
 /// gates, each in the order of the file.
 #[derive(Debug, Drop)]

@@ -1,7 +1,8 @@
 //! And-inverter graphs, and their text: AIGER ASCII.
 //!
 //! The layers above may rely on `specs/`: what a graph is and what it does (`Aig.antt`, `Traces.antt`), when a
-//! design and a graph do the same (`Same.antt`), how a graph is spelled (`Text.antt`), and what the file of a
+//! design and a graph do the same (`Same.antt`), how a graph is spelled (`Text.antt`), what a file of a graph is
+//! line by line (`Lines.antt`), and what the file of a
 //! design is (`Written.antt`).
 #![tactic(auto)]
 
@@ -12,5 +13,5 @@ mod nets;
 mod text;
 mod writing;
 
-pub use aig::{Aig, Gate, Latch, Literal, Start};
+pub use aig::{Aig, Gate, Header, Latch, Literal, Start};
 pub use writing::write_aag;

@@ -3,12 +3,12 @@ ghost use Rattle.std.specs.Prelude.{◌≡◌, ◌+◌, ◌<◌, ◌≤◌, ◌+
 ghost use Rattle.std.specs.Fmt.{decimal};
 ghost use Rattle.flat_net.specs.Net.{net_count, node_of, name_of};
 ghost use Rattle.blif_writer.specs.Text.{line_text, lines_text};
-ghost use Rattle.aag_text.specs.Text.{variable_word, literal_word, start_words, header_line, latch_line, gate_line, aig_lines, symbol_lines, design_symbols, aag_text};
+ghost use Rattle.aag_text.specs.Text.{variable_word, literal_word, start_words, header, header_line, latch_line, gate_line, aig_lines, symbol_lines, design_symbols, aag_text};
 ghost use Rattle.aag_text.specs.Nets.{plain_aig};
 ghost use Rattle.aag_text.specs.Same.{registers};
 ghost use Rattle.aag_text.specs.Puts.{symbol_line, register_symbols, next_symbol, spaced};
 
-use crate::{Aig, Gate, Latch, Literal, Start};
+use crate::{Aig, Gate, Header, Latch, Literal, Start};
 use crate::nets::is_register;
 use flat_net::FlatNet;
 use std::alloc::{AllocError, Global};
@@ -36,45 +36,43 @@ fn put_literal(alloc: Global, out: &mut Vec<u8>, l: Literal) -> Result<(), Alloc
 }
 
 /// Puts a blank and the number.
-fn put_count(alloc: Global, out: &mut Vec<u8>, number: u64) -> Result<(), AllocError>
+fn put_count(alloc: Global, out: &mut Vec<u8>, number: u32) -> Result<(), AllocError>
     ensures { OnOk result (out.new.items ≡ out.old.items ++ 32 ∷ decimal number) }
 {
     out.push(b' ')?;
-    put_number(alloc, out, number)
+    put_number(alloc, out, number as u64)
 }
 
 /// Puts `aag M I L O A`.
-fn put_counts(
-    alloc: Global,
-    out: &mut Vec<u8>,
-    most: u64,
-    inputs: u64,
-    latches: u64,
-    outputs: u64,
-    gates: u64,
-) -> Result<(), AllocError>
-    ensures { OnOk result (out.new.items ≡ out.old.items ++ line_text (codes "aag" ∷ decimal most ∷ decimal inputs ∷ decimal latches ∷ decimal outputs ∷ decimal gates ∷ [])) }
+fn put_header(alloc: Global, out: &mut Vec<u8>, h: Header) -> Result<(), AllocError>
+    ensures { OnOk result (out.new.items ≡ out.old.items ++ line_text (header_line h)) }
 {
     out.extend_from_slice(b"aag")?;
-    put_count(alloc, out, most)?;
-    put_count(alloc, out, inputs)?;
-    put_count(alloc, out, latches)?;
-    put_count(alloc, out, outputs)?;
-    put_count(alloc, out, gates)?;
+    put_count(alloc, out, h.most)?;
+    put_count(alloc, out, h.inputs)?;
+    put_count(alloc, out, h.latches)?;
+    put_count(alloc, out, h.outputs)?;
+    put_count(alloc, out, h.gates)?;
     out.push(b'\n')?;
     Ok(())
 }
 
-/// Puts the first line, where the variables are those that are defined.
-fn put_header(alloc: Global, out: &mut Vec<u8>, a: &Aig) -> Result<(), AllocError>
-    requires { length a.now.inputs.items + length a.now.latches.items + length a.now.gates.items < 18446744073709551616 }
-    ensures { OnOk result (out.new.items ≡ out.old.items ++ line_text (header_line (length a.now.inputs.items + length a.now.latches.items + length a.now.gates.items) (plain_aig a.now))) }
+/// The header of a graph whose variables are those that are defined.
+fn header(a: &Aig) -> Header
+    requires few { length a.now.inputs.items + length a.now.latches.items + length a.now.gates.items < 4294967296 }
+    requires outputs { length a.now.outputs.items < 4294967296 }
+    ensures { result ≡ header (length a.now.inputs.items + length a.now.latches.items + length a.now.gates.items) (plain_aig a.now) }
 {
-    let inputs = a.inputs.len() as u64;
-    let latches = a.latches.len() as u64;
-    let outputs = a.outputs.len() as u64;
-    let gates = a.gates.len() as u64;
-    put_counts(alloc, out, inputs + latches + gates, inputs, latches, outputs, gates)
+    let inputs = a.inputs.len() as u32;
+    let latches = a.latches.len() as u32;
+    let gates = a.gates.len() as u32;
+    Header {
+        most: inputs + latches + gates,
+        inputs,
+        latches,
+        outputs: a.outputs.len() as u32,
+        gates,
+    }
 }
 
 fn put_start(alloc: Global, out: &mut Vec<u8>, latch: &Latch) -> Result<(), AllocError>
@@ -154,10 +152,11 @@ fn put_gates(alloc: Global, out: &mut Vec<u8>, gates: &[Gate]) -> Result<(), All
 /// Puts the lines of a graph.
 #[tactic(auto, using(crate::proofs::Puts::graph_put))]
 fn put_graph(alloc: Global, out: &mut Vec<u8>, a: &Aig) -> Result<(), AllocError>
-    requires { length a.now.inputs.items + length a.now.latches.items + length a.now.gates.items < 18446744073709551616 }
+    requires few { length a.now.inputs.items + length a.now.latches.items + length a.now.gates.items < 4294967296 }
+    requires outputs { length a.now.outputs.items < 4294967296 }
     ensures { OnOk result (out.new.items ≡ out.old.items ++ lines_text (aig_lines (length a.now.inputs.items + length a.now.latches.items + length a.now.gates.items) (plain_aig a.now))) }
 {
-    put_header(alloc, out, a)?;
+    put_header(alloc, out, header(a))?;
     put_inputs(alloc, out, &a.inputs)?;
     put_latches(alloc, out, &a.latches)?;
     put_outputs(alloc, out, &a.outputs)?;
@@ -238,7 +237,8 @@ fn put_output_symbols(alloc: Global, out: &mut Vec<u8>, n: &FlatNet) -> Result<(
 
 /// The file of a graph, with the names of a design.
 pub fn text_of(alloc: Global, a: &Aig, n: &FlatNet) -> Result<Vec<u8>, AllocError>
-    requires { length a.now.inputs.items + length a.now.latches.items + length a.now.gates.items < 18446744073709551616 }
+    requires few { length a.now.inputs.items + length a.now.latches.items + length a.now.gates.items < 4294967296 }
+    requires outputs { length a.now.outputs.items < 4294967296 }
     ensures { IfOk result (λ bytes. bytes.items ≡ aag_text (length a.now.inputs.items + length a.now.latches.items + length a.now.gates.items) (plain_aig a.now) n.now.net) }
 {
     let mut out = Vec::new(alloc);

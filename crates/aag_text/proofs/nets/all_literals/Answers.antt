@@ -26,4 +26,5 @@ returns c =
       others = subst (λ (f : List Literal). OnlyTables c.args.n.now.net f c.make_tables.new.literals) first c.in_ok-make_tables.ensures.others;
       first = omega (arith, grows.first, start, c.input_count-inputs.ensures.count, c.register_count.ensures);
       few = let none = ap (λ (g : PlainGates). length g.list) c.new-gates.ensures in omega (arith, grows.bound, none);
+      below = c.in_ok-make_tables.ensures.below;
     })
