@@ -1,26 +1,26 @@
 -- A trace of the graph agrees with the design's.
-use Rattle.std.proofs.Common.{◌≡◌, ℕ, zero, suc, ◌+◌, ◌-◌, ◌<◌, ◌≤◌, Bool, true, false, List, [], ◌∷◌, ◌++◌, length, map, get_or, slice_get, slice_index, Option, Some, None, refl, sym, ◌∙◌, ap, subst, arith}
+use Rattle.std.proofs.Common.{◌≡◌, ℕ, zero, suc, ◌+◌, ◌-◌, ◌<◌, Bool, true, false, List, [], ◌∷◌, ◌++◌, length, map, slice_get, slice_index, Option, Some, None, refl, sym, ◌∙◌, ap, subst, arith}
 use Rattle.std.specs.Prelude.{not, if◌then◌else◌}
 use Rattle.std.specs.List.{range_with_len}
 use Rattle.std.specs.Option.{unwrap_or, option_map}
 use Rattle.std.proofs.lemmas.List.{get_or_append_left}
 use Rattle.std.proofs.lemmas.List.FromFn.{length-map-range_with_len, get_or-map-range_with_len}
 use Rattle.std.proofs.lemmas.Option.{slice_get-map, slice_get-get_or, get_or_from_slice_get, slice_get_within}
-use Rattle.flat_net.specs.Net.{Net, Design, Node, Table, Register, net_count, node_of, IsTable, IsDesign, IsOrder}
+use Rattle.flat_net.specs.Net.{Net, Node, Table, Register, net_count, node_of, IsTable, IsDesign}
 use Rattle.flat_net.specs.Free.{FreeDesign, node_bit}
 use Rattle.flat_net.proofs.Slots.{slot_at, slot_within, slot_none_below}
 use Rattle.flat_net.proofs.Orders.{length-order}
 use Rattle.flat_net.proofs.Ranges.{table_within}
-use Rattle.net_meaning.specs.Meaning.{bit, row_at, row_before, value_at, start_at, net_value, IsFreeTrace, IsFreeFaultTrace}
+use Rattle.net_meaning.specs.Meaning.{bit, row_at, row_before, start_at, net_value, IsFreeTrace}
 use Rattle.net_meaning.proofs.Lists.{map_agree}
 use Rattle.aag_text.specs.declared.aig.Literal.{Literal}
 use Rattle.aag_text.specs.declared.aig.Latch.{Latch}
 use Rattle.aag_text.specs.declared.aig.Gate.{Gate}
 use Rattle.aag_text.specs.Aig.{PlainAig, literal_value, IsMet}
 use Rattle.aag_text.specs.Traces.{start_value, latch_value, IsAigTrace}
-use Rattle.aag_text.specs.Same.{registers, registers_from, latch_bits, AgreesAt, init_of, register_start}
+use Rattle.aag_text.specs.Same.{registers, registers_from, latch_bits, AgreesAt, register_start}
 use Rattle.aag_text.specs.Gates.{AreMet}
-use Rattle.aag_text.specs.Nets.{positive, literal_at, first_literals, input_literals, node_literals, is_register_at, IsCycle, IsMade, table_value, pin_of, latch_at, HasLiterals, IsGraphOf}
+use Rattle.aag_text.specs.Nets.{positive, literal_at, first_literals, input_literals, node_literals, is_register_at, IsCycle, IsMade, table_value, pin_of, latch_at, IsGraphOf}
 
 pub met_from : (values : ℕ → Bool) (gates : List Gate) → ((k : ℕ) (h : Gate) → slice_get gates k ≡ Some h → IsMet values h) → AreMet values gates
 unfolding AreMet

@@ -1,12 +1,12 @@
 -- One mark more of a row, and one row more of a cover.
-use Rattle.std.proofs.Common.{◌≡◌, ℕ, suc, ◌+◌, ◌*◌, ◌<◌, ◌≤◌, Bool, true, false, List, [], ◌∷◌, ◌++◌, length, drop, get_or, map, Option, Some, None, refl, sym, ◌∙◌, ap, subst, arith, drop-cons}
+use Rattle.std.proofs.Common.{◌≡◌, ℕ, suc, ◌+◌, ◌*◌, ◌<◌, ◌≤◌, Bool, true, false, List, [], ◌∷◌, length, drop, get_or, Option, Some, None, refl, sym, ◌∙◌, ap, subst, arith, drop-cons}
 use Rattle.std.specs.Prelude.{◌&&◌, ◌||◌, not, slice_get}
-use Rattle.std.proofs.lemmas.List.{drop-map, nil_from_length, length-drop}
+use Rattle.std.proofs.lemmas.List.{nil_from_length, length-drop}
 use Rattle.std.proofs.lemmas.Option.{slice_get_within, get_or_from_slice_get}
 use Rattle.table_cover.specs.Cover.{mark_fits}
 use Rattle.aag_text.specs.declared.aig.Literal.{Literal}
 use Rattle.aag_text.specs.Aig.{literal_value}
-use Rattle.aag_text.specs.Gates.{PlainGates, Grows, all_value, any_value, row_value, rows_value, AreMet, AreBelow}
+use Rattle.aag_text.specs.Gates.{PlainGates, Grows, all_value, any_value, row_value, rows_value}
 
 pub grows_then : (i k : ℕ) (a b c : PlainGates) → Grows i a b → Grows k b c → Grows (i + k) a c
 grows_then i k a b c one two = record {
@@ -63,9 +63,9 @@ row_goes values row pins j d before after whole l same w a =
     let fits : Bool = mark_fits (get_or row j 0) (literal_value values (get_or pins j d)) in
     let rest : Bool = row_value values (drop (j + 1) row) (drop (j + 1) pins) in
     let step : row_value values (drop j row) (drop j pins) ≡ (fits && rest) =
-        ap (λ (r : List ℕ). row_value values r (drop j pins)) (dropped row j 0 l)
-        ∙ (ap (λ (p : List Literal). row_value values (get_or row j 0 ∷ drop (j + 1) row) p) (dropped pins j d (omega (arith, l, same)))
-        ∙ row_cons values (get_or row j 0) (drop (j + 1) row) (get_or pins j d) (drop (j + 1) pins)) in
+    ap (λ (r : List ℕ). row_value values r (drop j pins)) (dropped row j 0 l)
+    ∙ (ap (λ (p : List Literal). row_value values (get_or row j 0 ∷ drop (j + 1) row) p) (dropped pins j d (omega (arith, l, same)))
+    ∙ row_cons values (get_or row j 0) (drop (j + 1) row) (get_or pins j d) (drop (j + 1) pins)) in
     w ∙ (ap (λ (b : Bool). before && b) step ∙ (and_assoc before fits rest ∙ ap (λ (b : Bool). b && rest) (sym a)))
 
 -- all marks
@@ -85,9 +85,9 @@ pub rows_go : (values : ℕ → Bool) (rows : List (List ℕ)) (pins : List Lite
 rows_go values rows pins i row before after here whole is w h a =
     let rest : Bool = rows_value values (drop (i + 1) rows) pins in
     let first : drop i rows ≡ row ∷ drop (i + 1) rows =
-        dropped rows i row (slice_get_within rows i row is) ∙ ap (λ (r : List ℕ). r ∷ drop (i + 1) rows) (get_or_from_slice_get rows i row row is) in
+    dropped rows i row (slice_get_within rows i row is) ∙ ap (λ (r : List ℕ). r ∷ drop (i + 1) rows) (get_or_from_slice_get rows i row row is) in
     let step : rows_value values (drop i rows) pins ≡ (here || rest) =
-        ap (λ (r : List (List ℕ)). rows_value values r pins) first ∙ (rows_cons values row (drop (i + 1) rows) pins ∙ ap (λ (b : Bool). b || rest) (sym h)) in
+    ap (λ (r : List (List ℕ)). rows_value values r pins) first ∙ (rows_cons values row (drop (i + 1) rows) pins ∙ ap (λ (b : Bool). b || rest) (sym h)) in
     w ∙ (ap (λ (b : Bool). before || b) step ∙ (or_assoc before here rest ∙ ap (λ (b : Bool). b || rest) (sym a)))
 
 rows_whole : (values : ℕ → Bool) (rows : List (List ℕ)) (pins : List Literal) (i : ℕ) (before whole : Bool) → length rows ≤ i → whole ≡ (before || rows_value values (drop i rows) pins) → before ≡ whole

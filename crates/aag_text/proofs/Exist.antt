@@ -1,13 +1,12 @@
 -- The graph of a design has a trace for all inputs and start values.
-use Rattle.std.proofs.Common.{◌≡◌, ◌≢◌, ℕ, zero, suc, ◌+◌, ◌-◌, ◌<◌, ◌≤◌, ◌⊎◌, inl, inr, Bool, true, false, List, [], ◌∷◌, ◌++◌, length, map, get_or, slice_get, slice_index, Option, Some, None, refl, sym, ◌∙◌, ap, subst, arith}
+use Rattle.std.proofs.Common.{◌≡◌, ◌≢◌, ℕ, zero, suc, ◌+◌, ◌-◌, ◌<◌, ◌≤◌, Bool, false, List, [], ◌∷◌, length, map, slice_get, slice_index, Option, Some, None, refl, sym, ◌∙◌, ap, subst, arith}
 use Rattle.std.specs.Prelude.{not, ◌&&◌, nat_eq, nat_lt, if◌then◌else◌}
-use Rattle.std.specs.List.{range_with_len}
 use Rattle.std.specs.Option.{option_map}
 use Rattle.std.proofs.lemmas.Bool.Decides.{nat_tests}
 use Rattle.std.proofs.lemmas.List.{get_or-append-add}
 use Rattle.std.proofs.lemmas.List.FromFn.{length-map-range_with_len, get_or-map-range_with_len}
-use Rattle.std.proofs.lemmas.Option.{slice_get-map, slice_get_within, slice_get-get_or, get_or_from_slice_get}
-use Rattle.flat_net.specs.Net.{Net, Design, Node, Table, Register, net_count, register_count, node_of, IsTable, IsDesign}
+use Rattle.std.proofs.lemmas.Option.{slice_get-map, slice_get_within, slice_get-get_or}
+use Rattle.flat_net.specs.Net.{Node, Table, Register, net_count, node_of, IsTable}
 use Rattle.flat_net.specs.Free.{FreeDesign}
 use Rattle.net_meaning.specs.Meaning.{bit, value_at}
 use Rattle.aag_text.specs.declared.aig.Literal.{Literal}
@@ -19,7 +18,7 @@ use Rattle.aag_text.specs.Same.{registers, registers_from, latch_bits}
 use Rattle.aag_text.specs.Gates.{AreMet, AreStacked}
 use Rattle.aag_text.specs.Nets.{positive, literal_at, first_literals, input_literals, node_literals, latch_at, IsGraphOf}
 use Rattle.aag_text.proofs.Firsts.{firsts_below}
-use Rattle.aag_text.proofs.Agree.{registers_are, node_there, IsRegisterAt}
+use Rattle.aag_text.proofs.Agree.{registers_are, node_there}
 
 abbrev put : (ℕ → Bool) → ℕ → Bool → ℕ → Bool
 put f v b u = if nat_eq u v then b else f u

@@ -1,12 +1,12 @@
 -- The latches of registers.
-use Rattle.std.proofs.Common.{◌≡◌, ℕ, zero, suc, ◌+◌, ◌-◌, ◌<◌, ◌≤◌, Bool, true, false, List, [], ◌∷◌, ◌++◌, length, drop, take, map, get_or, slice_get, slice_index, Option, Some, None, refl, sym, ◌∙◌, ap, subst, arith, drop-cons, append_assoc}
+use Rattle.std.proofs.Common.{◌≡◌, ℕ, zero, suc, ◌+◌, ◌<◌, Bool, true, false, List, [], ◌∷◌, ◌++◌, length, drop, take, map, get_or, slice_get, slice_index, Option, Some, None, refl, sym, ◌∙◌, ap, arith, drop-cons, append_assoc}
 use Rattle.std.specs.Prelude.{if◌then◌else◌}
 use Rattle.std.proofs.lemmas.List.{append-nil}
-use Rattle.flat_net.specs.Net.{Design, Net, Node, Table, Register, node_of, is_register, pins_at, IsRegister, IsInitOf}
+use Rattle.flat_net.specs.Net.{Design, Net, Node, Table, Register, node_of, pins_at, IsRegister, IsInitOf}
 use Rattle.blif_writer.proofs.NodeLines.{node_at}
 use Rattle.aag_text.specs.declared.aig.Literal.{Literal}
 use Rattle.aag_text.specs.declared.aig.Latch.{Latch}
-use Rattle.aag_text.specs.Same.{registers, registers_from, init_of}
+use Rattle.aag_text.specs.Same.{registers_from, init_of}
 use Rattle.aag_text.specs.Nets.{literal_at, is_register_at, pin_of, latch_at, latches_at}
 
 pub init_is : (o : Option Node) (b : Bool) → IsInitOf o b → init_of o ≡ b
@@ -46,7 +46,7 @@ latches_more n free literals i old new total l is e =
     let x : ℕ = length n.inputs + i in
     let here : drop i n.nodes ≡ get_or n.nodes i d ∷ drop (i + 1) n.nodes = drop-cons n.nodes i d l ∙ ap (λ (k : ℕ). get_or n.nodes i d ∷ drop k n.nodes) (let s : suc i ≡ i + 1 = omega arith in s) in
     let step : f (registers_from x (drop i n.nodes)) ≡ latches_at n free literals x ++ f (registers_from (x + 1) (drop (i + 1) n.nodes)) =
-        ap (λ (nodes : List Node). f (registers_from x nodes)) here ∙ one_node n free literals x (get_or n.nodes i d) (drop (i + 1) n.nodes) (node_at n i d l) in
+    ap (λ (nodes : List Node). f (registers_from x nodes)) here ∙ one_node n free literals x (get_or n.nodes i d) (drop (i + 1) n.nodes) (node_at n i d l) in
     let next : length n.inputs + (i + 1) ≡ x + 1 = omega arith in
     ap (λ (k : ℕ). new ++ f (registers_from k (drop (i + 1) n.nodes))) next
     ∙ (ap (λ (o : List Latch). o ++ f (registers_from (x + 1) (drop (i + 1) n.nodes))) is

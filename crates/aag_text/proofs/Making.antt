@@ -1,5 +1,5 @@
 -- One table more has its literal.
-use Rattle.std.proofs.Common.{◌≡◌, ◌≢◌, ℕ, suc, ◌+◌, ◌<◌, ◌≤◌, ◌⊎◌, inl, inr, Bool, true, false, List, [], ◌∷◌, ◌++◌, length, map, drop, get_or, set, slice_get, slice_index, Option, Some, None, refl, sym, ◌∙◌, ap, subst, arith, cond}
+use Rattle.std.proofs.Common.{◌≡◌, ◌≢◌, ℕ, ◌+◌, ◌<◌, ◌≤◌, ◌⊎◌, inl, inr, Bool, false, List, [], ◌∷◌, length, map, slice_get, slice_index, Option, Some, None, refl, sym, ◌∙◌, ap, subst, arith}
 use Rattle.std.specs.Prelude.{slice_set}
 use Rattle.std.proofs.lemmas.List.{get_or-set_other, get_or-set_same, length-set}
 use Rattle.std.proofs.lemmas.Option.{slice_get_within, get_or_from_slice_get}
@@ -9,7 +9,7 @@ use Rattle.net_meaning.specs.Meaning.{bit}
 use Rattle.net_meaning.proofs.Lists.{map_agree}
 use Rattle.aag_text.specs.declared.aig.Literal.{Literal}
 use Rattle.aag_text.specs.Aig.{literal_value}
-use Rattle.aag_text.specs.Gates.{PlainGates, Grows, AreMet}
+use Rattle.aag_text.specs.Gates.{PlainGates, AreMet}
 use Rattle.aag_text.specs.Nets.{literal_at, table_value, IsCycle, IsMade, AreRight, OnlyTables, IsMadeAt}
 
 -- x is no table

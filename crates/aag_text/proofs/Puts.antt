@@ -1,7 +1,5 @@
 -- Lines that are put one after the other.
-use Rattle.std.proofs.Common.{◌≡◌, ℕ, suc, ◌+◌, ◌<◌, ◌≤◌, List, [], ◌∷◌, ◌++◌, length, drop, map, get_or, refl, sym, ap, ◌∙◌, append_assoc, arith, drop-cons}
-use Rattle.std.specs.List.{flat_map}
-use Rattle.std.proofs.lemmas.List.{append-nil, nil_from_length, length-drop, map-append}
+use Rattle.std.proofs.Common.{◌≡◌, ℕ, suc, ◌+◌, ◌<◌, ◌≤◌, List, [], ◌∷◌, ◌++◌, length, drop, map, get_or, sym, ap, ◌∙◌, append_assoc, arith, drop-cons}
 use Rattle.std.proofs.lemmas.List.Concat.{flat_map-append}
 use Rattle.std.specs.Prelude.{codes}
 use Rattle.blif_writer.specs.Text.{line_text, lines_text}
@@ -11,7 +9,7 @@ use Rattle.std.proofs.Common.{Bool, true, false, Option, Some, slice_get}
 use Rattle.std.specs.Prelude.{if◌then◌else◌}
 use Rattle.std.proofs.lemmas.List.{get_or-map, length-map}
 use Rattle.std.proofs.lemmas.Option.{slice_get_within, get_or_from_slice_get}
-use Rattle.flat_net.specs.Net.{Net, Node, Table, Register, node_of, name_of, is_register}
+use Rattle.flat_net.specs.Net.{Net, Node, Table, Register, node_of, name_of}
 use Rattle.blif_writer.proofs.NodeLines.{node_at, input_name}
 use Rattle.aag_text.specs.Same.{registers, registers_from}
 use Rattle.aag_text.specs.Nets.{is_register_at}
@@ -65,7 +63,7 @@ pub output_more : (n : Net) (k x : ℕ) (name old new total : List ℕ) → slic
 output_more n k x name old new total at named is e =
     let l : k < length n.outputs = slice_get_within n.outputs k x at in
     symbol_more 111 k (map (name_of n) n.outputs) k name old new total (omega (arith, l, length-map n.outputs (name_of n)))
-      (named ∙ (ap (name_of n) (sym (get_or_from_slice_get n.outputs k x 0 at)) ∙ sym (get_or-map (name_of n) n.outputs k 0 [] l))) is e
+    (named ∙ (ap (name_of n) (sym (get_or_from_slice_get n.outputs k x 0 at)) ∙ sym (get_or-map (name_of n) n.outputs k 0 [] l))) is e
 
 one_symbol : (n : Net) (j x : ℕ) (node : Node) (nodes : List Node) → node_of n x ≡ Some node → symbol_lines 108 j (map (name_of n) (registers_from x (node ∷ nodes))) ≡ register_symbols n j x ++ symbol_lines 108 (next_symbol n j x) (map (name_of n) (registers_from (x + 1) nodes))
 one_symbol n j x (Table name cover pins) nodes e = sym (ap (λ (o : Option Node). (if is_register_at o then symbol_line 108 j (name_of n x) ∷ [] else []) ++ symbol_lines 108 (if is_register_at o then j + 1 else j) (map (name_of n) (registers_from (x + 1) nodes))) e)
@@ -80,8 +78,8 @@ register_more n i j x next old new total l place after is e =
     let node : node_of n x ≡ Some (get_or n.nodes i d) = ap (node_of n) place ∙ node_at n i d l in
     let more : List (List (List ℕ)) = symbol_lines 108 (next_symbol n j x) (map (name_of n) (registers_from (x + 1) (drop (i + 1) n.nodes))) in
     let step : symbol_lines 108 j (map (name_of n) (registers_from (length n.inputs + i) (drop i n.nodes))) ≡ register_symbols n j x ++ more =
-        ap (λ (y : ℕ). symbol_lines 108 j (map (name_of n) (registers_from y (drop i n.nodes)))) (sym place)
-        ∙ (ap (λ (nodes : List Node). symbol_lines 108 j (map (name_of n) (registers_from x nodes))) here ∙ one_symbol n j x (get_or n.nodes i d) (drop (i + 1) n.nodes) node) in
+    ap (λ (y : ℕ). symbol_lines 108 j (map (name_of n) (registers_from y (drop i n.nodes)))) (sym place)
+    ∙ (ap (λ (nodes : List Node). symbol_lines 108 j (map (name_of n) (registers_from x nodes))) here ∙ one_symbol n j x (get_or n.nodes i d) (drop (i + 1) n.nodes) node) in
     let further : length n.inputs + (i + 1) ≡ x + 1 = omega (arith, place) in
     ap (λ (y : ℕ). new ++ lines_text (symbol_lines 108 next (map (name_of n) (registers_from y (drop (i + 1) n.nodes))))) further
     ∙ (ap (λ (m : ℕ). new ++ lines_text (symbol_lines 108 m (map (name_of n) (registers_from (x + 1) (drop (i + 1) n.nodes))))) after

@@ -3,7 +3,7 @@ use Rattle.std.proofs.Common.{◌≡◌, ◌≢◌, ℕ, zero, suc, ◌+◌, ◌
 use Rattle.std.specs.Prelude.{sum_by}
 use Rattle.std.proofs.lemmas.List.{get_or-set_other}
 use Rattle.std.proofs.lemmas.List.Sums.{sum_by-set}
-use Rattle.flat_net.specs.Net.{Net, Node, Table, Register, net_count, node_of, IsOrder, IsCoverOf}
+use Rattle.flat_net.specs.Net.{Net, Node, Table, Register, node_of, IsOrder, IsCoverOf}
 use Rattle.table_cover.specs.Cover.{PlainCover}
 use Rattle.blif_writer.proofs.NodeLines.{node_at}
 use Rattle.hierarchy.specs.Sizes.{row_places, row_total}
@@ -70,10 +70,10 @@ some_rows start nodes (x ∷ xs) low once =
     let later : (k : ℕ) → k < length xs → start ≤ get_or xs k 0 = λ k l. low (suc k) (omega (arith, l)) in
     let apart : (j k : ℕ) → j < k → k < length xs → get_or xs j 0 ≢ get_or xs k 0 = λ j k less l. once (suc j) (suc k) (omega (arith, less)) (omega (arith, l)) in
     some_more start x nodes xs
-      (others_same start x nodes xs (λ k l. (later k l, λ e. once 0 (suc k) (omega arith) (omega (arith, l)) (sym e))) at)
-      (some_rows start (set nodes (x - start) no_node) xs later apart)
-      (some_rows start nodes xs later apart)
-      (below_or_not (x - start) (length nodes))
+    (others_same start x nodes xs (λ k l. (later k l, λ e. once 0 (suc k) (omega arith) (omega (arith, l)) (sym e))) at)
+    (some_rows start (set nodes (x - start) no_node) xs later apart)
+    (some_rows start nodes xs later apart)
+    (below_or_not (x - start) (length nodes))
 
 -- the rows of the nodes in an order
 abbrev pub order_rows : Net → List ℕ → ℕ
@@ -82,10 +82,10 @@ order_rows n order = total (λ x. rows_at (node_of n x)) order
 pub all_rows : (n : Net) (order : List ℕ) → IsOrder n order → order_rows n order ≤ row_total n
 all_rows n order is =
     let each : (k : ℕ) → k < length order → rows_at (node_of n (get_or order k 0)) ≡ places_at (length n.inputs) n.nodes (get_or order k 0) = λ k l.
-        let (low, high) = is.nodes k l in
-        let here = node_at n (get_or order k 0 - length n.inputs) no_node (omega (arith, low, high)) in
-        let place : length n.inputs + (get_or order k 0 - length n.inputs) ≡ get_or order k 0 = omega (arith, low) in
-        ap (λ (x : ℕ). rows_at (node_of n x)) (sym place) ∙ ap rows_at here in
+    let (low, high) = is.nodes k l in
+    let here = node_at n (get_or order k 0 - length n.inputs) no_node (omega (arith, low, high)) in
+    let place : length n.inputs + (get_or order k 0 - length n.inputs) ≡ get_or order k 0 = omega (arith, low) in
+    ap (λ (x : ℕ). rows_at (node_of n x)) (sym place) ∙ ap rows_at here in
     let same = total_same (λ x. rows_at (node_of n x)) (places_at (length n.inputs) n.nodes) order each in
     let most = some_rows (length n.inputs) n.nodes order (λ k l. (is.nodes k l).0) is.once in
     omega (arith, same, most)

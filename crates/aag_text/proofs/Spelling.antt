@@ -1,11 +1,11 @@
 -- The text of a graph is a file of it.
-use Rattle.std.proofs.Common.{◌≡◌, ◌≢◌, ℕ, zero, suc, ◌+◌, ◌*◌, ◌/◌, ◌%◌, ◌^◌, ◌<◌, ◌≤◌, ◌==◌, ltb, Bool, true, false, not, List, [], ◌∷◌, ◌++◌, map, length, codes, Option, Some, None, refl, sym, ap, subst, ◌∙◌, arith, append_assoc, if◌then◌else◌}
+use Rattle.std.proofs.Common.{◌≡◌, ℕ, zero, suc, ◌+◌, ◌*◌, ◌/◌, ◌%◌, ◌^◌, ◌<◌, ◌≤◌, ◌==◌, Bool, true, false, List, [], ◌∷◌, ◌++◌, map, length, codes, Option, Some, refl, sym, ap, ◌∙◌, arith, append_assoc, if◌then◌else◌}
 use Rattle.std.specs.Prelude.{◌&&◌}
-use Rattle.std.specs.List.{All, list_all, slice_split, join_with_byte}
+use Rattle.std.specs.List.{All, slice_split, join_with_byte}
 use Rattle.std.specs.Fmt.{decimal}
 use Rattle.std.specs.Char.{is_ascii_digit}
 use Rattle.std.specs.Str.{all_ascii_digits}
-use Rattle.std.proofs.lemmas.Bool.{ltb-true, lt-ltb, le-ltb, eq-eqb, ne_eqb}
+use Rattle.std.proofs.lemmas.Bool.{lt-ltb, le-ltb, eq-eqb}
 use Rattle.std.proofs.lemmas.Bool.Decides.{nat_tests}
 use Rattle.std.proofs.lemmas.Fmt.{digits_decimal, decimal_digit}
 use Rattle.std.proofs.lemmas.Str.Parse.{numerals_by_value, tells_all_ascii_digits}
@@ -23,7 +23,7 @@ use Rattle.aag_text.specs.declared.aig.Header.{Header}
 use Rattle.aag_text.specs.Aig.{PlainAig, literal_number}
 use Rattle.aag_text.specs.Text.{literal_word, variable_word, start_words, header_line, header, latch_line, gate_line, symbol_lines, aig_lines}
 use Rattle.blif_writer.specs.Text.{lines_text}
-use Rattle.aag_text.specs.Lines.{◌>>=◌, is_line_feed, is_blank, without_return, lines_from, lines_of, words_of, literal_of, literal_in, variable_in, header_of, input_of, start_named, start_of, latch_of, output_of, gate_of, symbol_count, is_below, is_symbol_word, is_symbol, AreOf, AreSymbols, IsFile}
+use Rattle.aag_text.specs.Lines.{◌>>=◌, is_line_feed, is_blank, without_return, lines_from, lines_of, words_of, literal_of, literal_in, variable_in, header_of, input_of, start_named, start_of, latch_of, output_of, gate_of, symbol_count, is_below, is_symbol, AreOf, AreSymbols, IsFile}
 
 -- ---- lines and words
 
@@ -62,7 +62,7 @@ line_bytes : (w : List ℕ) (ws : List (List ℕ)) → IsWord w → AreWords ws 
 line_bytes w [] is are = λ k d lt. let above = is k d lt in omega (arith, above)
 line_bytes w (v ∷ ws) is are =
     All-append (λ b. 13 < b) w (32 ∷ join_with_byte 32 (v ∷ ws)) (λ k d lt. let above = is k d lt in omega (arith, above))
-      (All-append (λ b. 13 < b) (32 ∷ []) (join_with_byte 32 (v ∷ ws)) (one_blank) (line_bytes v ws are.0 are.1))
+    (All-append (λ b. 13 < b) (32 ∷ []) (join_with_byte 32 (v ∷ ws)) (one_blank) (line_bytes v ws are.0 are.1))
   where
     one_blank : All (λ b. 13 < b) (32 ∷ [])
     one_blank zero d lt = omega arith
@@ -333,13 +333,14 @@ file_spelled m a symbols is lines are =
     let l : List (List (List ℕ)) = map latch_line a.latches in
     let o : List (List (List ℕ)) = map (λ (x : Literal). literal_word x ∷ []) a.outputs in
     let g : List (List (List ℕ)) = map gate_line a.gates in
-    let all : AreLines (aig_lines m a ++ symbols) =
-        (header_plain m a is,
-          lines_join (i ++ (l ++ (o ++ g))) symbols
-            (lines_join i (l ++ (o ++ g)) (are_lines (input_of m) (λ v. variable_word v ∷ []) a.inputs ins)
-              (lines_join l (o ++ g) (are_lines (latch_of m) latch_line a.latches lats)
-                (lines_join o g (are_lines (output_of m) (λ (x : Literal). literal_word x ∷ []) a.outputs outs) (are_lines (gate_of m) gate_line a.gates gats))))
-            lines) in
+    let all : AreLines (aig_lines m a ++ symbols) = (
+      header_plain m a is,
+      lines_join (i ++ (l ++ (o ++ g))) symbols
+          (lines_join i (l ++ (o ++ g)) (are_lines (input_of m) (λ v. variable_word v ∷ []) a.inputs ins)
+          (lines_join l (o ++ g) (are_lines (latch_of m) latch_line a.latches lats)
+          (lines_join o g (are_lines (output_of m) (λ (x : Literal). literal_word x ∷ []) a.outputs outs) (are_lines (gate_of m) gate_line a.gates gats))))
+          lines,
+    ) in
     record {
       header = header m a;
       first = f (header_line (header m a));

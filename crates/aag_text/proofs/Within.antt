@@ -1,16 +1,15 @@
 -- The graph of a design has few variables, and its names can be spelled.
-use Rattle.std.proofs.Common.{◌≡◌, ℕ, zero, suc, ◌+◌, ◌*◌, ◌^◌, ◌<◌, ◌≤◌, ◌⊎◌, inl, inr, Bool, true, false, cond, List, [], ◌∷◌, ◌++◌, length, map, get_or, slice_get, slice_index, Option, Some, refl, sym, ◌∙◌, ap, subst, arith}
+use Rattle.std.proofs.Common.{◌≡◌, ℕ, zero, suc, ◌+◌, ◌<◌, ◌≤◌, ◌⊎◌, inl, inr, Bool, true, false, cond, List, [], ◌∷◌, ◌++◌, length, map, get_or, slice_get, Some, refl, sym, ◌∙◌, ap, subst, arith}
 use Rattle.std.specs.Prelude.{count_by, ◌&&◌, not, nat_lt, ◌==◌}
-use Rattle.std.specs.List.{All, list_all, range_with_len, join_with_byte}
+use Rattle.std.specs.List.{list_all, join_with_byte}
 use Rattle.std.proofs.lemmas.Bool.{ltb-true}
 use Rattle.std.proofs.lemmas.List.{length-map}
 use Rattle.std.proofs.lemmas.List.Sums.{sum_by-cons}
 use Rattle.std.proofs.lemmas.List.FromFn.{length-map-range_with_len, get_or-map-range_with_len}
 use Rattle.std.proofs.lemmas.Option.{slice_get-get_or, slice_get_within}
 use Rattle.tmr_base.specs.Names.{is_name, is_name_byte}
-use Rattle.flat_net.specs.Net.{Net, Node, Table, Register, net_count, name_of, is_register, register_count, IsValid}
+use Rattle.flat_net.specs.Net.{Net, Node, Table, Register, net_count, name_of, is_register, IsValid}
 use Rattle.flat_net.specs.Free.{FreeDesign}
-use Rattle.blif_writer.specs.Text.{lines_text}
 use Rattle.blif_writer.proofs.NodeLines.{input_name}
 use Rattle.hierarchy.specs.Sizes.{row_total}
 use Rattle.aag_text.specs.declared.aig.Literal.{Literal}
@@ -21,9 +20,9 @@ use Rattle.aag_text.specs.Same.{registers, registers_from}
 use Rattle.aag_text.specs.Text.{header, symbol_lines, design_symbols, aag_text}
 use Rattle.aag_text.specs.Lines.{AreSymbols, IsFile}
 use Rattle.aag_text.specs.Gates.{next_of, AreStacked, AreBelow}
-use Rattle.aag_text.specs.Nets.{positive, literal_at, pin_of, latch_at, IsGraphOf}
+use Rattle.aag_text.specs.Nets.{positive, literal_at, latch_at, IsGraphOf}
 use Rattle.aag_text.proofs.Agree.{registers_are}
-use Rattle.aag_text.proofs.Exist.{latch_numbered, Numbered}
+use Rattle.aag_text.proofs.Exist.{latch_numbered}
 use Rattle.aag_text.proofs.Spelling.{IsWord, AreWords, AreLines, AreVariables, AreLatches, AreLiterals, AreGates, IsWithin, lines_join, map_both, symbols_plain, symbols_are, symbols_both, file_spelled}
 
 -- ---- names
@@ -189,9 +188,9 @@ module _ (n : FreeDesign) (a : PlainAig) (v : IsValid n.design.net) (g : IsGraph
   symbols_plainly : AreLines (design_symbols n.design.net)
   symbols_plainly =
       lines_join (symbol_lines 105 0 n.design.net.inputs) _ (symbols_plain 105 0 n.design.net.inputs (omega arith) (omega (arith, few)) names_in)
-        (lines_join (symbol_lines 108 0 (map (name_of n.design.net) (registers n.design.net))) (symbol_lines 111 0 (map (name_of n.design.net) n.design.net.outputs))
-          (symbols_plain 108 0 (map (name_of n.design.net) (registers n.design.net)) (omega arith) (omega (arith, few, registers_few, long_registers)) names_of_registers)
-          (symbols_plain 111 0 (map (name_of n.design.net) n.design.net.outputs) (omega arith) (omega (arith, v.few_outputs, long_outputs)) names_out))
+      (lines_join (symbol_lines 108 0 (map (name_of n.design.net) (registers n.design.net))) (symbol_lines 111 0 (map (name_of n.design.net) n.design.net.outputs))
+      (symbols_plain 108 0 (map (name_of n.design.net) (registers n.design.net)) (omega arith) (omega (arith, few, registers_few, long_registers)) names_of_registers)
+      (symbols_plain 111 0 (map (name_of n.design.net) n.design.net.outputs) (omega arith) (omega (arith, v.few_outputs, long_outputs)) names_out))
 
   all_symbols : AreSymbols (header m a) (map (join_with_byte 32) (design_symbols n.design.net))
   all_symbols =
@@ -201,10 +200,10 @@ module _ (n : FreeDesign) (a : PlainAig) (v : IsValid n.design.net) (g : IsGraph
       let f : List (List ℕ) → List ℕ = join_with_byte 32 in
       let split : map f (i ++ (l ++ o)) ≡ map f i ++ (map f l ++ map f o) = map_both f i (l ++ o) ∙ ap (λ (r : List (List ℕ)). map f i ++ r) (map_both f l o) in
       subst (AreSymbols (header m a)) (sym split)
-        (symbols_both (header m a) (map f i) (map f l ++ map f o) (symbols_are (header m a) 105 0 n.design.net.inputs (omega arith) (omega (arith, input_count)) (omega (arith, few)) names_in)
-          (symbols_both (header m a) (map f l) (map f o)
-            (symbols_are (header m a) 108 0 (map (name_of n.design.net) (registers n.design.net)) (omega arith) (omega (arith, latch_count, long_registers)) (omega (arith, few, registers_few, long_registers)) names_of_registers)
-            (symbols_are (header m a) 111 0 (map (name_of n.design.net) n.design.net.outputs) (omega arith) (omega (arith, output_count, long_outputs)) (omega (arith, v.few_outputs, long_outputs)) names_out)))
+      (symbols_both (header m a) (map f i) (map f l ++ map f o) (symbols_are (header m a) 105 0 n.design.net.inputs (omega arith) (omega (arith, input_count)) (omega (arith, few)) names_in)
+      (symbols_both (header m a) (map f l) (map f o)
+      (symbols_are (header m a) 108 0 (map (name_of n.design.net) (registers n.design.net)) (omega arith) (omega (arith, latch_count, long_registers)) (omega (arith, few, registers_few, long_registers)) names_of_registers)
+      (symbols_are (header m a) 111 0 (map (name_of n.design.net) n.design.net.outputs) (omega arith) (omega (arith, output_count, long_outputs)) (omega (arith, v.few_outputs, long_outputs)) names_out)))
 
   -- the text of the graph, with the names of the design, is a file of it
   pub file_of : IsFile (aag_text m a n.design.net) a

@@ -1,5 +1,5 @@
 -- For private functions alone: gates that are added one after the other.
-use Rattle.std.specs.Prelude.{◌≡◌, ℕ, suc, ◌+◌, ◌<◌, ◌≤◌, Bool, true, false, not, ◌&&◌, ◌||◌, List, [], ◌∷◌, ◌++◌, map, length, Option, Some, None, All}
+use Rattle.std.specs.Prelude.{◌≡◌, ℕ, suc, ◌+◌, ◌<◌, ◌≤◌, Bool, true, false, List, [], ◌∷◌, map, length, Option, Some, None, All}
 use Rattle.table_cover.specs.Cover.{row_matches, some_row_matches}
 use Rattle.flat_net.specs.Net.{Node}
 use Rattle.hierarchy.specs.Sizes.{row_places}

@@ -1,7 +1,7 @@
 -- For private functions alone: the literals of a design's nets, table by table.
-use Rattle.std.specs.Prelude.{◌≡◌, ◌≢◌, ℕ, ◌+◌, ◌<◌, ◌≤◌, Bool, true, false, List, [], ◌∷◌, ◌++◌, map, length, Option, Some, None, if◌then◌else◌, slice_index_or, slice_index}
+use Rattle.std.specs.Prelude.{◌≡◌, ℕ, ◌+◌, ◌<◌, ◌≤◌, Bool, false, List, [], ◌∷◌, ◌++◌, map, length, Option, Some, None, if◌then◌else◌, slice_index_or, slice_index}
 use Rattle.std.specs.List.{range_with_len}
-use Rattle.table_cover.specs.Cover.{PlainCover, cover_value}
+use Rattle.table_cover.specs.Cover.{cover_value}
 use Rattle.flat_net.specs.Net.{Net, Design, Node, Table, Register, net_count, node_of, IsTable, is_register, register_count}
 use Rattle.flat_net.specs.Free.{FreeDesign, node_bit}
 use Rattle.net_meaning.specs.Meaning.{bit}

@@ -118,11 +118,7 @@ impl Gates {
 
 /// The conjunction so far, with one literal more.
 #[tactic(auto, using(crate::proofs::Stacks::grows_none))]
-fn with_literal(
-    gates: &mut Gates,
-    all: Option<Literal>,
-    l: Literal,
-) -> Result<Literal, AllocError>
+fn with_literal(gates: &mut Gates, all: Option<Literal>, l: Literal) -> Result<Literal, AllocError>
     requires all { IsBelow (next_of gates.old) all }
     requires literal { l.variable < next_of gates.old }
     requires room { next_of gates.old < 2147483648 }
@@ -159,11 +155,7 @@ fn with_mark(
 }
 
 /// The literal that is 1 exactly where the row matches the pins. A row without `0` and `1` gives 1.
-fn row_literal(
-    gates: &mut Gates,
-    row: &[u8],
-    pins: &[Literal],
-) -> Result<Literal, AllocError>
+fn row_literal(gates: &mut Gates, row: &[u8], pins: &[Literal]) -> Result<Literal, AllocError>
     requires wide { length row.now ≡ length pins.now }
     requires pins { AreBelow (next_of gates.old) pins.now }
     requires zero { 0 < next_of gates.old }
@@ -187,11 +179,7 @@ fn row_literal(
 
 /// The disjunction so far, with one literal more.
 #[tactic(auto, using(crate::proofs::Stacks::grows_none))]
-fn with_row(
-    gates: &mut Gates,
-    any: Option<Literal>,
-    row: Literal,
-) -> Result<Literal, AllocError>
+fn with_row(gates: &mut Gates, any: Option<Literal>, row: Literal) -> Result<Literal, AllocError>
     requires any { IsBelow (next_of gates.old) any }
     requires row { row.variable < next_of gates.old }
     requires room { next_of gates.old < 2147483648 }
@@ -206,11 +194,7 @@ fn with_row(
 }
 
 /// The literal that is 1 exactly where some row matches the pins. Without rows it is 0.
-fn rows_literal(
-    gates: &mut Gates,
-    cover: &Cover,
-    pins: &[Literal],
-) -> Result<Literal, AllocError>
+fn rows_literal(gates: &mut Gates, cover: &Cover, pins: &[Literal]) -> Result<Literal, AllocError>
     requires wide { cover.now.width ≡ length pins.now }
     requires pins { AreBelow (next_of gates.old) pins.now }
     requires zero { 0 < next_of gates.old }

@@ -8,8 +8,8 @@ ghost use Rattle.aag_text.specs.Nets.{plain_aig};
 ghost use Rattle.aag_text.specs.Same.{registers};
 ghost use Rattle.aag_text.specs.Puts.{symbol_line, register_symbols, next_symbol, spaced};
 
-use crate::{Aig, Gate, Header, Latch, Literal, Start};
 use crate::nets::is_register;
+use crate::{Aig, Gate, Header, Latch, Literal, Start};
 use flat_net::FlatNet;
 use std::alloc::{AllocError, Global};
 use tmr_base::NetId;

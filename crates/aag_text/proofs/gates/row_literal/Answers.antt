@@ -1,4 +1,3 @@
-use Rattle.std.proofs.Common.{arith}
 use Rattle.aag_text.proofs.Chains.{row_goes, row_some, row_none, grows_then}
 use Rattle.aag_text.proofs.gates.row_literal.Goals as goal
 

@@ -1,4 +1,4 @@
-use Rattle.std.proofs.Common.{◌≡◌, ◌+◌, ◌*◌, ◌≤◌, length, arith, sym, ◌∙◌}
+use Rattle.std.proofs.Common.{◌+◌, ◌*◌, length, arith}
 use Rattle.aag_text.proofs.Chains.{rows_go, rows_some, rows_none, grows_then, grows_as, row_long}
 use Rattle.aag_text.proofs.gates.rows_literal.Goals as goal
 
@@ -10,8 +10,8 @@ loop-i-preserved c = record {
       (c.in_ok-with_row.ensures.value values m);
   grows = grows_as _ _ c.args.gates.now c.with_row.new.gates (row_long c.loop-i.i c.args.cover.now.width (length c.row.result.now) c.row.ensures.marks.0)
       (grows_then _ 1 c.args.gates.now c.row_literal.new.gates c.with_row.new.gates
-        (grows_then (c.loop-i.i * (c.args.cover.now.width + 1)) (length c.row.result.now) c.args.gates.now c.loop-i.gates c.row_literal.new.gates c.loop-i.invariant.grows c.in_ok-row.ensures.grows)
-        c.in_ok-with_row.ensures.grows);
+      (grows_then (c.loop-i.i * (c.args.cover.now.width + 1)) (length c.row.result.now) c.args.gates.now c.loop-i.gates c.row_literal.new.gates c.loop-i.invariant.grows c.in_ok-row.ensures.grows)
+      c.in_ok-with_row.ensures.grows);
   below = c.in_ok-with_row.ensures.below;
 }
 

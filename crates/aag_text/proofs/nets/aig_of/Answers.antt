@@ -1,4 +1,4 @@
-use Rattle.std.proofs.Common.{◌≡◌, ◌∙◌, ◌+◌, ℕ, List, map, ap, sym, subst, length, arith}
+use Rattle.std.proofs.Common.{◌∙◌, ◌+◌, ℕ, List, map, ap, subst, length, arith}
 use Rattle.std.specs.List.{range_with_len}
 use Rattle.flat_net.specs.Net.{Design, net_count}
 use Rattle.aag_text.specs.declared.aig.Literal.{Literal}

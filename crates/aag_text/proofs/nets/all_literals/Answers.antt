@@ -1,4 +1,4 @@
-use Rattle.std.proofs.Common.{◌≡◌, ◌∙◌, ◌+◌, ℕ, List, ap, sym, subst, length, arith}
+use Rattle.std.proofs.Common.{◌∙◌, List, ap, sym, subst, length, arith}
 use Rattle.aag_text.specs.declared.aig.Literal.{Literal}
 use Rattle.aag_text.specs.Gates.{PlainGates, next_of}
 use Rattle.aag_text.specs.Nets.{HasLiterals, AreRight, OnlyTables}

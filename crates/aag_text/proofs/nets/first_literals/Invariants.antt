@@ -1,4 +1,4 @@
-use Rattle.std.proofs.Common.{◌≡◌, ◌+◌, ◌++◌, ◌<◌, ◌≤◌, length, drop}
+use Rattle.std.proofs.Common.{◌≡◌, ◌+◌, ◌++◌, ◌≤◌, length, drop}
 use Rattle.aag_text.specs.Nets.{node_literals, first_literals}
 use Rattle.aag_text.proofs.nets.first_literals.Given as goal
 

@@ -1,4 +1,4 @@
-use Rattle.std.proofs.Common.{arith, ◌≡◌, refl, ◌∙◌, ◌+◌}
+use Rattle.std.proofs.Common.{arith, refl, ◌∙◌}
 use Rattle.hierarchy.specs.Sizes.{row_total}
 use Rattle.aag_text.proofs.Stacks.{grows_none}
 use Rattle.aag_text.proofs.Making.{right_goes, only_goes, right_starts}

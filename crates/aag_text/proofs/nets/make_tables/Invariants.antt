@@ -1,5 +1,4 @@
-use Rattle.std.proofs.Common.{◌≡◌, ℕ, ◌+◌, ◌<◌, ◌≤◌, length, drop}
-use Rattle.flat_net.specs.Net.{net_count}
+use Rattle.std.proofs.Common.{◌≡◌, ◌+◌, ◌<◌, ◌≤◌, length, drop}
 use Rattle.hierarchy.specs.Sizes.{row_total}
 use Rattle.aag_text.specs.Gates.{next_of, AreBelow, Grows}
 use Rattle.aag_text.specs.Nets.{AreRight, OnlyTables}

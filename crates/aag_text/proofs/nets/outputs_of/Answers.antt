@@ -1,4 +1,4 @@
-use Rattle.std.proofs.Common.{◌≡◌, ◌∙◌, refl}
+use Rattle.std.proofs.Common.{refl}
 use Rattle.aag_text.proofs.Latches.{outputs_more}
 use Rattle.aag_text.proofs.nets.outputs_of.Goals as goal
 

@@ -1,6 +1,6 @@
-use Rattle.std.proofs.Common.{◌≡◌, ◌++◌, ◌∷◌, [], map, drop}
+use Rattle.std.proofs.Common.{◌≡◌, ◌++◌, map, drop}
 use Rattle.blif_writer.specs.Text.{lines_text}
-use Rattle.aag_text.specs.Text.{variable_word, literal_word, latch_line, gate_line}
+use Rattle.aag_text.specs.Text.{gate_line}
 use Rattle.aag_text.proofs.text.put_gates.Given as goal
 
 abbrev pub invariant-loop-gate : goal.invariant-loop-gate

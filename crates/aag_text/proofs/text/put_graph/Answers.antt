@@ -1,4 +1,4 @@
-use Rattle.std.proofs.Common.{◌≡◌, ◌∙◌, ◌++◌, ◌∷◌, [], ℕ, List, map, ap}
+use Rattle.std.proofs.Common.{◌∙◌, ◌++◌, ◌∷◌, [], ℕ, List, map, ap}
 use Rattle.blif_writer.specs.Text.{line_text, lines_text}
 use Rattle.aag_text.specs.declared.aig.Header.{Header}
 use Rattle.aag_text.specs.declared.aig.Literal.{Literal}

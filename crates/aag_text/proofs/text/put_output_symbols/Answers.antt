@@ -1,4 +1,4 @@
-use Rattle.std.proofs.Common.{arith, ◌∙◌}
+use Rattle.std.proofs.Common.{◌∙◌}
 use Rattle.aag_text.proofs.Puts.{output_more}
 use Rattle.aag_text.proofs.text.put_output_symbols.Goals as goal
 

@@ -1,4 +1,4 @@
-use Rattle.std.proofs.Common.{◌≡◌, ◌+◌, ℕ, arith, ap, length, ◌∙◌}
+use Rattle.std.proofs.Common.{◌+◌, ℕ, arith, ap}
 use Rattle.aag_text.proofs.Puts.{register_more, next_bound}
 use Rattle.aag_text.proofs.text.put_register_symbols.Goals as goal
 

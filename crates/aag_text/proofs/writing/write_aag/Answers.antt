@@ -1,4 +1,4 @@
-use Rattle.std.proofs.Common.{arith, ◌≡◌, ◌∙◌, ◌+◌, ℕ, List, map, ap, sym, subst, length}
+use Rattle.std.proofs.Common.{arith, ◌∙◌, ◌+◌, ℕ, List, map, ap, sym, subst, length}
 use Rattle.flat_net.specs.Net.{Design, IsDesign}
 use Rattle.aag_text.specs.declared.aig.Latch.{Latch}
 use Rattle.aag_text.specs.Text.{aag_text}
