@@ -1,5 +1,5 @@
 -- And-inverter graphs.
-use Rattle.std.specs.Prelude.{◌≡◌, ℕ, ◌+◌, ◌*◌, Bool, not, ◌&&◌, List, ◌++◌, map, if◌then◌else◌}
+use Rattle.std.specs.Prelude.{◌≡◌, ℕ, ◌+◌, ◌*◌, Bool, not, ◌&&◌, List, if◌then◌else◌}
 use Rattle.aag_text.specs.declared.aig.Literal.{Literal}
 use Rattle.aag_text.specs.declared.aig.Latch.{Latch}
 use Rattle.aag_text.specs.declared.aig.Gate.{Gate}
@@ -14,10 +14,6 @@ pub record PlainAig : Type 0 where
 -- literal 2 v + s is variable v, negated where s is 1
 abbrev pub literal_number : Literal → ℕ
 literal_number l = if l.negated then 2 * l.variable + 1 else 2 * l.variable
-
--- the variables that are defined, in the order of the file
-abbrev pub defined : PlainAig → List ℕ
-defined a = a.inputs ++ (map (λ (l : Latch). l.variable) a.latches ++ map (λ (g : Gate). g.variable) a.gates)
 
 -- the value of a literal where each variable has its value
 abbrev pub literal_value : (ℕ → Bool) → Literal → Bool

@@ -56,7 +56,8 @@ IsMade n order i x = IsTable (node_of n x) → (k : ℕ) × (k < i) × (slice_in
 -- the literals of all nets that are made have the values of the nets
 abbrev pub AreRight : Net → List ℕ → ℕ → List Literal → List Literal → PlainGates → Type 0
 AreRight n order i first literals gates =
-    (values : ℕ → Bool) (v : List Bool) → IsCycle n first values v → AreMet values gates.list → (x : ℕ) → x < net_count n → IsMade n order i x → literal_value values (literal_at literals x) ≡ bit v x
+    (values : ℕ → Bool) (v : List Bool) → IsCycle n first values v → AreMet values gates.list
+    → (x : ℕ) → x < net_count n → IsMade n order i x → literal_value values (literal_at literals x) ≡ bit v x
 
 -- only the literals of tables changed
 abbrev pub OnlyTables : Net → List Literal → List Literal → Type 0
@@ -66,7 +67,8 @@ OnlyTables n first literals = (x : ℕ) → (IsTable (node_of n x) → ⊥) → 
 pub record IsMadeAt (n : Net) (x : ℕ) (old new : List Literal) (gates : PlainGates) : Type 0 where
   pub long : length new ≡ length old
   pub others : (y : ℕ) → (y ≡ x → IsTable (node_of n x) → ⊥) → literal_at new y ≡ literal_at old y
-  pub own : IsTable (node_of n x) → (values : ℕ → Bool) → values 0 ≡ false → AreMet values gates.list → literal_value values (literal_at new x) ≡ table_value (node_of n x) (λ p. literal_value values (literal_at old p))
+  pub own : IsTable (node_of n x) → (values : ℕ → Bool) → values 0 ≡ false → AreMet values gates.list
+      → literal_value values (literal_at new x) ≡ table_value (node_of n x) (λ p. literal_value values (literal_at old p))
 
 -- a register's pin
 abbrev pub pin_of : Option Node → ℕ

@@ -38,7 +38,12 @@ pub record AgreesAt (n : Net) (a : PlainAig) (v : List Bool) (values : ℕ → B
   pub outputs : map (literal_value values) a.outputs ≡ map (bit v) n.outputs
   pub latches : map (λ (l : Latch). values l.variable) a.latches ≡ map (bit v) (registers n)
 
--- for all inputs and start values the graph has a trace, and each trace of it agrees in all cycles with each of the design's
+-- for all inputs and start values the graph has a trace, and each trace of it agrees in all cycles with each of the design's; w has a bit
+-- for each node of the design, and the graph's list of start values has those of the registers, in order
 pub record DoTheSame (n : FreeDesign) (a : PlainAig) : Type 0 where
-  pub some : (w : List Bool) (ins : List (List Bool)) → AreRows n.design.net ins → (tr : ℕ → ℕ → Bool) × IsAigTrace a (latch_bits n.design.net w) ins tr
-  pub each : (w : List Bool) (ins : List (List Bool)) → AreRows n.design.net ins → (rows : List (List Bool)) → IsFreeTrace n.design.net n.free w ins rows → (tr : ℕ → ℕ → Bool) → IsAigTrace a (latch_bits n.design.net w) ins tr → (t : ℕ) → t < length ins → AgreesAt n.design.net a (row_at rows t) (tr t)
+  pub some : (w : List Bool) (ins : List (List Bool)) → AreRows n.design.net ins
+      → (tr : ℕ → ℕ → Bool) × IsAigTrace a (latch_bits n.design.net w) ins tr
+  pub each : (w : List Bool) (ins : List (List Bool)) → AreRows n.design.net ins
+      → (rows : List (List Bool)) → IsFreeTrace n.design.net n.free w ins rows
+      → (tr : ℕ → ℕ → Bool) → IsAigTrace a (latch_bits n.design.net w) ins tr
+      → (t : ℕ) → t < length ins → AgreesAt n.design.net a (row_at rows t) (tr t)

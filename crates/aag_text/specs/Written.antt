@@ -16,5 +16,6 @@ pub record IsFileOf (n : FreeDesign) (bytes : List ℕ) : Type 0 where
   pub text : bytes ≡ aag_text (length graph.inputs + length graph.latches + length graph.gates) graph n.design.net
   pub file : IsFile bytes graph
   pub inputs : graph.inputs ≡ map (λ i. i + 1) (range_with_len 0 (length n.design.net.inputs))
-  pub starts : map (λ (l : Latch). l.start) graph.latches ≡ map (λ x. register_start (node_bit (length n.design.net.inputs) n.free x) (node_of n.design.net x)) (registers n.design.net)
+  pub starts : map (λ (l : Latch). l.start) graph.latches
+      ≡ map (λ x. register_start (node_bit (length n.design.net.inputs) n.free x) (node_of n.design.net x)) (registers n.design.net)
   pub same : DoTheSame n graph

@@ -2,8 +2,7 @@
 //!
 //! The layers above may rely on `specs/`: what a graph is and what it does (`Aig.antt`, `Traces.antt`), when a
 //! design and a graph do the same (`Same.antt`), how a graph is spelled (`Text.antt`), what a file of a graph is
-//! line by line (`Lines.antt`), and what the file of a
-//! design is (`Written.antt`).
+//! line by line (`Lines.antt`), and what the file of a design is (`Written.antt`).
 #![tactic(auto)]
 
 mod aig;
