@@ -1,0 +1,11 @@
+pub mod Stacks
+pub mod Chains
+pub mod Making
+pub mod Firsts
+pub mod Latches
+pub mod Agree
+pub mod Exist
+pub mod Puts
+pub mod Rows
+pub mod Spelling
+pub mod Within

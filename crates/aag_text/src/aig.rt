@@ -1,0 +1,52 @@
+//! And-inverter graphs.
+
+/// A variable, negated or not. Variable 0 is false.
+#[derive(Clone, Copy, Debug, PartialEq, Eq, Drop)]
+pub struct Literal {
+    pub variable: u32,
+    pub negated: bool,
+}
+
+/// The value of a latch in cycle 0.
+#[derive(Clone, Copy, Debug, PartialEq, Eq, Drop)]
+pub enum Start {
+    Zero,
+    One,
+    Free,
+}
+
+/// A latch: its variable, the literal whose value it takes over, and its value in cycle 0.
+#[derive(Clone, Copy, Debug, PartialEq, Eq, Drop)]
+pub struct Latch {
+    pub variable: u32,
+    pub next: Literal,
+    pub start: Start,
+}
+
+/// An and-gate: its variable, and the two literals of which it is the conjunction.
+#[derive(Clone, Copy, Debug, PartialEq, Eq, Drop)]
+pub struct Gate {
+    pub variable: u32,
+    pub left: Literal,
+    pub right: Literal,
+}
+
+/// What the first line of a file says: the greatest variable, and how many inputs, latches, outputs and gates there are.
+#[derive(Clone, Copy, Debug, Drop)]
+pub struct Header {
+    pub most: u32,
+    pub inputs: u32,
+    pub latches: u32,
+    pub outputs: u32,
+    pub gates: u32,
+}
+
+/// An and-inverter graph: the variables of its inputs, its latches, the literals of its outputs and its
+/// gates, each in the order of the file.
+#[derive(Debug, Drop)]
+pub struct Aig {
+    pub inputs: Vec<u32>,
+    pub latches: Vec<Latch>,
+    pub outputs: Vec<Literal>,
+    pub gates: Vec<Gate>,
+}

@@ -1,0 +1,30 @@
+//! Writing the file of a design.
+ghost use Rattle.std.specs.Prelude.{◌+◌, ◌≤◌, IfOk};
+ghost use Rattle.flat_net.specs.Net.{net_count, pin_total};
+ghost use Rattle.hierarchy.specs.Sizes.{row_total};
+ghost use Rattle.aag_text.specs.Written.{IsFileOf};
+
+use crate::law::does_the_same;
+use crate::nets::aig_of;
+use crate::text::text_of;
+use flat_net::FreeNet;
+use std::alloc::Global;
+use tmr_base::OutOfMemory;
+
+/// The file of a design: a graph with its inputs, registers and outputs in order, and their names. The
+/// graph has a trace for all inputs and start values, and each agrees with the design's on outputs and
+/// registers. One pass over the tables; nothing is simplified or shared. `OutOfMemory` says that there was no
+/// memory.
+pub fn write_aag(alloc: Global, n: &FreeNet) -> Result<Vec<u8>, OutOfMemory>
+    requires few { net_count n.now.design.net + pin_total n.now.design.net ≤ 16777216 }
+    requires small { row_total n.now.design.net ≤ 16777216 }
+    ensures { IfOk result (λ bytes. IsFileOf n.now bytes.items) }
+{
+    let net = n.net();
+    // It says that the design is valid.
+    net.input_count();
+    does_the_same();
+    let a = aig_of(alloc, n)?;
+    let bytes = text_of(alloc, &a, net)?;
+    Ok(bytes)
+}
