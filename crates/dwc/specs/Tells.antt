@@ -33,7 +33,7 @@ pub record TellsInCycle (n g : Net) (tr ft : List (List Bool)) (t : ℕ) : Type 
   pub alarmed : (alarm_value n g ft t ≡ true) ↔ SomeDiffer n g ft t
   pub right : alarm_value n g ft t ≡ false → (k c : ℕ) → k < length n.outputs → c < 2 → copy_value g ft t k c ≡ value_at tr t (slice_index n.outputs k)
 
--- for all inputs, and all upsets that strike copies of one number alone: in each cycle the alarm tells whether they reach an output
+-- for all inputs, and all upsets that strike copies of one number alone, in each cycle the alarm tells whether they reach an output
 abbrev pub Guards : Net → Net → Type 0
 Guards n g =
     (ins tr ft : List (List Bool)) (s : List Upset) (c : ℕ) → AreRows n ins → IsTrace n ins tr → IsSchedule g (length ins) s → c < 2 →
