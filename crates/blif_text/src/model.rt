@@ -1,5 +1,5 @@
 //! The open model: what its statements have given so far.
-ghost use Rattle.std.specs.Prelude.{◌≡◌, ◌++◌, ◌∷◌, [], map, OnOk, IfOk, Some, None, true, List, ℕ, option_map};
+ghost use Rattle.std.specs.Prelude.{◌≡◌, ◌++◌, ◌∷◌, [], map, OnOk, IfOk, is_ok, Some, None, true, List, ℕ, option_map};
 ghost use Rattle.blif_text.specs.Answers.{Answers, plain};
 ghost use Rattle.blif_text.specs.Kind.{kind_here, ports_kind, table_kind, row_kind, latch_kind, instance_kind};
 ghost use Rattle.blif_text.specs.Progress.{fresh, here_in, more_of, with_table, ended_model, all_elements, shape_of, with_row, with_elements};
@@ -18,6 +18,7 @@ use crate::word::Word;
 use indexmap::IndexSet;
 use std::alloc::{AllocError, Global};
 use std::marker::Model;
+use std::mem::replace;
 use tmr_base::Name;
 
 #[derive(Drop)]
@@ -238,19 +239,44 @@ impl OpenModel {
         }
     }
 
+    /// The inputs and the outputs in their order, where no more statements come.
+    fn end_lists(&mut self, alloc: Global) -> Result<(Vec<Name>, Vec<Name>), AllocError>
+        ensures lists { IfOk result (λ lists. (lists.0.items ≡ self.old.ports) × (lists.1.items ≡ self.old.outputs)) }
+        ensures name { OnOk result (self.new.name ≡ self.old.name) }
+        ensures elements { OnOk result (self.new.elements ≡ all_elements self.old) }
+    {
+        self.end_rows()?;
+        let inputs = in_order(alloc, replace(&mut self.ports, IndexSet::new(alloc)))?;
+        let outputs = in_order(alloc, replace(&mut self.outputs, IndexSet::new(alloc)))?;
+        Ok((inputs, outputs))
+    }
+
     /// The model, where no more statements come.
     pub fn ended(mut self, alloc: Global) -> Result<BlifModel, AllocError>
         ensures { IfOk result (λ m. plain_model m ≡ ended_model self) }
     {
-        self.end_rows()?;
-        let inputs = in_order(alloc, self.ports)?;
-        let outputs = in_order(alloc, self.outputs)?;
-        Ok(BlifModel {
-            name: self.name,
+        let lists = self.end_lists(alloc);
+        whole_model(self.name, self.elements, lists)
+    }
+}
+
+/// The model of this name with these inputs, outputs and elements.
+fn whole_model(
+    name: Name,
+    elements: Vec<Element>,
+    lists: Result<(Vec<Name>, Vec<Name>), AllocError>,
+) -> Result<BlifModel, AllocError>
+    ensures model { IfOk result (λ m. IfOk lists (λ l. plain_model m ≡ record { name = name; inputs = l.0.items; outputs = l.1.items; elements = map plain_element elements.items })) }
+    ensures ok { is_ok result ≡ is_ok lists }
+{
+    match lists {
+        Ok((inputs, outputs)) => Ok(BlifModel {
+            name,
             inputs,
             outputs,
-            elements: self.elements,
-        })
+            elements,
+        }),
+        Err(e) => Err(e),
     }
 }
 

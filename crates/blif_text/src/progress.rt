@@ -17,6 +17,7 @@ use crate::word::{Word, word_of};
 use indexmap::IndexSet;
 use std::alloc::{AllocError, Global};
 use std::marker::Model;
+use std::mem::replace;
 use tmr_base::Name;
 
 #[derive(Drop)]
@@ -114,10 +115,8 @@ impl Progress {
     {
         match list_model(alloc, &mut self.names, token) {
             Ok(name) => {
-                let open_model = self.open_model.take();
-                end_open(alloc, &mut self.models, open_model)?;
-                self.open_model = Some(OpenModel::new(alloc, name));
-                Ok(())
+                let open_model = self.open_model.replace(OpenModel::new(alloc, name));
+                Ok(end_open(alloc, &mut self.models, open_model)?)
             }
             Err(refusal) => Err(refusal),
         }
@@ -174,10 +173,10 @@ impl Progress {
     }
 
     /// All models, where no more statements come.
-    pub fn ended(mut self, alloc: Global) -> Result<Vec<BlifModel>, AllocError>
-        ensures { IfOk result (λ models. map plain_model models.items ≡ all_models self) }
+    pub fn ended(&mut self, alloc: Global) -> Result<Vec<BlifModel>, AllocError>
+        ensures { IfOk result (λ models. map plain_model models.items ≡ all_models self.old) }
     {
         self.end_model(alloc)?;
-        Ok(self.models)
+        Ok(replace(&mut self.models, Vec::new(alloc)))
     }
 }

@@ -94,11 +94,7 @@ impl Reader {
         ensures reads { (given : List ℕ) → StandsFor self given → Reads result (reading given) }
         ensures again { IfSome self.refused (λ fault. result ≡ Err fault) }
     {
-        let mut lines = self.lines;
-        match self.refused {
-            Some(fault) => Err(fault),
-            None => finish(self.alloc, &mut lines, self.progress),
-        }
+        finish(self.alloc, self.lines, self.progress, self.refused)
     }
 }
 
@@ -107,11 +103,8 @@ pub fn read_library(alloc: Global, bytes: &[u8]) -> Result<Library, TextFault>
     requires { length bytes.now ≤ most_bytes }
     ensures { Reads result (reading bytes.now) }
 {
-    match Reader::new(alloc) {
-        Ok(mut reader) => match reader.feed(bytes) {
-            Ok(()) => reader.finish(),
-            Err(fault) => Err(fault),
-        },
-        Err(_) => Err(TextFault::Memory),
-    }
+    let mut lines = Lines::new(alloc);
+    let mut progress = Progress::new(alloc);
+    let fault = take_piece(alloc, &mut lines, &mut progress, None, bytes);
+    finish(alloc, lines, progress, fault)
 }

@@ -111,9 +111,9 @@ fn take_bytes(
 }
 
 /// The library, where no more statements come.
-fn ended(alloc: Global, progress: Progress) -> Result<Library, TextFault>
-    requires { IsSound progress }
-    ensures { Reads result (reading_in progress) }
+fn ended(alloc: Global, progress: &mut Progress) -> Result<Library, TextFault>
+    requires { IsSound progress.old }
+    ensures { Reads result (reading_in progress.old) }
 {
     if progress.is_empty() {
         return Err(TextFault::Bad {
@@ -128,17 +128,13 @@ fn ended(alloc: Global, progress: Progress) -> Result<Library, TextFault>
 }
 
 /// Ends the text: an LF ends the last line, and another what a backslash there leaves open.
-pub(crate) fn finish(
-    alloc: Global,
-    lines: &mut Lines,
-    mut progress: Progress,
-) -> Result<Library, TextFault>
+fn end_text(alloc: Global, lines: &mut Lines, progress: &mut Progress) -> Result<Library, TextFault>
     requires number { lines.old.number < 2 ^ 32 - 2 }
-    requires sound { IsSound progress }
-    ensures { (given : List ℕ) → Stands lines.old progress given → Reads result (reading given) }
+    requires sound { IsSound progress.old }
+    ensures { (given : List ℕ) → Stands lines.old progress.old given → Reads result (reading given) }
 {
-    match end_line(alloc, lines, &mut progress) {
-        Ok(()) => match end_line(alloc, lines, &mut progress) {
+    match end_line(alloc, lines, progress) {
+        Ok(()) => match end_line(alloc, lines, progress) {
             Ok(()) => match ended(alloc, progress) {
                 Ok(library) => Ok(library),
                 Err(fault) => Err(fault),
@@ -147,6 +143,39 @@ pub(crate) fn finish(
         },
         Err(fault) => Err(fault),
     }
+}
+
+/// Ends the text, unless a fault was met before.
+fn end_unrefused(
+    alloc: Global,
+    lines: &mut Lines,
+    progress: &mut Progress,
+    refused: Option<TextFault>,
+) -> Result<Library, TextFault>
+    requires number { lines.old.number < 2 ^ 32 - 2 }
+    requires sound { refused ≡ None → IsSound progress.old }
+    ensures reads { (given : List ℕ) → HasRead refused lines.old progress.old given → Reads result (reading given) }
+    ensures again { IfSome refused (λ fault. result ≡ Err fault) }
+{
+    match refused {
+        None => end_text(alloc, lines, progress),
+        Some(fault) => Err(fault),
+    }
+}
+
+/// The same, of a text of which no more is read. All that is kept of it is freed here alone.
+pub(crate) fn finish(
+    alloc: Global,
+    mut lines: Lines,
+    mut progress: Progress,
+    refused: Option<TextFault>,
+) -> Result<Library, TextFault>
+    requires number { lines.number < 2 ^ 32 - 2 }
+    requires sound { refused ≡ None → IsSound progress }
+    ensures reads { (given : List ℕ) → HasRead refused lines progress given → Reads result (reading given) }
+    ensures again { IfSome refused (λ fault. result ≡ Err fault) }
+{
+    end_unrefused(alloc, &mut lines, &mut progress, refused)
 }
 
 /// Takes a piece, unless a fault was met before. Gives the fault that is met by then.

@@ -1,6 +1,7 @@
 -- What holds of each plain form holds of an item's.
-use Rattle.std.proofs.Common.{◌≡◌, ℕ, ◌<◌, List, [], ◌∷◌, length, get_or, map, sym, ap, ◌∙◌, subst, arith}
-use Rattle.std.specs.Prelude.{All}
+use Rattle.std.proofs.Common.{◌≡◌, ℕ, ◌<◌, ◌+◌, List, [], ◌∷◌, ◌++◌, length, get_or, drop, map, refl, sym, ap, ◌∙◌, subst, arith, suc, add-one, append_assoc}
+use Rattle.std.specs.Prelude.{All, flat_map}
+use Rattle.std.proofs.Math.Seq.{drop-cons}
 use Rattle.std.proofs.lemmas.List.{get_or-map, length-map}
 use Rattle.std.proofs.lemmas.List.Elements.{All-cons, All-nil}
 
@@ -10,3 +11,13 @@ item_has P f xs i x all below is = subst P (get_or-map f xs i x (f x) below ∙ 
 pub all_map : {A B : Type 0} (P : B → Type 0) (f : A → B) (xs : List A) → ((x : A) → P (f x)) → All P (map f xs)
 all_map P f [] h = All-nil P
 all_map P f (x ∷ xs) h = All-cons P (f x) (map f xs) (h x) (all_map P f xs h)
+
+-- one item more is gone through, and what it gives is behind what those before it gave
+pub flat_more : {A B C : Type 0} (f : B → List C) (g : A → B) (xs : List A) (i : ℕ) (x : A) (old new whole : List C) → i < length xs → x ≡ get_or xs i x → new ≡ old ++ f (g x) → old ++ flat_map f (map g (drop i xs)) ≡ whole → new ++ flat_map f (map g (drop (i + 1) xs)) ≡ whole
+flat_more f g xs i x old new whole below is more so_far = ap (λ n. n ++ flat_map f (map g (drop (i + 1) xs))) more ∙ (append_assoc old (f (g x)) (flat_map f (map g (drop (i + 1) xs))) ∙ (ap (λ r. old ++ r) rest ∙ so_far))
+  where
+    here : drop i xs ≡ x ∷ drop (i + 1) xs
+    here = rw add-one (drop-cons xs i x below ∙ ap (λ y. y ∷ drop (suc i) xs) (sym is))
+
+    rest : f (g x) ++ flat_map f (map g (drop (i + 1) xs)) ≡ flat_map f (map g (drop i xs))
+    rest = sym (ap (λ ys. flat_map f (map g ys)) here)

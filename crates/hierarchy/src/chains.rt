@@ -44,10 +44,7 @@ pub(crate) fn way_at<'a>(positions: &[usize], ways: &'a [Option<Way>], x: usize)
     ensures { option_copied result ≡ way_at_number positions.now ways.now x }
 {
     let place = positions.get(x)?;
-    match ways.get(*place) {
-        Some(Some(way)) => Some(way),
-        _ => None,
-    }
+    ways.get(*place)?.as_ref()
 }
 
 /// The way of the model of this name.
@@ -164,6 +161,14 @@ fn bound_alike(alloc: Global, names: &[Name]) -> Result<Vec<(Name, Name)>, OutOf
     Ok(nets)
 }
 
+/// Each name that stands in tables and latches bound to itself.
+fn bound_names(alloc: Global, elements: &[Element]) -> Result<Vec<(Name, Name)>, OutOfMemory>
+    ensures { IfOk result (λ nets. (name : List ℕ) → is_among (nets_in (map plain_element elements.now)) name ≡ true → actual_of nets.items name ≡ Some name) }
+{
+    let stands = names_in(alloc, elements)?;
+    bound_alike(alloc, stands.as_slice())
+}
+
 /// The way of a model that holds tables and latches alone, where it is the end of a chain.
 fn end_way(
     alloc: Global,
@@ -178,8 +183,7 @@ fn end_way(
     if !matches!(ends.get(x), Some(true)) || !are_plain(names, holds, elements) {
         return Ok(None);
     }
-    let stands = names_in(alloc, elements)?;
-    let nets = bound_alike(alloc, stands.as_slice())?;
+    let nets = bound_names(alloc, elements)?;
     Ok(Some(Way {
         base: x,
         nets,
@@ -207,6 +211,18 @@ fn handed_nets(
     Ok(Some(handed))
 }
 
+/// The same, of a statement with these bindings.
+fn handed_on(
+    alloc: Global,
+    nets: &[(Name, Name)],
+    bindings: &[(Name, Name)],
+) -> Result<Option<Vec<(Name, Name)>>, OutOfMemory>
+    ensures { IfOk result (λ found. IfSome found (λ handed. IsHandedOn nets.now (actual_of bindings.now) handed.items)) }
+{
+    let actuals = bind_actuals(alloc, bindings)?;
+    handed_nets(alloc, nets, &actuals)
+}
+
 /// The way of a model that holds this statement alone.
 fn handed_way(
     alloc: Global,
@@ -224,8 +240,7 @@ fn handed_way(
     if placed.nets.len() > bindings.len().saturating_add(MORE) {
         return Ok(None);
     }
-    let actuals = bind_actuals(alloc, bindings)?;
-    match handed_nets(alloc, &placed.nets, &actuals)? {
+    match handed_on(alloc, &placed.nets, bindings)? {
         Some(nets) => Ok(Some(Way {
             base: placed.base,
             nets,

@@ -205,10 +205,7 @@ pub(crate) fn count_at<'a>(
     ensures { option_copied result ≡ count_at_number positions.now counts.now x }
 {
     let place = positions.get(x)?;
-    match counts.get(*place) {
-        Some(Some(count)) => Some(count),
-        _ => None,
-    }
+    counts.get(*place)?.as_ref()
 }
 
 /// The count of the model of this name.

@@ -8,7 +8,7 @@ ghost use Rattle.hierarchy.specs.Found.{IsOrder};
 ghost use Rattle.hierarchy.specs.Counts.{ArePlaces};
 ghost use Rattle.hierarchy.specs.Library.{IsPlaceable};
 ghost use Rattle.hierarchy.specs.Walk.{model_at};
-ghost use Rattle.hierarchy.specs.Chains.{AreElementsFor, IsShort, IsSameFlat};
+ghost use Rattle.hierarchy.specs.Chains.{AreElementsFor, AreWays, IsShort, IsSameFlat};
 ghost use Rattle.blif_text.specs.Library.{IsLibrary};
 
 use crate::bare::filled_models;
@@ -172,6 +172,28 @@ fn stand_ins(
     Ok(found)
 }
 
+/// The same, where these are the ways of the models.
+fn cut_at_heads(
+    alloc: Global,
+    models: &[BlifModel],
+    names: &IndexSet<Name>,
+    order: &[usize],
+    positions: &[usize],
+    ways: &[Option<Way>],
+) -> Result<Option<Vec<BlifModel>>, OutOfMemory>
+    requires library { IsLibrary (map plain_model models.now) }
+    requires placeable { IsPlaceable (map plain_model models.now) }
+    requires ordered { IsOrder (graph (map plain_model models.now)) order.now }
+    requires places { ArePlaces order.now positions.now }
+    requires ways { AreWays (map plain_model models.now) order.now ways.now }
+    ensures { IfOk result (λ found. IfSome found (λ short. IsSameFlat (map plain_model models.now) (map plain_model short.items))) }
+{
+    match head_models(alloc, models, names, order, positions, ways)? {
+        Some(heads) => Ok(Some(stand_ins(alloc, models, positions, ways, &heads)?)),
+        None => Ok(None),
+    }
+}
+
 /// A library of models with the same names and the same flat elements, where a long chain is cut short. None
 /// where no chain is long: nothing is copied then.
 pub(crate) fn cut_short(
@@ -194,8 +216,5 @@ pub(crate) fn cut_short(
         return Ok(None);
     };
     let ways = all_ways(alloc, models, names, &holds, &ends, order, positions)?;
-    match head_models(alloc, models, names, order, positions, &ways)? {
-        Some(heads) => Ok(Some(stand_ins(alloc, models, positions, &ways, &heads)?)),
-        None => Ok(None),
-    }
+    cut_at_heads(alloc, models, names, order, positions, &ways)
 }

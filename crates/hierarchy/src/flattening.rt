@@ -299,8 +299,37 @@ fn flat_design(
     }
 }
 
-/// The flat design of the library, or its first fault. A main model that places no models is its own flat model,
-/// and nothing of it is copied but into the design.
+/// The flat design of a library without faults of its own. A main model that places no models is its own flat
+/// model, and nothing of it is copied but into the design.
+fn flat_counted_design(
+    alloc: Global,
+    lib: &Library,
+    found: &Ordered,
+    counted: &Counted,
+    limit: u64,
+) -> Result<FreeNet, FlatFault>
+    requires kept { IsLibrary lib.now }
+    requires names { found.now.names.keys ≡ names_of lib.now }
+    requires placeable { IsPlaceable lib.now }
+    requires ordered { IsOrder (graph lib.now) found.now.order.items }
+    requires sound { IsSound lib.now }
+    requires places { ArePlaces found.now.order.items counted.now.positions.items }
+    requires fits { Fits lib.now limit }
+    requires limit { limit ≤ 1073741824 }
+    ensures ok { IfOk result (λ flat. IsFreeFlat lib.now limit flat.design.net flat.free) }
+    ensures fault { IfErr result (λ fault. IsFlatFault lib.now limit fault) }
+    ensures nets { IfOk result (λ flat. 2 * (net_count flat.design.net + pin_total flat.design.net) ≤ limit) }
+    ensures rows { IfOk result (λ flat. row_total flat.design.net ≤ limit) }
+{
+    let models = lib.models();
+    if let Some(main) = lone_main(models) {
+        return flat_design(alloc, lib, main, limit);
+    }
+    let flat = flat_model(alloc, models, &found.names, &found.order, counted, limit)?;
+    flat_design(alloc, lib, &flat, limit)
+}
+
+/// The flat design of the library, or its first fault.
 fn flat_of(alloc: Global, lib: &Library, limit: u64) -> Result<FreeNet, FlatFault>
     requires { limit ≤ 1073741824 }
     ensures ok { IfOk result (λ flat. IsFreeFlat lib.now limit flat.design.net flat.free) }
@@ -311,11 +340,7 @@ fn flat_of(alloc: Global, lib: &Library, limit: u64) -> Result<FreeNet, FlatFaul
     let models = lib.models();
     let found = sound_order(alloc, models)?;
     let counted = counted_within(alloc, models, &found.names, &found.order, limit)?;
-    if let Some(main) = lone_main(models) {
-        return flat_design(alloc, lib, main, limit);
-    }
-    let flat = flat_model(alloc, models, &found.names, &found.order, &counted, limit)?;
-    flat_design(alloc, lib, &flat, limit)
+    flat_counted_design(alloc, lib, &found, &counted, limit)
 }
 
 /// The flat design of the library, where its flat text has at most `limit` bytes, with a mark at each

@@ -1,10 +1,11 @@
 //! The faults of a library, and the order in which its reached models are counted.
-ghost use Rattle.std.specs.Prelude.{◌≡◌, ◌<◌, ◌↔◌, ℕ, true, nat_eq, map, length, All, IfOk};
+ghost use Rattle.std.specs.Prelude.{◌≡◌, ◌<◌, ◌↔◌, ℕ, true, nat_eq, map, length, All, IfOk, MatchResult};
 ghost use Rattle.blif_text.specs.Library.{IsLibrary};
 ghost use Rattle.blif_text.specs.Views.{plain_model};
 ghost use Rattle.hierarchy.specs.Graph.{graph as graph_in, names_of, Reached};
 ghost use Rattle.hierarchy.specs.Ports.{ports_of};
-ghost use Rattle.hierarchy.specs.Library.{IsStatementFault, picked};
+ghost use Rattle.hierarchy.specs.Library.{IsStatementFault, IsPlaceable, picked};
+ghost use Rattle.hierarchy.specs.Found.{IsOrder};
 ghost use Rattle.hierarchy.specs.Survey.{IsSurvey};
 ghost use Rattle.std.specs.List.{list_any};
 
@@ -90,21 +91,53 @@ fn statements_fault(
     first_fault(alloc, models, names, &ports, &reached)
 }
 
+/// The order in which the models of a library without faults are counted, or the loop that is in its way.
+fn order_or_loop(
+    alloc: Global,
+    models: &[BlifModel],
+    names: &IndexSet<Name>,
+    graph: &Graph,
+) -> Result<Result<Vec<usize>, Survey>, OutOfMemory>
+    requires library { IsLibrary (map plain_model models.now) }
+    requires names { names.now.keys ≡ names_of (map plain_model models.now) }
+    requires graph { graph.now ≡ graph_in (map plain_model models.now) }
+    requires placeable { IsPlaceable (map plain_model models.now) }
+    ensures { IfOk result (λ found. MatchResult found (λ order. IsOrder (graph_in (map plain_model models.now)) order.items) (IsSurvey (map plain_model models.now))) }
+{
+    match order_models(alloc, graph)? {
+        Found::Order(order) => Ok(Ok(order)),
+        Found::Loop(found) => {
+            let around = names_at(alloc, names, &found)?;
+            Ok(Err(Survey::Recursive(around)))
+        }
+    }
+}
+
+/// The order in which the models are counted, or what is in its way.
+fn order_or_fault(
+    alloc: Global,
+    models: &[BlifModel],
+    names: &IndexSet<Name>,
+) -> Result<Result<Vec<usize>, Survey>, OutOfMemory>
+    requires library { IsLibrary (map plain_model models.now) }
+    requires names { names.now.keys ≡ names_of (map plain_model models.now) }
+    ensures { IfOk result (λ found. MatchResult found (λ order. IsPlaceable (map plain_model models.now) × IsOrder (graph_in (map plain_model models.now)) order.items) (IsSurvey (map plain_model models.now))) }
+{
+    let graph = graph_of(alloc, names, models)?;
+    match statements_fault(alloc, models, names, &graph)? {
+        Some(fault) => Ok(Err(Survey::Misplaced(fault))),
+        None => order_or_loop(alloc, models, names, &graph),
+    }
+}
+
 /// The first fault of a library, or the order in which its models are counted.
 pub(crate) fn look_over(alloc: Global, models: &[BlifModel]) -> Result<Survey, OutOfMemory>
     requires { IsLibrary (map plain_model models.now) }
     ensures { IfOk result (λ found. IsSurvey (map plain_model models.now) found) }
 {
     let names = model_names(alloc, models)?;
-    let graph = graph_of(alloc, &names, models)?;
-    if let Some(fault) = statements_fault(alloc, models, &names, &graph)? {
-        return Ok(Survey::Misplaced(fault));
-    }
-    match order_models(alloc, &graph)? {
-        Found::Order(order) => Ok(Survey::Sound(names, order)),
-        Found::Loop(found) => {
-            let around = names_at(alloc, &names, &found)?;
-            Ok(Survey::Recursive(around))
-        }
+    match order_or_fault(alloc, models, &names)? {
+        Ok(order) => Ok(Survey::Sound(names, order)),
+        Err(survey) => Ok(survey),
     }
 }

@@ -1,9 +1,6 @@
-use Rattle.std.proofs.Common.{[], subst, append-nil}
-use Rattle.blif_text.specs.Reading.{reading}
-use Rattle.blif_text.specs.Stands.{IsFaultOf}
+use Rattle.std.proofs.Common.{[]}
+use Rattle.blif_text.proofs.Taken.{stands_new}
 use Rattle.blif_text.proofs.reader.read_library.Goals as goal
 
-pub returns-in-Err-feed : goal.returns-in-Err-feed
-returns-in-Err-feed c =
-    subst (λ bytes. IsFaultOf (reading bytes) c.in-Err-feed.fault) (append-nil c.args.bytes.now)
-    (c.in-Err-feed.ensures.bad [] [] c.in-Ok.ensures.stands)
+pub returns : goal.returns
+returns c = c.finish.ensures.reads c.args.bytes.now (c.take_piece-fault.ensures.read [] (stands_new c.new-lines.result c.new-progress.result c.new-lines.ensures c.new-progress.ensures))

@@ -26,3 +26,9 @@ loop-x-preserved c = record {
 
     within : x < length c.args.models.now
     within = omega (arith, c.requires.ordered.within c.loop-x.x-index c.loop-x-test.true, length-map c.args.models.now plain_model, length-map (map plain_model c.args.models.now) (placed_of (names_of (map plain_model c.args.models.now))))
+
+pub formals_of-requires : goal.formals_of-requires
+formals_of-requires c = omega (arith, c.requires.ordered.within c.loop-x.x-index c.loop-x-test.true, length-map c.args.models.now plain_model, length-map (map plain_model c.args.models.now) (placed_of (names_of (map plain_model c.args.models.now))))
+
+pub bounds-models-x : goal.bounds-models-x
+bounds-models-x c = omega (arith, c.requires.ordered.within c.loop-x.x-index c.loop-x-test.true, length-map c.args.models.now plain_model, length-map (map plain_model c.args.models.now) (placed_of (names_of (map plain_model c.args.models.now))))

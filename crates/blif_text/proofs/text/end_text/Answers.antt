@@ -1,7 +1,7 @@
 use Rattle.std.proofs.Common.{◌++◌, ◌∷◌, [], ◌∙◌, sym, subst}
 use Rattle.blif_text.specs.Stands.{IsFaultOf}
 use Rattle.blif_text.proofs.Taken.{read_well, read_badly, read_badly_last}
-use Rattle.blif_text.proofs.text.finish.Goals as goal
+use Rattle.blif_text.proofs.text.end_text.Goals as goal
 
 pub returns-in-Ok-ended : goal.returns-in-Ok-ended
 returns-in-Ok-ended c = λ given s.
