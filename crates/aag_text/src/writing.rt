@@ -1,9 +1,11 @@
 //! Writing the file of a design.
-ghost use Rattle.std.specs.Prelude.{◌+◌, ◌≤◌, IfOk};
+ghost use Rattle.std.specs.Prelude.{◌≡◌, ◌+◌, ◌≤◌, length, IfOk};
 ghost use Rattle.flat_net.specs.Net.{net_count, pin_total};
 ghost use Rattle.hierarchy.specs.Sizes.{row_total};
+ghost use Rattle.aag_text.specs.Nets.{plain_aig};
 ghost use Rattle.aag_text.specs.Written.{IsFileOf, IsCountedFile};
 
+use crate::aig::Aig;
 use crate::law::does_the_same;
 use crate::nets::aig_of;
 use crate::text::text_of;
@@ -16,6 +18,12 @@ use tmr_base::OutOfMemory;
 pub struct CountedFile {
     pub bytes: Vec<u8>,
     pub gates: u64,
+}
+
+fn gate_count(a: &Aig) -> u64
+    ensures { result ≡ length (plain_aig a.now).gates }
+{
+    a.gates.len() as u64
 }
 
 /// The file of a design, and the number of its gates: a graph with the design's inputs, registers and outputs
@@ -32,7 +40,7 @@ pub fn write_counted(alloc: Global, n: &FreeNet) -> Result<CountedFile, OutOfMem
     net.input_count();
     does_the_same();
     let a = aig_of(alloc, n)?;
-    let gates = a.gates.len() as u64;
+    let gates = gate_count(&a);
     let bytes = text_of(alloc, &a, net)?;
     Ok(CountedFile { bytes, gates })
 }
