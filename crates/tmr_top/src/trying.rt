@@ -172,12 +172,7 @@ fn sum_runs(list: &[Schedule], outcomes: &[Outcome]) -> RunSums
 
 /// What all runs on a hardened form come to.
 #[tactic(auto, using(crate::proofs::TrialLaws::runs))]
-fn run_all(
-    alloc: Global,
-    number: u64,
-    n: &FlatNet,
-    made: &Hardened,
-) -> Result<RunSums, OutOfMemory>
+fn run_all(alloc: Global, number: u64, n: &FlatNet, made: &Hardened) -> Result<RunSums, OutOfMemory>
     requires { IsHardened n.now.net 64 made.now }
     ensures { IfOk result (λ sums. AreSums number n.now.net made.now.net.net made.now.cert sums) }
 {
