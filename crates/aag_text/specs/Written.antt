@@ -19,3 +19,8 @@ pub record IsFileOf (n : FreeDesign) (bytes : List ℕ) : Type 0 where
   pub starts : map (λ (l : Latch). l.start) graph.latches
       ≡ map (λ x. register_start (node_bit (length n.design.net.inputs) n.free x) (node_of n.design.net x)) (registers n.design.net)
   pub same : DoTheSame n graph
+
+-- the same, and the graph has so many gates
+pub record IsCountedFile (n : FreeDesign) (bytes : List ℕ) (gates : ℕ) : Type 0 where
+  pub file : IsFileOf n bytes
+  pub count : gates ≡ length file.graph.gates

@@ -13,4 +13,4 @@ mod text;
 mod writing;
 
 pub use aig::{Aig, Gate, Header, Latch, Literal, Start};
-pub use writing::write_aag;
+pub use writing::{CountedFile, write_aag, write_counted};

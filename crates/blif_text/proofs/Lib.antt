@@ -8,3 +8,4 @@ pub mod Taken
 pub mod Examples
 pub mod Sound
 pub mod Told
+pub mod Tokens

@@ -97,10 +97,15 @@ fn cover_of(alloc: Global, width: u32, rows: &str) -> Result<Cover, AllocError> 
     Ok(cover)
 }
 
+fn is_same(alloc: Global, cover: &Cover, width: u32, rows: &str) -> Result<bool, AllocError> {
+    let other = cover_of(alloc, width, rows)?;
+    Ok(cover.same(&other))
+}
+
 fn same_text(alloc: Global, width: u32, one: &str, other: &str) -> Result<String, AllocError> {
     let one = cover_of(alloc, width, one)?;
-    let other = cover_of(alloc, width, other)?;
-    String::from_str(alloc, if one.same(&other) { "yes" } else { "no" })
+    let is_same = is_same(alloc, &one, width, other)?;
+    String::from_str(alloc, if is_same { "yes" } else { "no" })
 }
 
 /// The word of values on these words.
@@ -117,12 +122,16 @@ fn wide_text(alloc: Global, width: u32, rows: &str, words: &str) -> Result<Strin
     Ok(format!(in alloc; "{value}")?)
 }
 
+/// The majority of the three lowest bits of a number.
+fn majority_of(number: u32) -> bool {
+    majority(number & 4 != 0, number & 2 != 0, number & 1 != 0)
+}
+
 /// The majority of the three bits of each number below 8.
 fn majorities(alloc: Global) -> Result<String, AllocError> {
     let mut text = String::new(alloc);
     for number in 0..8u32 {
-        let value = majority(number / 4 != 0, number / 2 % 2 != 0, number % 2 != 0);
-        text.push(if value { '1' } else { '0' })?;
+        text.push(if majority_of(number) { '1' } else { '0' })?;
     }
     Ok(text)
 }

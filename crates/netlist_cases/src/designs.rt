@@ -1,6 +1,6 @@
 //! Flat designs of netlists.
 
-ghost use Rattle.std.specs.Prelude.{◌<◌, ◌≤◌, length};
+ghost use Rattle.std.specs.Prelude.{◌≡◌, ◌+◌, ◌<◌, ◌≤◌, length};
 ghost use Rattle.flat_net.specs.Net.{net_count};
 
 use crate::escapes::{encoded, put_bytes, put_name};
@@ -9,31 +9,67 @@ use crate::keeping::Texts;
 use crate::reading::library_of;
 use crate::stop::Stop;
 use crate::words::{first_word, long_number};
+use blif_text::Library;
 use blif_writer::{write_flat, write_free};
 use flat_net::{FlatNet, FreeNet, Kind};
-use hierarchy::{Flat, flatten, flatten_free, text_length};
+use hierarchy::{Flat, FlatFault, flatten, flatten_free, text_length};
 use std::alloc::{AllocError, Global};
-use tmr_base::{Edge, NetId};
+use tmr_base::{Edge, Name, NetId};
 
 /// The greatest limit on a flat text.
 pub const MOST: u64 = 1_073_741_824;
 
+/// A limit that is at most the greatest.
+fn limited(limit: u64) -> u64
+    ensures { result ≤ 1073741824 }
+{
+    limit.min(1_073_741_824)
+}
+
+/// The design of a library's first model.
+fn flat_in(alloc: Global, library: &Library, limit: u64) -> Result<Flat, FlatFault> {
+    flatten(alloc, library, limited(limit))
+}
+
+/// The design of a library's first model, with its marks.
+fn free_in(alloc: Global, library: &Library, limit: u64) -> Result<FreeNet, FlatFault> {
+    flatten_free(alloc, library, limited(limit))
+}
+
+/// What ends a case whose text is not flattened.
+fn end_of(alloc: Global, fault: FlatFault) -> Stop {
+    match flat_fault(alloc, &fault) {
+        Ok(text) => Stop::Answered(text),
+        Err(_) => Stop::Memory,
+    }
+}
+
+/// The design, which ends the case where there is none.
+fn flat_within(alloc: Global, library: &Library, limit: u64) -> Result<Flat, Stop> {
+    match flat_in(alloc, library, limit) {
+        Ok(flat) => Ok(flat),
+        Err(fault) => Err(end_of(alloc, fault)),
+    }
+}
+
+/// The design with its marks, which ends the case where there is none.
+fn free_within(alloc: Global, library: &Library, limit: u64) -> Result<FreeNet, Stop> {
+    match free_in(alloc, library, limit) {
+        Ok(net) => Ok(net),
+        Err(fault) => Err(end_of(alloc, fault)),
+    }
+}
+
 /// The design of a text, within a limit on its flat text.
 fn flat_of(alloc: Global, bytes: &[u8], limit: u64) -> Result<Flat, Stop> {
     let library = library_of(alloc, bytes)?;
-    match flatten(alloc, &library, limit.min(1_073_741_824)) {
-        Ok(flat) => Ok(flat),
-        Err(fault) => Err(Stop::Answered(flat_fault(alloc, &fault)?)),
-    }
+    flat_within(alloc, &library, limit)
 }
 
 /// The design of a text with its marks, within a limit on its flat text.
 pub fn free_of(alloc: Global, bytes: &[u8], limit: u64) -> Result<FreeNet, Stop> {
     let library = library_of(alloc, bytes)?;
-    match flatten_free(alloc, &library, limit.min(1_073_741_824)) {
-        Ok(net) => Ok(net),
-        Err(fault) => Err(Stop::Answered(flat_fault(alloc, &fault)?)),
-    }
+    free_within(alloc, &library, limit)
 }
 
 /// The design of a text.
@@ -51,7 +87,16 @@ pub fn name_bytes(net: &FlatNet, x: NetId) -> &[u8] {
     }
 }
 
-fn put_net(text: &mut String, net: &FlatNet, x: NetId) -> Result<(), AllocError> {
+/// The number of node i.
+pub fn node_id(net: &FlatNet, i: u32) -> NetId
+    requires { i < length net.now.net.nodes }
+    ensures { result.0 ≡ length net.now.net.inputs + i }
+{
+    NetId(net.input_count() + i)
+}
+
+/// Puts a blank and a net's name.
+pub fn put_net(text: &mut String, net: &FlatNet, x: NetId) -> Result<(), AllocError> {
     text.push(' ')?;
     put_bytes(text, name_bytes(net, x))
 }
@@ -76,7 +121,7 @@ fn put_nodes(text: &mut String, net: &FlatNet) -> Result<(), AllocError> {
     }
     text.push_str(" nodes")?;
     for i in 0..net.node_count() {
-        put_node(text, net, NetId(net.input_count() + i))?;
+        put_node(text, net, node_id(net, i))?;
     }
     Ok(())
 }
@@ -133,36 +178,40 @@ pub fn design_text(alloc: Global, net: &FlatNet) -> Result<String, AllocError> {
     Ok(text)
 }
 
-/// The design of a text, with the number of its open initial values.
-fn design_answer(alloc: Global, bytes: &[u8]) -> Result<String, Stop> {
-    let flat = flat_of(alloc, bytes, MOST)?;
+/// A design, with the number of its open initial values.
+fn assumed_text(alloc: Global, flat: &Flat) -> Result<String, AllocError> {
     let mut text = design_text(alloc, &flat.net)?;
     write!(text, " assumed {}", flat.assumed)?;
     Ok(text)
 }
 
+fn design_answer(alloc: Global, bytes: &[u8]) -> Result<String, Stop> {
+    let flat = flat_of(alloc, bytes, MOST)?;
+    Ok(assumed_text(alloc, &flat)?)
+}
+
+/// The flat text.
+fn written(alloc: Global, net: &FlatNet) -> Result<Vec<u8>, Stop> {
+    Ok(write_flat(alloc, net)?)
+}
+
 /// The flat text, with the number of open initial values.
+fn flat_text(alloc: Global, flat: &Flat) -> Result<String, Stop> {
+    let bytes = written(alloc, &flat.net)?;
+    let mut text = format!(in alloc; "{} ", flat.assumed)?;
+    put_bytes(&mut text, bytes.as_slice())?;
+    Ok(text)
+}
+
 fn flat_answer(alloc: Global, bytes: &[u8], limit: u64) -> Result<String, Stop> {
     let flat = flat_of(alloc, bytes, limit)?;
-    let mut text = format!(in alloc; "{} ", flat.assumed)?;
-    put_bytes(&mut text, write_flat(alloc, &flat.net)?.as_slice())?;
-    Ok(text)
+    flat_text(alloc, &flat)
 }
 
-/// The flat text with its marks, with the number of marks and the marked registers.
-fn free_answer(alloc: Global, bytes: &[u8]) -> Result<String, Stop> {
-    let net = free_of(alloc, bytes, MOST)?;
-    let mut text = format!(in alloc; "{}", net.free_count())?;
-    put_marked(&mut text, &net)?;
-    text.push(' ')?;
-    put_bytes(&mut text, write_free(alloc, &net)?.as_slice())?;
-    Ok(text)
-}
-
+/// Puts the names of the marked registers.
 fn put_marked(text: &mut String, net: &FreeNet) -> Result<(), AllocError> {
-    let inputs = net.net().input_count();
     for i in 0..net.net().node_count() {
-        let x = NetId(inputs + i);
+        let x = node_id(net.net(), i);
         if net.is_free(x) {
             put_net(text, net.net(), x)?;
         }
@@ -170,27 +219,79 @@ fn put_marked(text: &mut String, net: &FreeNet) -> Result<(), AllocError> {
     Ok(())
 }
 
-/// Of how many nets the name gives their number, and how many nets, pins and bytes of the first model's flat text
-/// there are.
-fn find_answer(alloc: Global, bytes: &[u8]) -> Result<String, Stop> {
-    let library = library_of(alloc, bytes)?;
-    let net = design_of(alloc, bytes)?;
+/// The number of marks, and the marked registers.
+fn marks_text(alloc: Global, net: &FreeNet) -> Result<String, AllocError> {
+    let mut text = format!(in alloc; "{}", net.free_count())?;
+    put_marked(&mut text, net)?;
+    text.push(' ')?;
+    Ok(text)
+}
+
+/// The flat text with its marks.
+fn written_free(alloc: Global, net: &FreeNet) -> Result<Vec<u8>, Stop> {
+    Ok(write_free(alloc, net)?)
+}
+
+/// The flat text with its marks, with the number of marks and the marked registers.
+fn free_text(alloc: Global, net: &FreeNet) -> Result<String, Stop> {
+    let bytes = written_free(alloc, net)?;
+    let mut text = marks_text(alloc, net)?;
+    put_bytes(&mut text, bytes.as_slice())?;
+    Ok(text)
+}
+
+fn free_answer(alloc: Global, bytes: &[u8]) -> Result<String, Stop> {
+    let net = free_of(alloc, bytes, MOST)?;
+    free_text(alloc, &net)
+}
+
+/// Whether the name gives this number.
+fn is_found(net: &FlatNet, name: &Name, x: u32) -> bool {
+    net.find(name) == Some(NetId(x))
+}
+
+/// Of how many nets the name gives their number.
+fn found_nets(net: &FlatNet, names: &[Name]) -> u32 {
     let mut found = 0u32;
     let mut next = 0u32;
-    for name in net.net_names().as_slice() {
-        if net.find(name) == Some(NetId(next)) {
+    for name in names {
+        if is_found(net, name, next) {
             found = found.wrapping_add(1);
         }
         next = next.wrapping_add(1);
     }
-    let length = match library.models().first() {
+    found
+}
+
+/// How many bytes of flat text the first model of a text has.
+fn first_length(library: &Library) -> u64 {
+    match library.models().first() {
         Some(model) => text_length(model),
         None => 0,
-    };
-    Ok(format!(in alloc;
-        "{found} of {next} nets, {} pins, {length} bytes",
+    }
+}
+
+fn length_of(alloc: Global, bytes: &[u8]) -> Result<u64, Stop> {
+    let library = library_of(alloc, bytes)?;
+    Ok(first_length(&library))
+}
+
+fn find_text(alloc: Global, net: &FlatNet, length: u64) -> Result<String, AllocError> {
+    let names = net.net_names().as_slice();
+    let found = found_nets(net, names);
+    format!(in alloc;
+        "{found} of {} nets, {} pins, {length} bytes",
+        names.len(),
         net.all_pins().len()
-    )?)
+    )
+}
+
+/// Of how many nets the name gives their number, and how many nets, pins and bytes of the first model's flat text
+/// there are.
+fn find_answer(alloc: Global, bytes: &[u8]) -> Result<String, Stop> {
+    let length = length_of(alloc, bytes)?;
+    let net = design_of(alloc, bytes)?;
+    Ok(find_text(alloc, &net, length)?)
 }
 
 /// What flattening answers, or what ends it.
@@ -201,34 +302,56 @@ fn flat_or_fault(alloc: Global, bytes: &[u8]) -> Result<String, Stop> {
     }
 }
 
+/// Puts an answer where it is another than the last, which it then takes the place of.
+pub fn put_change(
+    text: &mut String,
+    last: &mut String,
+    k: usize,
+    answer: String,
+) -> Result<(), AllocError> {
+    if answer.as_str() != last.as_str() {
+        write!(text, "{k}: {answer}\n")?;
+    }
+    last.clear();
+    last.push_str(answer.as_str())
+}
+
 /// What the first bytes of a text flatten to, for each number of them, with a line for each change.
 fn heads_answer(alloc: Global, bytes: &[u8]) -> Result<String, Stop> {
     let mut text = String::new(alloc);
     let mut last = String::new(alloc);
     for k in 0..bytes.len() {
         let answer = flat_or_fault(alloc, &bytes[..k])?;
-        if answer.as_str() != last.as_str() {
-            write!(text, "{k}: {answer}\n")?;
-        }
-        last = answer;
+        put_change(&mut text, &mut last, k, answer)?;
     }
     let whole = flat_or_fault(alloc, bytes)?;
     write!(text, "{}: {whole}", bytes.len())?;
     Ok(text)
 }
 
+/// `LIMIT TEXT`.
+fn limited_answer(alloc: Global, texts: &Texts, rest: &str) -> Result<String, Stop> {
+    let (limit, text) = first_word(rest);
+    let limit = long_number(alloc, limit)?;
+    let bytes = texts.bytes_of(text)?;
+    flat_answer(alloc, bytes.as_slice(), limit)
+}
+
+/// What the bytes of a text answer.
+fn bytes_answer(alloc: Global, verb: &str, bytes: &[u8]) -> Result<String, Stop> {
+    match verb {
+        "design" => design_answer(alloc, bytes),
+        "free" => free_answer(alloc, bytes),
+        "find" => find_answer(alloc, bytes),
+        _ => heads_answer(alloc, bytes),
+    }
+}
+
 /// `flatten LIMIT TEXT`, `design TEXT`, `free TEXT`, `find TEXT` and `heads TEXT`.
 pub fn answer(alloc: Global, texts: &Texts, verb: &str, rest: &str) -> Result<String, Stop> {
     if verb == "flatten" {
-        let (limit, text) = first_word(rest);
-        let limit = long_number(alloc, limit)?;
-        return flat_answer(alloc, texts.bytes_of(text)?.as_slice(), limit);
+        return limited_answer(alloc, texts, rest);
     }
     let bytes = texts.bytes_of(rest)?;
-    match verb {
-        "design" => design_answer(alloc, bytes.as_slice()),
-        "free" => free_answer(alloc, bytes.as_slice()),
-        "find" => find_answer(alloc, bytes.as_slice()),
-        _ => heads_answer(alloc, bytes.as_slice()),
-    }
+    bytes_answer(alloc, verb, bytes.as_slice())
 }

@@ -94,27 +94,51 @@ fn control(alloc: Global, edge: &str, clock: &str) -> Result<Option<(Edge, Name)
     }
 }
 
+/// Adds `latch OUT PIN EDGE CLOCK`.
+fn push_latch(
+    alloc: Global,
+    draft: &mut Draft,
+    out: &str,
+    pin: &str,
+    edge: &str,
+    clock: &str,
+) -> Result<(), Stop>
+    ensures inputs { OnOk result (draft.new.inputs ≡ draft.old.inputs) }
+    ensures outputs { OnOk result (draft.new.outputs ≡ draft.old.outputs) }
+    ensures elements { OnOk result (length draft.new.elements ≤ length draft.old.elements + 1) }
+    ensures pins { OnOk result (length (draft_reads draft.new) ≤ length (draft_reads draft.old) + 1000) }
+{
+    let pin = name_of(alloc, pin)?;
+    let out = name_of(alloc, out)?;
+    let control = control(alloc, edge, clock)?;
+    draft.push_latch(pin, out, control, true)?;
+    Ok(())
+}
+
+/// Adds `and OUT PIN ..`.
+fn push_table(alloc: Global, draft: &mut Draft, out: &str, pins: &[&str]) -> Result<(), Stop>
+    ensures inputs { OnOk result (draft.new.inputs ≡ draft.old.inputs) }
+    ensures outputs { OnOk result (draft.new.outputs ≡ draft.old.outputs) }
+    ensures elements { OnOk result (length draft.new.elements ≤ length draft.old.elements + 1) }
+    ensures pins { OnOk result (length (draft_reads draft.new) ≤ length (draft_reads draft.old) + 1000) }
+{
+    let pins = names_of(alloc, pins)?;
+    let out = name_of(alloc, out)?;
+    push_and(alloc, draft, pins, out)
+}
+
 /// Adds `latch OUT PIN EDGE CLOCK` or `and OUT PIN ..`.
 fn push_element(alloc: Global, draft: &mut Draft, words: &[&str]) -> Result<(), Stop>
-    ensures inputs { draft.new.inputs ≡ draft.old.inputs }
-    ensures outputs { draft.new.outputs ≡ draft.old.outputs }
-    ensures elements { length draft.new.elements ≤ length draft.old.elements + 1 }
-    ensures pins { length (draft_reads draft.new) ≤ length (draft_reads draft.old) + 1000 }
+    ensures inputs { OnOk result (draft.new.inputs ≡ draft.old.inputs) }
+    ensures outputs { OnOk result (draft.new.outputs ≡ draft.old.outputs) }
+    ensures elements { OnOk result (length draft.new.elements ≤ length draft.old.elements + 1) }
+    ensures pins { OnOk result (length (draft_reads draft.new) ≤ length (draft_reads draft.old) + 1000) }
 {
     match words {
-        ["latch", out, pin, edge, clock] => {
-            let pin = name_of(alloc, pin)?;
-            let out = name_of(alloc, out)?;
-            let control = control(alloc, edge, clock)?;
-            draft.push_latch(pin, out, control, true)?;
-        }
-        ["and", out, pins @ ..] => {
-            let pins = names_of(alloc, pins)?;
-            push_and(alloc, draft, pins, name_of(alloc, out)?)?;
-        }
-        _ => {}
+        ["latch", out, pin, edge, clock] => push_latch(alloc, draft, out, pin, edge, clock),
+        ["and", out, pins @ ..] => push_table(alloc, draft, out, pins),
+        _ => Ok(()),
     }
-    Ok(())
 }
 
 /// The names behind this word, each in a line of its own.

@@ -1,6 +1,6 @@
 //! Cases of the calls below the program's runs.
 //!
-//! Standard input is a text of cases, a line each; docs/cases-netlists.md says how a case is written. Each line is
+//! Standard input is a text of cases, a line each; docs/cases.md says how a case is written. Each line is
 //! printed again, and behind it what the case answers, with two blanks in front. What is expected is the file
 //! `stdout`.
 #![tactic(auto)]

@@ -33,6 +33,11 @@ fn told(alloc: Global, read: Result<Library, TextFault>) -> Result<String, Alloc
     }
 }
 
+/// A reader that was given nothing.
+fn new_reader(alloc: Global) -> Result<Reader, Stop> {
+    Ok(Reader::new(alloc)?)
+}
+
 /// Feeds a piece, where there is room for it.
 fn feed(reader: &mut Reader, piece: &[u8]) -> Result<(), TextFault> {
     if piece.len() > reader.room() as usize {
@@ -41,29 +46,31 @@ fn feed(reader: &mut Reader, piece: &[u8]) -> Result<(), TextFault> {
     reader.feed(piece)
 }
 
-fn feed_bytes(reader: &mut Reader, bytes: &[u8]) -> Result<(), TextFault> {
+/// What the end of a text answers.
+fn finished(reader: Reader) -> Result<Library, TextFault> {
+    reader.finish()
+}
+
+/// Feeds each byte. After a fault each feed and the end answer the same fault.
+fn feed_bytes(reader: &mut Reader, bytes: &[u8]) {
     for b in bytes {
-        feed(reader, &[*b])?;
+        let _fed = feed(reader, &[*b]);
     }
-    Ok(())
 }
 
 /// What reading byte by byte answers.
 fn told_by_bytes(alloc: Global, bytes: &[u8]) -> Result<String, Stop> {
-    let mut reader = Reader::new(alloc)?;
-    let read = match feed_bytes(&mut reader, bytes) {
-        Ok(()) => reader.finish(),
-        Err(fault) => Err(fault),
-    };
-    Ok(told(alloc, read)?)
+    let mut reader = new_reader(alloc)?;
+    feed_bytes(&mut reader, bytes);
+    Ok(told(alloc, finished(reader))?)
 }
 
 /// What reading two pieces answers.
 fn told_in_two(alloc: Global, first: &[u8], second: &[u8]) -> Result<String, Stop> {
-    let mut reader = Reader::new(alloc)?;
+    let mut reader = new_reader(alloc)?;
     let _first = feed(&mut reader, first);
     let _second = feed(&mut reader, second);
-    Ok(told(alloc, reader.finish())?)
+    Ok(told(alloc, finished(reader))?)
 }
 
 /// What reading answers, and reading byte by byte where that answers otherwise.
@@ -101,39 +108,59 @@ fn cuts_text(alloc: Global, bytes: &[u8]) -> Result<String, Stop> {
     Ok(whole)
 }
 
-/// What a reader answers to a piece.
-fn told_of_piece(alloc: Global, reader: &mut Reader, piece: &[u8]) -> Result<String, AllocError> {
-    match feed(reader, piece) {
-        Ok(()) => String::from_str(alloc, "ok"),
-        Err(fault) => text_fault(alloc, fault),
+/// The bytes of each piece of `TEXT + TEXT ..`.
+fn pieces_of(alloc: Global, texts: &Texts, rest: &str) -> Result<Vec<Vec<u8>>, Stop> {
+    let mut pieces = Vec::new(alloc);
+    for piece in rest.split(" + ") {
+        let bytes = texts.bytes_of(piece)?;
+        pieces.push(bytes)?;
+    }
+    Ok(pieces)
+}
+
+/// Feeds each piece, and keeps what the reader answers to it.
+fn feed_pieces(reader: &mut Reader, pieces: &[Vec<u8>], answers: &mut [Result<(), TextFault>]) {
+    for i in 0..pieces.len() {
+        if i < answers.len() {
+            answers[i] = feed(reader, pieces[i].as_slice());
+        }
     }
 }
 
-/// Puts what a reader answers to each piece.
-fn put_fed(
-    alloc: Global,
-    texts: &Texts,
-    reader: &mut Reader,
-    text: &mut String,
-    rest: &str,
-) -> Result<(), Stop> {
-    for piece in rest.split(" + ") {
-        let piece = texts.bytes_of(piece)?;
-        let told = told_of_piece(alloc, reader, piece.as_slice())?;
-        text.push_str(told.as_str())?;
+/// What feeding answered.
+fn fed_text(alloc: Global, fed: Result<(), TextFault>) -> Result<String, AllocError> {
+    if let Err(fault) = fed {
+        return text_fault(alloc, fault);
+    }
+    String::from_str(alloc, "ok")
+}
+
+/// What a reader answers to each piece.
+fn answers_text(alloc: Global, answers: &[Result<(), TextFault>]) -> Result<String, AllocError> {
+    let mut text = String::new(alloc);
+    for answer in answers {
+        text.push_str(fed_text(alloc, *answer)?.as_str())?;
         text.push_str(", ")?;
     }
-    Ok(())
+    Ok(text)
 }
 
-/// `TEXT + TEXT ..`: what each piece answers, the room that is left, and what the end answers.
-fn feed_text(alloc: Global, texts: &Texts, rest: &str) -> Result<String, Stop> {
-    let mut reader = Reader::new(alloc)?;
-    let mut text = String::new(alloc);
-    put_fed(alloc, texts, &mut reader, &mut text, rest)?;
-    write!(text, "room {}, ", reader.room())?;
-    text.push_str(told(alloc, reader.finish())?.as_str())?;
+/// What each piece answers, the room that is left, and what the end answers.
+fn pieces_text(alloc: Global, pieces: &[Vec<u8>]) -> Result<String, Stop> {
+    let mut answers: Vec<Result<(), TextFault>> = vec![in alloc; Ok(()); pieces.len()]?;
+    let mut reader = new_reader(alloc)?;
+    feed_pieces(&mut reader, pieces, answers.as_mut_slice());
+    let room = reader.room();
+    let end = told(alloc, finished(reader))?;
+    let mut text = answers_text(alloc, answers.as_slice())?;
+    write!(text, "room {room}, {end}")?;
     Ok(text)
+}
+
+/// `TEXT + TEXT ..`.
+fn feed_text(alloc: Global, texts: &Texts, rest: &str) -> Result<String, Stop> {
+    let pieces = pieces_of(alloc, texts, rest)?;
+    pieces_text(alloc, pieces.as_slice())
 }
 
 /// `read TEXT`, `cuts TEXT` and `feed TEXT + TEXT ..`.

@@ -4,7 +4,7 @@ use std::alloc::{AllocError, AllocFailed, Global};
 use tmr_base::OutOfMemory;
 
 /// What ends a case early.
-#[derive(Debug, Drop)]
+#[derive(Drop)]
 pub enum Stop {
     /// This is what the case answers.
     Answered(String),

@@ -8,6 +8,7 @@ pub mod DesignLaws
 pub mod PairLaws
 pub mod ReplayLaws
 pub mod GuardLaws
+pub mod GraphLaws
 pub mod WaveLaws
 pub mod FlatLaws
 pub mod HardenLaws

@@ -4,7 +4,7 @@ use Rattle.std.specs.FinMap.{get}
 use Rattle.tmr_outside.specs.Contents.{Contents}
 use Rattle.tmr_top.specs.declared.decision.Verdict.{Verdict}
 use Rattle.tmr_top.specs.declared.decision.Verdict.TheVariants.{Done, NotAccepted, Refused}
-use Rattle.tmr_top.specs.Line.{Command, Pair, Hardening, Flattening, Replaying, Guarding, Validate, Harden, Flatten, Replay, Report, Guard, CheckGuard, TryOut}
+use Rattle.tmr_top.specs.Line.{Command, Pair, Hardening, Flattening, Replaying, Guarding, Graphing, Validate, Harden, Flatten, Replay, Report, Guard, CheckGuard, WriteGraph, TryOut}
 use Rattle.tmr_top.specs.Loads.{original_file, hardened_file, schedule_file}
 use Rattle.tmr_top.specs.Pairs.{ReadPair, HoldsPair, Accepts}
 use Rattle.tmr_top.specs.Replayed.{Replayed, ReadFiles, HoldsSchedule, HoldsNoSchedule, IsReplayDenied, IsReplayRefused, is_too_large}
@@ -13,6 +13,7 @@ use Rattle.tmr_top.specs.Hardened.{Hardened}
 use Rattle.tmr_top.specs.Flattened.{Flattened}
 use Rattle.tmr_top.specs.Reported.{Reported}
 use Rattle.tmr_top.specs.Guarded.{Guarded, GuardChecked, IsUnguarded, IsGuardUnread, ReadGuard}
+use Rattle.tmr_top.specs.Graphed.{Graphed}
 use Rattle.dwc.specs.Answer.{FailsFirst}
 use Rattle.dwc.specs.Guard.{guard_net}
 use Rattle.flat_net.specs.Net.{Net}
@@ -158,6 +159,15 @@ module _ (w : Guarding) (held : Contents) where
   one_checked NotAccepted Refused s t x y one other = absurd (guard_or_unread y one.files other)
   one_checked Refused NotAccepted s t x y one other = absurd (guard_or_unread x other.files one)
 
+one_graphed : (g : Graphing) (held : Contents) (v w : Verdict) (s t : List (List ℕ)) (x y : List ℕ) → Graphed g held v s x → Graphed g held w t y → v ≡ w
+one_graphed g held Done Done s t x y one other = refl
+one_graphed g held Refused Refused s t x y one other = refl
+one_graphed g held Done Refused s t x y one other = absurd (design_or_none held (original_file g.original) one.original.design.net one.original.free other.reason one.holds other.unread)
+one_graphed g held Refused Done s t x y one other = absurd (design_or_none held (original_file g.original) other.original.design.net other.original.free one.reason other.holds one.unread)
+one_graphed g held NotAccepted w s t x y one other = absurd one
+one_graphed g held Done NotAccepted s t x y one other = absurd other
+one_graphed g held Refused NotAccepted s t x y one other = absurd other
+
 pub one_verdict : (c : Command) (held : Contents) (v w : Verdict) (s t : List (List ℕ)) (x y : List ℕ) → Outcome c held v s x → Outcome c held w t y → v ≡ w
 one_verdict (Validate p) held v w s t x y one other = one_validated p held v w s t x y one other
 one_verdict (Harden h) held v w s t x y one other = one_hardened h held v w s t x y one other
@@ -167,3 +177,4 @@ one_verdict (Report p) held v w s t x y one other = one_reported p held v w s t 
 one_verdict (Guard g) held v w s t x y one other = one_guarded g held v w s t x y one other
 one_verdict (CheckGuard g) held v w s t x y one other = one_checked g held v w s t x y one other
 one_verdict (TryOut q) held v w s t x y one other = one_tried q v w s t x y one other
+one_verdict (WriteGraph g) held v w s t x y one other = one_graphed g held v w s t x y one other

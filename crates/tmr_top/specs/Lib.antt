@@ -24,6 +24,7 @@ pub mod Replayed
 pub mod Replaying
 pub mod Reported
 pub mod Guarded
+pub mod Graphed
 pub mod Tried
 pub mod Trying
 pub mod Outcomes

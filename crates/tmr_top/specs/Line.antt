@@ -38,6 +38,11 @@ pub record Guarding : Type 0 where
   pub original : List ℕ
   pub guarded : List ℕ
 
+-- the two files of `to-aag ORIG AAG`
+pub record Graphing : Type 0 where
+  pub original : List ℕ
+  pub graph : List ℕ
+
 -- what the words of a command line can mean
 pub data Command : Type 0 where
   Validate : Pair → Command
@@ -48,6 +53,7 @@ pub data Command : Type 0 where
   TryOut : Trial → Command
   Guard : Guarding → Command
   CheckGuard : Guarding → Command
+  WriteGraph : Graphing → Command
 
 -- a file word is not empty
 abbrev pub is_file : List ℕ → Bool
@@ -82,6 +88,13 @@ guarding_of words = None
 -- a command over a design and a guarded one
 abbrev pub over_guarding : (Guarding → Command) → List (List ℕ) → Option Command
 over_guarding command words = option_map command (guarding_of words)
+
+unfoldable pub graphing_of : List (List ℕ) → Option Command
+graphing_of (original ∷ graph ∷ []) =
+    if is_file original && is_file graph
+    then Some (WriteGraph (record { original = original; graph = graph }))
+    else None
+graphing_of words = None
 
 -- a replay over a pair, where no file word is empty, and no waves are saved or those under this name
 abbrev pub replay_over : Option Pair → List ℕ → Option (List ℕ) → Option Command
@@ -145,6 +158,7 @@ line_of (command ∷ words) =
     else if bytes_eq command (codes "trial") then of_plain over_trial (words_of words)
     else if bytes_eq command (codes "guard") then of_plain (over_guarding Guard) (words_of words)
     else if bytes_eq command (codes "guarded") then of_plain (over_guarding CheckGuard) (words_of words)
+    else if bytes_eq command (codes "to-aag") then of_plain graphing_of (words_of words)
     else if bytes_eq command (codes "wave") then of_plain waving_of (words_of words)
     else None
 

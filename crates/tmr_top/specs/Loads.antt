@@ -2,7 +2,7 @@
 use Rattle.std.specs.Prelude.{ℕ, List, [], ◌∷◌, ◌++◌, map, Option, Some, None}
 use Rattle.tmr_top.specs.declared.file_words.FileKind.{FileKind}
 use Rattle.tmr_top.specs.declared.file_words.FileKind.TheVariants.{Netlist, Bytes}
-use Rattle.tmr_top.specs.Line.{Command, Pair, Replaying, Validate, Harden, Flatten, Replay, Report, Guard, CheckGuard, TryOut}
+use Rattle.tmr_top.specs.Line.{Command, Pair, Replaying, Validate, Harden, Flatten, Replay, Report, Guard, CheckGuard, WriteGraph, TryOut}
 
 -- a file to be loaded, and the most bytes that it may have; a netlist is read while it is loaded, and of other files the bytes are kept
 pub record Load : Type 0 where
@@ -48,6 +48,7 @@ loads_of (Replay w) = replay_files w
 loads_of (Report p) = pair_files p
 loads_of (Guard w) = original_file w.original ∷ []
 loads_of (CheckGuard w) = original_file w.original ∷ hardened_file w.guarded ∷ []
+loads_of (WriteGraph w) = original_file w.original ∷ []
 loads_of (TryOut t) = []
 
 -- the names that a command saves, in this order
@@ -59,6 +60,7 @@ saves_of (Replay w) = wave_names w.waves
 saves_of (Report p) = []
 saves_of (Guard w) = w.guarded ∷ []
 saves_of (CheckGuard w) = []
+saves_of (WriteGraph w) = w.graph ∷ []
 saves_of (TryOut t) = []
 
 abbrev pub load_name : Load → List ℕ

@@ -40,6 +40,13 @@ guard_line n g assumed =
     joined (counted_text (codes "guard nodes ") (length n.nodes) ∷ counted_text (codes " to ") (length g.nodes)
     ∷ counted_text (codes " outputs ") (length n.outputs) ∷ counted_text (codes " assumed ") assumed ∷ codes "\n" ∷ [])
 
+-- how many inputs, outputs, latches, gates and free latches a file of a design has
+unfoldable pub graph_line : Net → ℕ → ℕ → List ℕ
+graph_line n gates count =
+    joined (counted_text (codes "aag inputs ") (length n.inputs) ∷ counted_text (codes " outputs ") (length n.outputs)
+    ∷ counted_text (codes " latches ") (register_count n) ∷ counted_text (codes " ands ") gates
+    ∷ counted_text (codes " free ") count ∷ codes "\n" ∷ [])
+
 unfoldable pub guarded_line : List ℕ
 guarded_line = codes "guarded\n"
 
@@ -71,7 +78,7 @@ unfoldable pub save_fault_line : List ℕ → List ℕ
 save_fault_line file = joined (codes "fault: save " ∷ file ∷ codes "\n" ∷ [])
 
 unfoldable pub usage_text : List ℕ
-usage_text = codes "usage: tmr validate ORIG HARD CERT\n       tmr harden ORIG HARD CERT [--size S] [--cert V] [--depth D]\n       tmr flatten ORIG FLAT\n       tmr replay ORIG HARD CERT SCHED\n       tmr report ORIG HARD CERT\n       tmr trial NUMBER NODES\n       tmr guard ORIG GUARDED\n       tmr guarded ORIG GUARDED\n       tmr wave ORIG HARD CERT SCHED VCD\n"
+usage_text = codes "usage: tmr validate ORIG HARD CERT\n       tmr harden ORIG HARD CERT [--size S] [--cert V] [--depth D]\n       tmr flatten ORIG FLAT\n       tmr replay ORIG HARD CERT SCHED\n       tmr report ORIG HARD CERT\n       tmr trial NUMBER NODES\n       tmr guard ORIG GUARDED\n       tmr guarded ORIG GUARDED\n       tmr to-aag ORIG AAG\n       tmr wave ORIG HARD CERT SCHED VCD\n"
 
 unfoldable pub memory_text : List ℕ
 memory_text = codes "want of memory\n"

@@ -3,6 +3,7 @@ ghost use Rattle.std.specs.Prelude.{◌≡◌, ◌≤◌, ◌+◌, ◌*◌, List
 ghost use Rattle.tmr_top.specs.FlatWithin.{IsFlatWithin};
 ghost use Rattle.flat_net.specs.Net.{IsDesign};
 ghost use Rattle.flat_net.specs.Net.{net_count, pin_total};
+ghost use Rattle.hierarchy.specs.Sizes.{row_total};
 ghost use Rattle.blif_text.specs.Reading.{reading};
 ghost use Rattle.blif_text.specs.Stands.{Reads};
 ghost use Rattle.tmr_top.specs.declared.designs.Unread.{Unread};
@@ -58,6 +59,7 @@ fn design_of(alloc: Global, library: &Library, limit: u64) -> Result<FreeNet, Un
     requires { limit ≤ 1073741824 }
     ensures read { (bytes : List ℕ) → reading bytes ≡ Ok library.now → IfOk result (λ flat. IsFreeNetOf bytes limit flat.design.net flat.free) }
     ensures few { IfOk result (λ flat. 2 * (net_count flat.design.net + pin_total flat.design.net) ≤ limit) }
+    ensures rows { IfOk result (λ flat. row_total flat.design.net ≤ limit) }
     ensures flat { IfOk result (λ flat. IsFlatWithin limit flat.design.net flat.free) }
     ensures unread { (bytes : List ℕ) → reading bytes ≡ Ok library.now → IfErr result (OnRefused (IsUnread limit bytes)) }
 {
@@ -77,6 +79,7 @@ pub fn read_design(
     requires { limit ≤ 1073741824 }
     ensures read { (bytes : List ℕ) → Reads text.now (reading bytes) → IfOk result (λ flat. IsFreeNetOf bytes limit flat.design.net flat.free) }
     ensures few { IfOk result (λ flat. 2 * (net_count flat.design.net + pin_total flat.design.net) ≤ limit) }
+    ensures rows { IfOk result (λ flat. row_total flat.design.net ≤ limit) }
     ensures flat { IfOk result (λ flat. IsFlatWithin limit flat.design.net flat.free) }
     ensures unread { (bytes : List ℕ) → Reads text.now (reading bytes) → IfErr result (OnRefused (IsUnread limit bytes)) }
 {

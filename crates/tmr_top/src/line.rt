@@ -3,7 +3,7 @@ ghost use Rattle.std.specs.Prelude.{◌≡◌, ◌<◌, ◌∷◌, [], IfOk, IfS
 ghost use Rattle.std.specs.Option.{option_map};
 ghost use Rattle.tmr_top.specs.Words.{texts};
 ghost use Rattle.tmr_top.specs.WordsRead.{words_in};
-ghost use Rattle.tmr_top.specs.Line.{Validate, Report, Guard, CheckGuard, is_file, pair_of, over_pair, over_trial, flattening_of, guarding_of, over_guarding, replay_over, replaying_of, waving_of, positive_number, version_number, said, hardening_with, hardening_of, line_of};
+ghost use Rattle.tmr_top.specs.Line.{Validate, Report, Guard, CheckGuard, is_file, pair_of, over_pair, over_trial, flattening_of, guarding_of, over_guarding, graphing_of, replay_over, replaying_of, waving_of, positive_number, version_number, said, hardening_with, hardening_of, line_of};
 ghost use Rattle.tmr_top.specs.FileWords.{pair_in, word_in, guarding_in, command_in, read_words as read_texts};
 
 use crate::harden_words::HardenWords;
@@ -37,6 +37,13 @@ pub struct GuardWords<'a> {
     pub guarded: &'a str,
 }
 
+/// The two file words of `to-aag ORIG AAG`.
+#[derive(Clone, Copy, Drop)]
+pub struct GraphWords<'a> {
+    pub original: &'a str,
+    pub graph: &'a str,
+}
+
 /// A command with its files.
 #[derive(Clone, Copy, Drop)]
 pub enum CommandWords<'a> {
@@ -48,6 +55,7 @@ pub enum CommandWords<'a> {
     Trial(TrialWords),
     Guard(GuardWords<'a>),
     CheckGuard(GuardWords<'a>),
+    WriteGraph(GraphWords<'a>),
 }
 
 /// A pair of these files, where none is empty.
@@ -165,6 +173,25 @@ fn read_guarded<'a>(plain: &[&'a str]) -> Option<CommandWords<'a>>
     match read_guarding(plain) {
         None => None,
         Some(words) => Some(CommandWords::CheckGuard(words)),
+    }
+}
+
+/// `to-aag`, where there are two words and none is empty.
+#[tactic(auto, unfolding(crate::specs::Line::graphing_of))]
+fn read_graphing<'a>(plain: &[&'a str]) -> Option<CommandWords<'a>>
+    ensures { option_map command_in result ≡ graphing_of (read_texts plain.now) }
+{
+    match plain {
+        [original, graph] => {
+            if original.is_empty() || graph.is_empty() {
+                return None;
+            }
+            Some(CommandWords::WriteGraph(GraphWords {
+                original: *original,
+                graph: *graph,
+            }))
+        }
+        _ => None,
     }
 }
 
@@ -366,6 +393,9 @@ pub fn read_line<'a>(
     }
     if command.as_str() == "guarded" {
         return Ok(read_guarded(read.plain.as_slice()));
+    }
+    if command.as_str() == "to-aag" {
+        return Ok(read_graphing(read.plain.as_slice()));
     }
     if command.as_str() == "wave" {
         return Ok(read_waving(read.plain.as_slice()));

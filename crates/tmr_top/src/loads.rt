@@ -132,6 +132,7 @@ pub fn list_loads<'a>(
             loads.push(original_file(guard.original))?;
             loads.push(hardened_file(guard.guarded))?;
         }
+        CommandWords::WriteGraph(graph) => loads.push(original_file(graph.original))?,
         CommandWords::Trial(_) => {}
     }
     Ok(loads)

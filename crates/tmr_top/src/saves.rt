@@ -47,6 +47,7 @@ pub fn list_saves<'a>(alloc: Global, words: &CommandWords<'a>) -> Result<Vec<&'a
         CommandWords::Report(_) => {}
         CommandWords::Guard(guard) => names.push(guard.guarded)?,
         CommandWords::CheckGuard(_) => {}
+        CommandWords::WriteGraph(graph) => names.push(graph.graph)?,
         CommandWords::Trial(_) => {}
     }
     Ok(names)
