@@ -107,9 +107,12 @@ fn decide_and_put<F: Files, S: Sink>(
 /// Runs the program once: reads the words (without the program's own name), loads the files, does
 /// the command, saves its texts, and puts its text.
 ///
-/// The commands are `validate ORIG HARD CERT`, which saves nothing, `harden ORIG HARD CERT`, which
-/// saves HARD and CERT, `flatten ORIG FLAT`, which saves FLAT, and `report ORIG HARD CERT`, which saves
-/// nothing. Where memory is short, the answer may be `Memory` in place of any other.
+/// Five commands save nothing: `validate ORIG HARD CERT`, `report ORIG HARD CERT`,
+/// `replay ORIG HARD CERT SCHED`, `guarded ORIG GUARDED` and `trial NUMBER NODES`. The others save
+/// what they make: `harden ORIG HARD CERT` saves HARD and CERT, `flatten ORIG FLAT` saves FLAT,
+/// `guard ORIG GUARDED` saves GUARDED, `to-aag ORIG AAG` saves AAG, and
+/// `wave ORIG HARD CERT SCHED VCD` saves VCD.
+/// Where memory is short, the answer may be `Memory` in place of any other.
 pub fn run<F: Files, S: Sink>(alloc: Global, words: &[String], files: &mut F, out: &mut S) -> Status
     // The headline. Where contents are told and the words are `validate ORIG HARD CERT`, the answer
     // Done says that the three names hold two designs and a certificate, that the eight rules hold

@@ -7,7 +7,7 @@ ghost use Rattle.tmr_top.specs.Codes.{code_of};
 pub enum Status {
     /// The command was done, and its whole text was put.
     Done,
-    /// The pair of designs breaks one of the eight rules.
+    /// The pair of designs breaks one of the eight rules, or the netlist is not the guarded one.
     NotAccepted,
     /// The words are no command.
     Usage,
