@@ -1,0 +1,7 @@
+pub mod Words
+pub mod LineLaws
+pub mod SectionLaws
+pub mod SymbolLaws
+pub mod FileLaws
+pub mod VariableLaws
+pub mod GraphFaults

@@ -1,0 +1,5 @@
+pub mod Words
+pub mod Sections
+pub mod BadLine
+pub mod Faults
+pub mod Found

@@ -1,0 +1,31 @@
+//! The graph of a file.
+ghost use Rattle.std.specs.Prelude.{◌+◌, ◌<◌, ◌^◌, length, IfOk, IfErr};
+ghost use Rattle.aag_text.specs.Lines.{IsFile};
+ghost use Rattle.aag_reader.specs.Faults.{IsDefinedOnce, IsDefined, IsGraphFault};
+ghost use Rattle.aag_text.specs.Nets.{plain_aig};
+
+use crate::AagFault;
+use crate::reading::aig_of_text;
+use crate::variables::{check_reads, defined};
+use aag_text::Aig;
+use std::alloc::Global;
+
+/// Reads the graph of an AIGER file (ASCII, format 1.0). In the graph each variable is defined once, and each
+/// variable that is read is defined or 0.
+///
+/// `Line` comes for the first line that is not of its form. Where each line is, `Doubled` comes for the first variable
+/// that is defined a second time, and then `Undefined` for the first that is read and nowhere defined. `Memory` may
+/// come in place of any answer. Loops of gates are not looked for.
+#[tactic(auto, using(crate::proofs::GraphFaults::graph_faults))]
+pub fn graph_of(alloc: Global, bytes: &[u8]) -> Result<Aig, AagFault>
+    requires { length bytes.now + 1 < 2 ^ 32 }
+    ensures file { IfOk result (λ a. IsFile bytes.now (plain_aig a)) }
+    ensures once { IfOk result (λ a. IsDefinedOnce (plain_aig a)) }
+    ensures known { IfOk result (λ a. IsDefined (plain_aig a)) }
+    ensures fault { IfErr result (IsGraphFault bytes.now) }
+{
+    let a = aig_of_text(alloc, bytes)?;
+    let variables = defined(alloc, &a)?;
+    check_reads(alloc, &a, &variables)?;
+    Ok(a)
+}
