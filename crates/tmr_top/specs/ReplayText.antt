@@ -30,7 +30,8 @@ difference_lines n (d ∷ ds) = difference_line n d ++ difference_lines n ds
 unfoldable pub outcome_lines : ℕ → ℕ → PlainOutcome → List ℕ
 outcome_lines cycles upsets o =
     joined (counted_text (codes "cycles ") cycles ∷ counted_text (codes "\nupsets ") upsets ∷ codes "\nallowed " ∷ yes_or_no o.allowed
-    ∷ counted_text (codes "\ndifferences ") o.differences ∷ counted_text (codes "\nwrong ") o.wrong ∷ counted_text (codes "\nlate ") o.late ∷ codes "\n" ∷ [])
+    ∷ counted_text (codes "\ndifferences ") o.differences ∷ counted_text (codes "\nwrong ") o.wrong
+    ∷ counted_text (codes "\nlate ") o.late ∷ codes "\n" ∷ [])
 
 -- a line for each of the first differences, and these
 abbrev pub replay_lines : Net → PlainSchedule → PlainOutcome → List ℕ
