@@ -256,7 +256,16 @@ impl OpenModel {
         ensures { IfOk result (λ m. plain_model m ≡ ended_model self) }
     {
         let lists = self.end_lists(alloc);
-        whole_model(self.name, self.elements, lists)
+        let (name, elements) = self.into_parts();
+        whole_model(name, elements, lists)
+    }
+
+    /// The name and the elements.
+    fn into_parts(self) -> (Name, Vec<Element>)
+        ensures name { result.0 ≡ self.name }
+        ensures elements { map plain_element result.1.items ≡ self.elements }
+    {
+        (self.name, self.elements)
     }
 }
 

@@ -1,10 +1,12 @@
 //! Takes the bytes of a text, its lines and their statements.
-ghost use Rattle.std.specs.Prelude.{◌≡◌, ◌≤◌, ◌<◌, ◌+◌, ◌-◌, ◌^◌, ◌++◌, ◌∷◌, [], List, ℕ, Ok, length, map, OnOk, IfErr, IfSome, Some, None};
+ghost use Rattle.std.specs.Prelude.{◌≡◌, ◌≤◌, ◌<◌, ◌+◌, ◌-◌, ◌^◌, ◌++◌, ◌∷◌, [], List, ℕ, Ok, length, map, take, OnOk, IfOk, IfErr, IfSome, IsOkUnless, Some, None};
+ghost use Rattle.std.specs.List.{position};
 ghost use Rattle.blif_text.specs.Stands.{Stands, Takes, Refuses, IsBadOf, Reads, reading_in};
 ghost use Rattle.blif_text.specs.Reading.{reading};
 ghost use Rattle.blif_text.specs.Sound.{IsSound};
 ghost use Rattle.blif_text.specs.Reader.{HasRead};
-ghost use Rattle.blif_text.specs.Text.{spoken, tokens, joins_next, part};
+ghost use Rattle.blif_text.specs.Text.{spoken, tokens, joins_next, part, is_lf};
+ghost use Rattle.blif_text.specs.Pending.{with_bytes};
 
 use crate::fault::{Refusal, TextFault, TextKind};
 use crate::library::Library;
@@ -62,29 +64,52 @@ fn end_line(alloc: Global, lines: &mut Lines, progress: &mut Progress) -> Result
     }
 }
 
-/// Takes one byte.
-fn take_byte(
+/// Where the line in hand ends, if it does.
+fn line_end(bytes: &[u8]) -> Option<usize>
+    ensures { result ≡ position is_lf bytes.now }
+{
+    bytes.iter().position(|b| *b == b'\n')
+}
+
+/// Takes bytes of the line in hand.
+fn take_inner(lines: &mut Lines, bytes: &[u8]) -> Result<(), TextFault>
+    ensures ok { OnOk result (lines.new ≡ with_bytes lines.old bytes.now) }
+    ensures number { lines.new.number ≡ lines.old.number }
+    ensures kinds { IsOkUnless result TextFault.Memory }
+{
+    match lines.extend(bytes) {
+        Ok(()) => Ok(()),
+        Err(_) => Err(TextFault::Memory),
+    }
+}
+
+/// Takes bytes up to the first end of a line, or all. The result is how many.
+fn take_front(
     alloc: Global,
     lines: &mut Lines,
     progress: &mut Progress,
-    b: u8,
-) -> Result<(), TextFault>
-    requires { lines.old.number < 2 ^ 32 - 1 }
-    ensures ok { OnOk result ((given : List ℕ) → Stands lines.old progress.old given → Stands lines.new progress.new (given ++ b ∷ [])) }
-    ensures bad { IfErr result (λ fault. (given : List ℕ) → Stands lines.old progress.old given → IsBadOf (given ++ b ∷ []) fault) }
+    bytes: &[u8],
+) -> Result<usize, TextFault>
+    requires some { 0 < length bytes.now }
+    requires number { lines.old.number + length bytes.now < 2 ^ 32 - 1 }
+    ensures some { IfOk result (λ n. (0 < n) × (n ≤ length bytes.now)) }
+    ensures ok { IfOk result (λ n. (given : List ℕ) → Stands lines.old progress.old given → Stands lines.new progress.new (given ++ take n bytes.now)) }
+    ensures bad { IfErr result (λ fault. (given : List ℕ) → Stands lines.old progress.old given → IsBadOf (given ++ bytes.now) fault) }
     ensures sound { OnOk result (IsSound progress.old → IsSound progress.new) }
     ensures number { lines.new.number ≤ lines.old.number + 1 }
 {
-    if b == b'\n' {
-        match end_line(alloc, lines, progress) {
-            Ok(()) => Ok(()),
+    match line_end(bytes) {
+        Some(end) => match take_inner(lines, &bytes[..end]) {
+            Ok(()) => match end_line(alloc, lines, progress) {
+                Ok(()) => Ok(end + 1),
+                Err(fault) => Err(fault),
+            },
             Err(fault) => Err(fault),
-        }
-    } else {
-        match lines.push(b) {
-            Ok(()) => Ok(()),
-            Err(_) => Err(TextFault::Memory),
-        }
+        },
+        None => match take_inner(lines, bytes) {
+            Ok(()) => Ok(bytes.len()),
+            Err(fault) => Err(fault),
+        },
     }
 }
 
@@ -101,9 +126,10 @@ fn take_bytes(
     ensures sound { OnOk result (IsSound progress.old → IsSound progress.new) }
     ensures number { lines.new.number ≤ lines.old.number + length piece.now }
 {
-    for b in piece {
-        match take_byte(alloc, lines, progress, *b) {
-            Ok(()) => {}
+    let mut taken = 0;
+    while taken < piece.len() {
+        match take_front(alloc, lines, progress, &piece[taken..]) {
+            Ok(more) => taken += more,
             Err(fault) => return Err(fault),
         }
     }

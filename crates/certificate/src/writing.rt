@@ -13,6 +13,7 @@ ghost use Rattle.certificate.specs.declared.role.Role.TheVariants.{Voter};
 
 use crate::{Certificate, Role};
 use flat_net::FlatNet;
+use itoa::Buffer;
 use std::alloc::{AllocError, Global};
 use tmr_base::{CopyNo, NetId, PartId};
 
@@ -30,11 +31,13 @@ fn put_line(out: &mut Vec<u8>, first: &[u8], rest: &[&[u8]]) -> Result<(), Alloc
 }
 
 /// Puts the line of partition p.
-fn put_part(alloc: Global, out: &mut Vec<u8>, p: u32, depth: u32) -> Result<(), AllocError>
+fn put_part(out: &mut Vec<u8>, p: u32, depth: u32) -> Result<(), AllocError>
     ensures { OnOk result (out.new.items ≡ out.old.items ++ line_text (part_line p depth)) }
 {
-    let number = p.to_string(alloc)?;
-    let depth = depth.to_string(alloc)?;
+    let mut number_digits = Buffer::new();
+    let mut depth_digits = Buffer::new();
+    let number = number_digits.format(p);
+    let depth = depth_digits.format(depth);
     put_line(
         out,
         b"part",
@@ -44,7 +47,6 @@ fn put_part(alloc: Global, out: &mut Vec<u8>, p: u32, depth: u32) -> Result<(), 
 
 /// Puts the line of original node x.
 fn put_node(
-    alloc: Global,
     out: &mut Vec<u8>,
     n: &FlatNet,
     h: &FlatNet,
@@ -59,10 +61,14 @@ fn put_node(
     requires third { (three_ids copies).third < net_count h.now.net }
     ensures { OnOk result (out.new.items ≡ out.old.items ++ line_text (node_line n.now.net h.now.net x.0 part.0 (three_ids copies) (three_of labels))) }
 {
-    let part = part.0.to_string(alloc)?;
-    let first = labels[0].to_string(alloc)?;
-    let second = labels[1].to_string(alloc)?;
-    let third = labels[2].to_string(alloc)?;
+    let mut part_digits = Buffer::new();
+    let mut first_digits = Buffer::new();
+    let mut second_digits = Buffer::new();
+    let mut third_digits = Buffer::new();
+    let part = part_digits.format(part.0);
+    let first = first_digits.format(labels[0]);
+    let second = second_digits.format(labels[1]);
+    let third = third_digits.format(labels[2]);
     put_line(
         out,
         b"node",
@@ -81,7 +87,6 @@ fn put_node(
 
 /// Puts the line of the voter at hardened node g.
 fn put_voter(
-    alloc: Global,
     out: &mut Vec<u8>,
     n: &FlatNet,
     h: &FlatNet,
@@ -94,8 +99,10 @@ fn put_voter(
     requires node { x.0 < net_count n.now.net }
     ensures { OnOk result (out.new.items ≡ out.old.items ++ flat_map line_text (voter_line n.now.net h.now.net g.0 (Voter x part copy))) }
 {
-    let part = part.0.to_string(alloc)?;
-    let copy = copy.number().to_string(alloc)?;
+    let mut part_digits = Buffer::new();
+    let mut copy_digits = Buffer::new();
+    let part = part_digits.format(part.0);
+    let copy = copy_digits.format(copy.number());
     put_line(
         out,
         b"voter",
@@ -109,18 +116,17 @@ fn put_voter(
 }
 
 /// Puts the lines of all partitions.
-fn put_parts(alloc: Global, out: &mut Vec<u8>, k: &Certificate) -> Result<(), AllocError>
+fn put_parts(out: &mut Vec<u8>, k: &Certificate) -> Result<(), AllocError>
     ensures { OnOk result (out.new.items ≡ out.old.items ++ parts_left k.now 0) }
 {
     for p in 0..k.parts() {
-        put_part(alloc, out, p, k.depth(PartId(p)))?;
+        put_part(out, p, k.depth(PartId(p)))?;
     }
     Ok(())
 }
 
 /// Puts the line of original node i, counted from 0.
 fn put_node_at(
-    alloc: Global,
     out: &mut Vec<u8>,
     n: &FlatNet,
     h: &FlatNet,
@@ -143,31 +149,24 @@ fn put_node_at(
         k.label(x, CopyNo::Second),
         k.label(x, CopyNo::Third),
     ];
-    put_node(alloc, out, n, h, x, k.part(x), copies, labels)?;
+    put_node(out, n, h, x, k.part(x), copies, labels)?;
     Ok(())
 }
 
 /// Puts the lines of all original nodes.
-fn put_nodes(
-    alloc: Global,
-    out: &mut Vec<u8>,
-    n: &FlatNet,
-    h: &FlatNet,
-    k: &Certificate,
-) -> Result<(), AllocError>
+fn put_nodes(out: &mut Vec<u8>, n: &FlatNet, h: &FlatNet, k: &Certificate) -> Result<(), AllocError>
     requires fits { Fits n.now.net h.now.net k.now }
     requires cert { IsCert k.now }
     ensures { OnOk result (out.new.items ≡ out.old.items ++ nodes_left n.now.net h.now.net k.now 0) }
 {
     for i in 0..n.node_count() {
-        put_node_at(alloc, out, n, h, k, i)?;
+        put_node_at(out, n, h, k, i)?;
     }
     Ok(())
 }
 
 /// Puts the line of hardened node j, counted from 0, where it is a voter.
 fn put_role_at(
-    alloc: Global,
     out: &mut Vec<u8>,
     n: &FlatNet,
     h: &FlatNet,
@@ -182,7 +181,7 @@ fn put_role_at(
     match k.role(g) {
         Role::Copy { .. } => Ok(()),
         Role::Voter { node, part, copy } => {
-            put_voter(alloc, out, n, h, g, node, part, copy)?;
+            put_voter(out, n, h, g, node, part, copy)?;
             Ok(())
         }
     }
@@ -190,7 +189,6 @@ fn put_role_at(
 
 /// Puts the lines of all voters.
 fn put_voters(
-    alloc: Global,
     out: &mut Vec<u8>,
     n: &FlatNet,
     h: &FlatNet,
@@ -200,7 +198,7 @@ fn put_voters(
     ensures { OnOk result (out.new.items ≡ out.old.items ++ voters_left n.now.net h.now.net k.now 0) }
 {
     for j in 0..h.node_count() {
-        put_role_at(alloc, out, n, h, k, j)?;
+        put_role_at(out, n, h, k, j)?;
     }
     Ok(())
 }
@@ -230,9 +228,9 @@ pub fn lines_of(
     let parts = k.parts();
     let mut out = Vec::new(alloc);
     put_head(alloc, &mut out, k.version(), parts)?;
-    put_parts(alloc, &mut out, k)?;
-    put_nodes(alloc, &mut out, n, h, k)?;
-    put_voters(alloc, &mut out, n, h, k)?;
+    put_parts(&mut out, k)?;
+    put_nodes(&mut out, n, h, k)?;
+    put_voters(&mut out, n, h, k)?;
     put_line(&mut out, b"end", &[])?;
     Ok(out)
 }

@@ -1,6 +1,11 @@
 -- Rows that stand one behind the other in one list.
 use Rattle.std.specs.Prelude.{ℕ, ◌-◌, ◌≤◌, List, length, map, take, drop, All}
+use Rattle.smallvec.specs.SmallVec.{SmallVec}
 use Rattle.partitioner.specs.declared.packed.Span.{Span}
+
+-- the numbers of a row on its own
+abbrev pub short_items : SmallVec ℕ → List ℕ
+short_items row = row.items
 
 -- the numbers of one row
 abbrev pub row_in : List ℕ → Span → List ℕ

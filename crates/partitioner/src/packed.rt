@@ -79,20 +79,21 @@ pub fn packed_rows(alloc: Global, rows: &Rows, count: u32) -> Result<Packed, Out
 fn lengths(alloc: Global, rows: &Packed, count: u32) -> Result<Vec<u32>, OutOfMemory>
     requires { count ≡ length rows.now }
 {
-    let mut lengths = Vec::new(alloc);
+    let mut lengths = Vec::with_capacity(alloc, count as usize)?;
     for x in 0..count {
         lengths.push(u32::try_from(rows.row(x).len()).unwrap_or(u32::MAX))?;
     }
     Ok(lengths)
 }
 
-/// The numbers of a row in ascending order of their weights.
-fn by_weight(alloc: Global, row: &[u32], weights: &[u32]) -> Result<Vec<u32>, OutOfMemory>
-    ensures { IfOk result (λ sorted. IsPermutation row.now sorted.items) }
+/// Makes `sorted` the numbers of a row in ascending order of their weights.
+fn set_by_weight(sorted: &mut Vec<u32>, row: &[u32], weights: &[u32]) -> Result<(), OutOfMemory>
+    ensures { OnOk result (IsPermutation row.now sorted.new.items) }
 {
-    let mut sorted = row.to_vec(alloc)?;
+    sorted.clear();
+    sorted.extend_from_slice(row)?;
     sorted.sort_unstable_by_key(|x| weights.get(*x as usize).copied().unwrap_or(0));
-    Ok(sorted)
+    Ok(())
 }
 
 /// The same rows, each in ascending order of how long the rows of its numbers are in `by`.
@@ -109,8 +110,9 @@ pub fn sorted_rows(
 {
     let weights = lengths(alloc, by, count)?;
     let mut sorted = Packed::new(alloc);
+    let mut row = Vec::new(alloc);
     for x in 0..count {
-        let row = by_weight(alloc, rows.row(x), weights.as_slice())?;
+        set_by_weight(&mut row, rows.row(x), weights.as_slice())?;
         sorted.push(row.as_slice())?;
     }
     Ok(sorted)

@@ -1,32 +1,38 @@
 //! A list of numbers for each node.
-ghost use Rattle.std.specs.Prelude.{◌≡◌, ◌<◌, ◌++◌, ◌∷◌, [], ℕ, List, length, replicate, map, vec_items, slice_index_or, slice_set, IfOk, OnOk};
+ghost use Rattle.std.specs.Prelude.{◌≡◌, ◌<◌, ◌++◌, ◌∷◌, [], ℕ, List, length, replicate, map, slice_index_or, slice_set, IfOk, OnOk};
+ghost use Rattle.partitioner.specs.Packing.{short_items};
 
+use smallvec::SmallVec;
 use std::alloc::Global;
 use std::marker::Model;
 use tmr_base::OutOfMemory;
 
+/// A row, of which the first numbers take no memory of their own.
+type Row = SmallVec<u32, 4>;
+
 /// Rows of numbers, one for each node.
 #[derive(Drop)]
 pub struct Rows {
-    rows: Vec<Vec<u32>>,
+    rows: Vec<Row>,
 }
 
 impl Model for Rows {
-    ghost use Rattle.std.specs.Prelude.{ℕ, List, map, vec_items};
+    ghost use Rattle.std.specs.Prelude.{ℕ, List, map};
+    ghost use Rattle.partitioner.specs.Packing.{short_items};
 
     ghost Value = { List (List ℕ) };
 
-    ghost view = { λ r. map vec_items r.rows.items };
+    ghost view = { λ r. map short_items r.rows.items };
 }
 
 /// As many empty rows.
-fn empty_rows(alloc: Global, count: u32) -> Result<Vec<Vec<u32>>, OutOfMemory>
-    ensures { IfOk result (λ rows. map vec_items rows.items ≡ replicate count []) }
+fn empty_rows(alloc: Global, count: u32) -> Result<Vec<Row>, OutOfMemory>
+    ensures { IfOk result (λ rows. map short_items rows.items ≡ replicate count []) }
 {
-    let mut rows = Vec::new(alloc);
+    let mut rows = Vec::with_capacity(alloc, count as usize)?;
     let mut left = count;
     while left > 0 {
-        rows.push(Vec::new(alloc))?;
+        rows.push(SmallVec::new(alloc))?;
         left -= 1;
     }
     Ok(rows)

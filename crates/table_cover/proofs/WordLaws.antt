@@ -1,10 +1,10 @@
 -- Bits of words, and rows that words match.
-use Rattle.std.proofs.Common.{◌≡◌, ℕ, zero, suc, ◌+◌, ◌-◌, ◌*◌, ◌/◌, ◌%◌, ◌^◌, ◌<◌, ◌≤◌, min, max, Bool, true, false, not, ◌&&◌, ◌||◌, List, [], ◌∷◌, length, map, take, drop, get_or, slice_index, refl, sym, ap, ◌∙◌, subst, arith}
-use Rattle.std.specs.Prelude.{nat_eq, bit_and, bit_or, ◌⊎◌, zip}
+use Rattle.std.proofs.Common.{◌≡◌, ℕ, zero, suc, ◌+◌, ◌-◌, ◌^◌, ◌<◌, min, max, Bool, true, false, not, ◌&&◌, ◌||◌, List, [], ◌∷◌, length, drop, slice_index, refl, ap, ◌∙◌, arith}
+use Rattle.std.specs.Prelude.{nat_eq, bit_and, bit_or, ◌⊎◌}
 use Rattle.std.proofs.Common.{inl, inr}
-use Rattle.std.specs.Int.{bit_at, bit_not, w64}
+use Rattle.std.specs.Int.{bit_at, w64}
 use Rattle.std.proofs.lemmas.Nat.Bits.{bit_at_and, bit_at_or, bit_at_not, bit_at_ones, bit_at-zero, bit_at-lt}
-use Rattle.table_cover.specs.Cover.{mark_fits, row_matches, some_row_matches}
+use Rattle.table_cover.specs.Cover.{mark_fits, row_matches}
 use Rattle.table_cover.specs.Words.{word_bit, bits_of}
 
 bit : (a : ℕ) → a < 2 → (a ≡ 0) ⊎ (a ≡ 1)

@@ -8,19 +8,24 @@ ghost use Rattle.table_cover.specs.declared.cover.RowFault.{RowFault};
 
 use crate::majority;
 use crate::rows::{row_at, same_rows, some_row_fits, wide_some_row};
+use smallvec::SmallVec;
 use std::alloc::Global;
 use std::marker::Model;
 use tmr_base::OutOfMemory;
 
+/// How many marks a cover may have that takes no memory of its own.
+const INLINE: usize = 24;
+
 /// The rows of a table, and whether they tell where the value is 1 or where it is 0.
 ///
-/// Each row is as wide as the cover. A cover without rows has polarity on, so its value is 0.
+/// Each row is as wide as the cover. A cover without rows has polarity on, so its value is 0. Up to 24 marks stand in the
+/// value itself; only a larger cover takes memory of its own.
 #[derive(Debug, Drop)]
 pub struct Cover {
     width: u32,
     is_on: bool,
     count: u32,
-    marks: Vec<u8>,
+    marks: SmallVec<u8, INLINE>,
 }
 
 impl Model for Cover {
@@ -77,7 +82,7 @@ impl Cover {
             width,
             is_on: true,
             count: 0,
-            marks: Vec::new(alloc),
+            marks: SmallVec::new(alloc),
         }
     }
 
@@ -111,7 +116,7 @@ impl Cover {
         ensures row { slice_get self.now.rows i ≡ Some result.now }
         ensures marks { IsRow self.now.width result.now }
     {
-        row_at(&self.marks, self.width as usize, self.count, i)
+        row_at(self.marks.as_slice(), self.width as usize, self.count, i)
     }
 
     /// The value on these bits, as many as the cover is wide.
@@ -120,7 +125,7 @@ impl Cover {
         requires { length bits.now ≡ self.now.width }
         ensures { result ≡ cover_value self.now bits.now }
     {
-        let some = some_row_fits(&self.marks, self.width as usize, self.count, bits);
+        let some = some_row_fits(self.marks.as_slice(), self.width as usize, self.count, bits);
         if self.is_on { some } else { !some }
     }
 
@@ -130,7 +135,7 @@ impl Cover {
         requires { length bits.now ≡ self.now.width }
         ensures { (j : ℕ) → j < 64 → word_bit j result ≡ cover_value self.now (bits_of j bits.now) }
     {
-        let any = wide_some_row(&self.marks, self.width as usize, self.count, bits);
+        let any = wide_some_row(self.marks.as_slice(), self.width as usize, self.count, bits);
         if self.is_on { any } else { !any }
     }
 
@@ -167,14 +172,19 @@ impl Cover {
         if self.width != other.width || self.is_on != other.is_on || self.count != other.count {
             return false;
         }
-        same_rows(self.width as usize, self.count, &self.marks, &other.marks)
+        same_rows(
+            self.width as usize,
+            self.count,
+            self.marks.as_slice(),
+            other.marks.as_slice(),
+        )
     }
 
     /// The same cover once more.
     pub fn copy(&self, alloc: Global) -> Result<Cover, OutOfMemory>
         ensures { IfOk result (λ cover. cover ≡ self.now) }
     {
-        let marks = self.marks.as_slice().to_vec(alloc)?;
+        let marks = SmallVec::from_slice(alloc, self.marks.as_slice())?;
         Ok(Cover {
             width: self.width,
             is_on: self.is_on,

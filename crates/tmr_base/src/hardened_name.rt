@@ -6,6 +6,8 @@ ghost use Rattle.tmr_base.specs.Names.{copy_text, voter_text, clock_text};
 
 use crate::name::with_suffix;
 use crate::{CopyNo, Name, OutOfMemory, PartId};
+use itoa::Buffer;
+use smallvec::SmallVec;
 use std::alloc::Global;
 
 /// The name of copy c of net x: `x~0`, `x~1` or `x~2`.
@@ -31,13 +33,13 @@ fn voter_letter(c: CopyNo) -> u8
 }
 
 /// What stands behind the net's name in a voter's.
-fn voter_suffix(alloc: Global, p: PartId, c: CopyNo) -> Result<Vec<u8>, OutOfMemory>
+fn voter_suffix(alloc: Global, p: PartId, c: CopyNo) -> Result<SmallVec<u8, 16>, OutOfMemory>
     ensures { IfOk result (λ v. v.items ≡ 126 ∷ (decimal p.0 ++ 126 ∷ (97 + copy_number c) ∷ [])) }
 {
-    let mut suffix = Vec::new(alloc);
+    let mut suffix = SmallVec::new(alloc);
+    let mut number = Buffer::new();
     suffix.push(b'~')?;
-    let number = p.0.to_string(alloc)?;
-    suffix.extend_from_slice(number.as_bytes())?;
+    suffix.extend_from_slice(number.format(p.0).as_bytes())?;
     suffix.push(b'~')?;
     suffix.push(voter_letter(c))?;
     Ok(suffix)

@@ -11,16 +11,20 @@ ghost use Rattle.std.specs.Str.{bytes_eq};
 ghost use Rattle.tmr_base.specs.Names.{is_name, is_name_byte};
 
 use crate::OutOfMemory;
+use smallvec::SmallVec;
 use std::alloc::Global;
 use std::cmp::Ordering;
 use std::hash::{Hash, Hasher};
 use std::marker::Model;
 
+/// How many bytes a name may have that takes no memory of its own.
+const INLINE: usize = 24;
+
 /// One or more bytes above 0x20, none of them 0x7F or `#`, of which the last is no backslash.
-/// Names are equal, ordered and hashed as their bytes.
+/// Names are equal, ordered and hashed as their bytes. Up to 24 bytes stand in the value itself; only a longer name takes memory of its own.
 #[derive(Debug, Drop)]
 pub struct Name {
-    bytes: Vec<u8>,
+    bytes: SmallVec<u8, INLINE>,
 }
 
 impl Model for Name {
@@ -75,7 +79,7 @@ impl Name {
         if !is_legal(bytes) {
             return Err(NameFault::Bad);
         }
-        match bytes.to_vec(alloc) {
+        match SmallVec::from_slice(alloc, bytes) {
             Ok(bytes) => Ok(Name { bytes }),
             Err(_) => Err(NameFault::Memory),
         }
@@ -93,7 +97,7 @@ impl Name {
     pub fn copy(&self, alloc: Global) -> Result<Name, OutOfMemory>
         ensures { IfOk result (λ name. name ≡ self.now) }
     {
-        let bytes = self.bytes.as_slice().to_vec(alloc)?;
+        let bytes = SmallVec::from_slice(alloc, self.bytes.as_slice())?;
         Ok(Name { bytes })
     }
 }
@@ -105,7 +109,7 @@ pub fn with_suffix(alloc: Global, x: &Name, suffix: &[u8]) -> Result<Name, OutOf
     ensures { IfOk result (λ name. name ≡ x.now ++ suffix.now) }
 {
     let start = x.bytes.as_slice();
-    let mut bytes = Vec::with_capacity(alloc, start.len().saturating_add(suffix.len()))?;
+    let mut bytes = SmallVec::with_capacity(alloc, start.len().saturating_add(suffix.len()))?;
     bytes.extend_from_slice(start)?;
     bytes.extend_from_slice(suffix)?;
     Ok(Name { bytes })

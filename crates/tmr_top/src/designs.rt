@@ -65,7 +65,11 @@ fn design_of(alloc: Global, library: &Library, limit: u64) -> Result<FreeNet, Un
 {
     match flatten_free(alloc, library, limit) {
         Ok(flat) => Ok(flat),
-        Err(fault) => Err(refused(flat_reason(alloc, &fault))),
+        Err(fault) => {
+            let reason = flat_reason(alloc, &fault);
+            drop(fault);
+            Err(refused(reason))
+        }
     }
 }
 

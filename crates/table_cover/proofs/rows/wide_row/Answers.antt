@@ -1,6 +1,6 @@
-use Rattle.std.proofs.Common.{◌≡◌, ℕ, ◌+◌, ◌&&◌, Bool, ap, drop}
+use Rattle.std.proofs.Common.{◌+◌, ◌&&◌, Bool, ap, drop}
 use Rattle.table_cover.specs.Cover.{row_matches}
-use Rattle.table_cover.specs.Words.{word_bit, bits_of}
+use Rattle.table_cover.specs.Words.{bits_of}
 use Rattle.table_cover.proofs.WordLaws.{word_bit_ones, row_next, all_next}
 use Rattle.table_cover.proofs.rows.wide_row.Goals as goal
 

@@ -1,7 +1,7 @@
-use Rattle.std.proofs.Common.{ℕ, List, ◌≡◌, ℕ, ◌+◌, ◌-◌, ◌*◌, ◌||◌, Bool, length, take, drop, ap, sym, ◌∙◌, arith}
+use Rattle.std.proofs.Common.{ℕ, List, ◌≡◌, ℕ, ◌+◌, ◌-◌, ◌*◌, ◌||◌, Bool, length, ap, sym, ◌∙◌, arith}
 use Rattle.table_cover.specs.Cover.{row_matches, some_row_matches}
 use Rattle.table_cover.specs.Rows.{cut_rows}
-use Rattle.table_cover.specs.Words.{word_bit, bits_of}
+use Rattle.table_cover.specs.Words.{bits_of}
 use Rattle.table_cover.proofs.RowLaws.{cut_rows-next, rest_long}
 use Rattle.table_cover.proofs.WordLaws.{word_bit_zero, any_next}
 use Rattle.table_cover.proofs.rows.wide_some_row.Goals as goal
