@@ -1,6 +1,8 @@
-pub mod Cycles
 pub mod Lanes
 pub mod Literals
-pub mod Marks
+pub mod MarkLaws
+pub mod Nodes
 pub mod OneCycle
+pub mod Ordering
 pub mod Settling
+pub mod Triples

@@ -1,8 +1,9 @@
 -- Rows as literals: some row matches where some row of literals fits, or one has none.
-use Rattle.std.proofs.Common.{◌≡◌, ℕ, suc, ◌+◌, ◌-◌, ◌<◌, ◌≤◌, ◌^◌, cond, Bool, true, false, not, ◌&&◌, ◌||◌, List, [], ◌∷◌, ◌++◌, length, map, take, drop, slice_index, slice_get, Option, Some, None, refl, sym, ◌∙◌, ap, arith}
+use Rattle.std.proofs.Common.{◌≡◌, ℕ, suc, ◌+◌, ◌-◌, ◌<◌, ◌≤◌, ◌^◌, cond, Bool, true, false, not, ◌&&◌, ◌||◌, List, [], ◌∷◌, ◌++◌, length, map, take, drop, slice_index, slice_get, Option, Some, None, refl, sym, ◌∙◌, ap, subst, arith}
 use Rattle.std.specs.Prelude.{option_map, nat_eq, bit_and, bit_or}
 use Rattle.std.specs.Option.{unwrap_or}
-use Rattle.std.proofs.lemmas.List.{length-append, append-nil, drop_all, append_assoc}
+use Rattle.std.proofs.lemmas.List.{length-append, append-nil, drop_all, append_assoc, map-append}
+use Rattle.std.proofs.lemmas.Grind.{flat_map-append}
 use Rattle.std.proofs.lemmas.Option.{get_or_from_slice_get, slice_get_within, slice_get-map}
 use Rattle.std.proofs.Math.Seq.{drop-cons, take-append_seam, drop-append_seam}
 use Rattle.table_cover.specs.Cover.{PlainCover, cover_value, row_matches, some_row_matches}
@@ -11,7 +12,7 @@ use Rattle.table_cover.proofs.WordLaws.{word_bit_and, word_bit_or, word_bit_not}
 use Rattle.flat_net.specs.Net.{Net, Node, Table, Register, node_of, IsTable}
 use Rattle.net_meaning.specs.Meaning.{bit}
 use Rattle.net_simulator.specs.Settled.{own_value, mark}
-use Rattle.net_simulator.specs.Tables.{wanted, mark_literals, row_literals, has_literal, rows_literals, some_always, node_literals, entry_of, entries, literals, literal_fits, some_fits, entry_value, is_wanting}
+use Rattle.net_simulator.specs.Tables.{wanted, mark_literals, row_literals, has_literal, rows_literals, some_always, node_literals, entry_of, entries, entry_nets, literals, literal_fits, some_fits, entry_value, is_wanting}
 use Rattle.net_simulator.specs.declared.tables.Literal.{Literal}
 use Rattle.net_simulator.specs.declared.tables.Entry.{Entry}
 
@@ -133,32 +134,27 @@ unfolding cover_value
 cover_fits cover bits f e = ap (λ (b : Bool). cond cover.is_on b (not b)) e
 
 -- a table's literals give its value
-pub entry_fits : (o : Option Node) (t : ℕ) (before v : List Bool) → IsTable o → entry_value (entry_of o) (bit v) (node_literals o) ≡ own_value o t before v
-entry_fits None t before v table = absurd table
-entry_fits (Some (Register name init pin)) t before v table = absurd table
-entry_fits (Some (Table name cover pins)) t before v table =
+pub entry_fits : (o : Option Node) (x t : ℕ) (before v : List Bool) → IsTable o → entry_value (entry_of o x) (bit v) (node_literals o) ≡ own_value o t before v
+entry_fits None x t before v table = absurd table
+entry_fits (Some (Register name init pin)) x t before v table = absurd table
+entry_fits (Some (Table name cover pins)) x t before v table =
     cover_fits cover (map (bit v) pins) (some_fits (bit v) (some_always cover.rows pins) false (rows_literals cover.rows pins))
     (always_fits (bit v) (some_always cover.rows pins) (rows_literals cover.rows pins) (some_row_matches cover.rows (map (bit v) pins)) (rows_fit (bit v) false false cover.rows pins))
 
-pub count_is : (o : Option Node) → (entry_of o).count ≡ length (node_literals o)
-count_is None = refl
-count_is (Some (Register name init pin)) = refl
-count_is (Some (Table name cover pins)) = refl
+pub count_is : (o : Option Node) (x : ℕ) → (entry_of o x).count ≡ length (node_literals o)
+count_is None x = refl
+count_is (Some (Register name init pin)) x = refl
+count_is (Some (Table name cover pins)) x = refl
 
-pub table_entry : (o : Option Node) → (entry_of o).is_table ≡ true → IsTable o
-table_entry None e = absurd cc
-table_entry (Some (Register name init pin)) e = absurd cc
-table_entry (Some (Table name cover pins)) e = tt
-
-pub other_entry : (o : Option Node) → (entry_of o).is_table ≡ false → IsTable o → ⊥
-other_entry None e table = table
-other_entry (Some (Register name init pin)) e table = table
-other_entry (Some (Table name cover pins)) e table = absurd cc
+pub net_of_entry : (o : Option Node) (x : ℕ) → (entry_of o x).net.0 ≡ x
+net_of_entry None x = refl
+net_of_entry (Some (Register name init pin)) x = refl
+net_of_entry (Some (Table name cover pins)) x = refl
 
 -- entry i is that of net i of the order
-pub entry_is : (n : Net) (order : List ℕ) (es : List Entry) (i x : ℕ) (e : Entry) → es ≡ entries n order → slice_get es i ≡ Some e → slice_get order i ≡ Some x → e ≡ entry_of (node_of n x)
-entry_is n order es i x e same there here =
-    some_same e (entry_of (node_of n x)) (sym there ∙ (ap (λ (l : List Entry). slice_get l i) same ∙ (slice_get-map (λ (y : ℕ). entry_of (node_of n y)) order i ∙ ap (option_map (λ (y : ℕ). entry_of (node_of n y))) here)))
+pub entry_is : (n : Net) (nets : List ℕ) (es : List Entry) (i x : ℕ) (e : Entry) → es ≡ entries n nets → slice_get es i ≡ Some e → slice_get nets i ≡ Some x → e ≡ entry_of (node_of n x) x
+entry_is n nets es i x e same there here =
+    some_same e (entry_of (node_of n x) x) (sym there ∙ (ap (λ (l : List Entry). slice_get l i) same ∙ (slice_get-map (λ (y : ℕ). entry_of (node_of n y) y) nets i ∙ ap (option_map (λ (y : ℕ). entry_of (node_of n y) y)) here)))
 
 fitting : (on w : Bool) → unwrap_or (mark on w) (not w) ≡ cond on w (not w)
 fitting true w = refl
@@ -210,9 +206,6 @@ pub always_next : (rows : List (List ℕ)) (pins : List ℕ) (i : ℕ) (row : Li
 always_next rows pins i row e = ap (λ (rs : List (List ℕ)). some_always rs pins) (next_got rows i row e)
 
 -- one node more
-pub entries_next : (n : Net) (order : List ℕ) (i x : ℕ) → slice_get order i ≡ Some x → entries n (drop i order) ≡ entry_of (node_of n x) ∷ entries n (drop (i + 1) order)
-entries_next n order i x e = ap (entries n) (next_got order i x e)
-
 pub literals_next : (n : Net) (order : List ℕ) (i x : ℕ) → slice_get order i ≡ Some x → literals n (drop i order) ≡ node_literals (node_of n x) ++ literals n (drop (i + 1) order)
 literals_next n order i x e = ap (literals n) (next_got order i x e)
 
@@ -233,16 +226,24 @@ module _ (whole items new : List Literal) where
   pub row_pushed : (rows : List (List ℕ)) (pins : List ℕ) (i : ℕ) (row : List ℕ) → whole ≡ items ++ rows_literals (drop i rows) pins → slice_get rows i ≡ Some row → new ≡ items ++ row_literals false row pins → whole ≡ new ++ rows_literals (drop (i + 1) rows) pins
   row_pushed rows pins i row e f g = moved whole items new (row_literals false row pins) (rows_literals (drop i rows) pins) (rows_literals (drop (i + 1) rows) pins) e (rows_next rows pins i row f) g
 
-  pub node_pushed : (n : Net) (order : List ℕ) (i x : ℕ) → whole ≡ items ++ literals n (drop i order) → slice_get order i ≡ Some x → new ≡ items ++ node_literals (node_of n x) → whole ≡ new ++ literals n (drop (i + 1) order)
-  node_pushed n order i x e f g = moved whole items new (node_literals (node_of n x)) (literals n (drop i order)) (literals n (drop (i + 1) order)) e (literals_next n order i x f) g
+-- one table more
+pub entry_pushed : (n : Net) (es new : List Entry) (x : ℕ) (e : Entry) → es ≡ entries n (entry_nets es) → e ≡ entry_of (node_of n x) x → e.net.0 ≡ x → new ≡ es ++ e ∷ [] → new ≡ entries n (entry_nets new)
+entry_pushed n es new x e same is net pushed =
+    subst (λ (l : List Entry). l ≡ entries n (entry_nets l)) (sym pushed)
+    (ap (λ (l : List Entry). l ++ e ∷ []) same
+    ∙ (ap (λ (f : Entry). entries n (entry_nets es) ++ f ∷ []) (is ∙ ap (λ (y : ℕ). entry_of (node_of n y) y) (sym net))
+    ∙ (sym (map-append (λ (y : ℕ). entry_of (node_of n y) y) (entry_nets es) (e.net.0 ∷ []))
+    ∙ ap (entries n) (sym (map-append (λ (f : Entry). f.net.0) es (e ∷ []))))))
 
-pub entry_pushed : (whole items new : List Entry) (n : Net) (order : List ℕ) (i x : ℕ) (entry : Entry) → whole ≡ items ++ entries n (drop i order) → slice_get order i ≡ Some x → entry ≡ entry_of (node_of n x) → new ≡ items ++ entry ∷ [] → whole ≡ new ++ entries n (drop (i + 1) order)
-entry_pushed whole items new n order i x entry e f g h =
-    moved whole items new (entry ∷ []) (entries n (drop i order)) (entries n (drop (i + 1) order)) e
-    (entries_next n order i x f ∙ ap (λ (y : Entry). y ∷ entries n (drop (i + 1) order)) (sym g)) h
+pub nets_pushed : (es new : List Entry) (x : ℕ) (e : Entry) → e.net.0 ≡ x → new ≡ es ++ e ∷ [] → entry_nets new ≡ entry_nets es ++ x ∷ []
+nets_pushed es new x e net pushed =
+    ap entry_nets pushed ∙ (map-append (λ (f : Entry). f.net.0) es (e ∷ []) ∙ ap (λ (y : ℕ). entry_nets es ++ y ∷ []) net)
 
-pub all_pushed : {A : Type 0} (whole items rest : List A) → whole ≡ items ++ rest → rest ≡ [] → items ≡ whole
-all_pushed {A} whole items rest e f = sym (e ∙ (ap (λ (ls : List A). items ++ ls) f ∙ append-nil items))
+pub literals_pushed : (n : Net) (nets more : List ℕ) (x : ℕ) (ls new : List Literal) → ls ≡ literals n nets → more ≡ nets ++ x ∷ [] → new ≡ ls ++ node_literals (node_of n x) → new ≡ literals n more
+literals_pushed n nets more x ls new same one pushed =
+    pushed ∙ (ap (λ (l : List Literal). l ++ node_literals (node_of n x)) same
+    ∙ (ap (λ (l : List Literal). literals n nets ++ l) (sym (append-nil (node_literals (node_of n x))))
+    ∙ (sym (flat_map-append (λ (y : ℕ). node_literals (node_of n y)) nets (x ∷ [])) ∙ ap (literals n) (sym one))))
 
 -- a node's literals stand at the front of what is left
 pub front_is : (rest : List Literal) (n : Net) (order : List ℕ) (i x count : ℕ) → rest ≡ literals n (drop i order) → slice_get order i ≡ Some x → count ≡ length (node_literals (node_of n x)) → take count rest ≡ node_literals (node_of n x)
@@ -271,10 +272,3 @@ always_pushed whole a some b rows pins i row e f g h =
     e ∙ (ap (λ (c : Bool). a || c) (always_next rows pins i row f)
     ∙ (sym (or_or a (not (has_literal false row pins)) (some_always (drop (i + 1) rows) pins))
     ∙ (ap (λ (c : Bool). (a || not c) || some_always (drop (i + 1) rows) pins) (sym g) ∙ ap (λ (c : Bool). c || some_always (drop (i + 1) rows) pins) (sym h))))
-
--- no net is left behind the last of the order
-pub entries_end : (n : Net) (order : List ℕ) (i : ℕ) → length order ≤ i → entries n (drop i order) ≡ []
-entries_end n order i h = ap (entries n) (drop_all i order h)
-
-pub literals_end : (n : Net) (order : List ℕ) (i : ℕ) → length order ≤ i → literals n (drop i order) ≡ []
-literals_end n order i h = ap (literals n) (drop_all i order h)

@@ -2,12 +2,13 @@
 use Rattle.std.proofs.Common.{◌≡◌, ◌≢◌, ℕ, zero, suc, ◌+◌, ◌<◌, ◌⊎◌, Bool, false, List, length, refl, sym, ◌∙◌, ap, subst, arith, inl, inr, slice_index, slice_set, Option, Some, None}
 use Rattle.std.proofs.lemmas.List.{length-set, get_or-set_same, get_or-set_other}
 use Rattle.table_cover.specs.Cover.{cover_value}
-use Rattle.flat_net.specs.Net.{Net, Node, Table, Register, net_count, node_of, table_pins, IsTable, IsOrder}
+use Rattle.flat_net.specs.Net.{Net, Node, Table, Register, net_count, node_of, table_pins, IsTable}
 use Rattle.net_meaning.specs.Meaning.{bit}
 use Rattle.std.specs.Option.{unwrap_or}
 use Rattle.net_simulator.specs.Forced.{forced_value}
 use Rattle.net_meaning.proofs.Lists.{map_agree}
 use Rattle.net_simulator.specs.Settled.{IsSettled, IsAmong}
+use Rattle.net_simulator.specs.Tables.{IsTableOrder}
 
 -- an equation asks of the values of its own cycle those of a table's pins alone
 pub same_value : (o : Option Node) (u : Option Bool) (t : ℕ) (ins before v w : List Bool) (x : ℕ) → ((j : ℕ) → j < length (table_pins o) → bit v (slice_index (table_pins o) j) ≡ bit w (slice_index (table_pins o) j)) → forced_value o u t ins before v x ≡ forced_value o u t ins before w x
@@ -41,35 +42,25 @@ module _ (n : Net) (t : ℕ) (ins before : List Bool) (forced : ℕ → Option B
   settled_anyway is fewer = record { wide = is.wide; equations = λ y h q. is.equations y h (fewer y h q) }
 
 -- no net among the first k + 1 reads the table at k
-pub unread_at : (n : Net) (order : List ℕ) → IsOrder n order → (k : ℕ) → k < length order → IsTable (node_of n (slice_index order k))
-    → (y : ℕ) → IsAmong n order (k + 1) y → (j : ℕ) → j < length (table_pins (node_of n y)) → slice_index (table_pins (node_of n y)) j ≢ slice_index order k
-unread_at n order is k h table y among j l same = go (node_of n y) refl
+pub unread_at : (n : Net) (nets : List ℕ) → IsTableOrder n nets → (k : ℕ) → k < length nets
+    → (y : ℕ) → IsAmong n nets (k + 1) y → (j : ℕ) → j < length (table_pins (node_of n y)) → slice_index (table_pins (node_of n y)) j ≢ slice_index nets k
+unread_at n nets is k h y among j l same = go (node_of n y) refl
   where
     go : (o : Option Node) → node_of n y ≡ o → ⊥
     go None e = absurd (let none : length (table_pins (node_of n y)) ≡ 0 = ap (λ (o : Option Node). length (table_pins o)) e in omega arith)
     go (Some (Register name init pin)) e = absurd (let none : length (table_pins (node_of n y)) ≡ 0 = ap (λ (o : Option Node). length (table_pins o)) e in omega arith)
     go (Some (Table name cover pins)) e =
         let (i, below, here) = among (subst IsTable (sym e) tt) in
-        let (m, before, there) = is.after i j (omega arith) (subst (λ (z : ℕ). j < length (table_pins (node_of n z))) (sym here) l) (subst (λ (z : ℕ). IsTable (node_of n (slice_index (table_pins (node_of n z)) j))) (sym here) (subst (λ (z : ℕ). IsTable (node_of n z)) (sym same) table)) in
-        let found : slice_index order m ≡ slice_index order k = there ∙ (ap (λ (z : ℕ). slice_index (table_pins (node_of n z)) j) here ∙ same) in
+        let (m, before, there) = is.after i j (omega arith) (subst (λ (z : ℕ). j < length (table_pins (node_of n z))) (sym here) l) (subst (λ (z : ℕ). IsTable (node_of n (slice_index (table_pins (node_of n z)) j))) (sym here) (subst (λ (z : ℕ). IsTable (node_of n z)) (sym same) (is.tables k h))) in
+        let found : slice_index nets m ≡ slice_index nets k = there ∙ (ap (λ (z : ℕ). slice_index (table_pins (node_of n z)) j) here ∙ same) in
         is.once m k (omega arith) h found
 
 -- a net among the first k + 1 is the one at k or among the first k
-pub among_fewer : (n : Net) (order : List ℕ) (k : ℕ) (y : ℕ) → IsAmong n order (k + 1) y → y ≢ slice_index order k → IsAmong n order k y
-among_fewer n order k y among apart table =
+pub among_fewer : (n : Net) (nets : List ℕ) (k : ℕ) (y : ℕ) → IsAmong n nets (k + 1) y → y ≢ slice_index nets k → IsAmong n nets k y
+among_fewer n nets k y among apart table =
     let (i, below, here) = among table in
     (i, at i below here (equal_or_not i k), here)
   where
-    at : (i : ℕ) → i < k + 1 → slice_index order i ≡ y → (i ≡ k) ⊎ (i ≢ k) → i < k
-    at i below here (inl e) = absurd (apart (sym here ∙ ap (slice_index order) e))
-    at i below here (inr e) = omega arith
-
--- what is no table needs no place
-pub among_skip : (n : Net) (order : List ℕ) (k : ℕ) → (IsTable (node_of n (slice_index order k)) → ⊥) → (y : ℕ) → IsAmong n order (k + 1) y → IsAmong n order k y
-among_skip n order k other y among table =
-    let (i, below, here) = among table in
-    (i, at i below here (equal_or_not i k), here)
-  where
-    at : (i : ℕ) → i < k + 1 → slice_index order i ≡ y → (i ≡ k) ⊎ (i ≢ k) → i < k
-    at i below here (inl e) = absurd (other (subst (λ (z : ℕ). IsTable (node_of n z)) (sym here ∙ ap (slice_index order) e) table))
+    at : (i : ℕ) → i < k + 1 → slice_index nets i ≡ y → (i ≡ k) ⊎ (i ≢ k) → i < k
+    at i below here (inl e) = absurd (apart (sym here ∙ ap (slice_index nets) e))
     at i below here (inr e) = omega arith

@@ -1,5 +1,6 @@
-pub mod Bench
 pub mod Cycle
 pub mod Forced
+pub mod Inside
+pub mod Registers
 pub mod Settled
 pub mod Tables

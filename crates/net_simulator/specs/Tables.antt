@@ -1,9 +1,12 @@
 -- Only private functions cite this: the tables as one list of literals, in the order of evaluation.
-use Rattle.std.specs.Prelude.{ℕ, Bool, true, false, not, ◌&&◌, ◌||◌, nat_eq, List, [], ◌∷◌, ◌++◌, length, map, Option, Some, None, if◌then◌else◌}
-use Rattle.std.specs.List.{list_any}
-use Rattle.flat_net.specs.Net.{Net, Node, Table, Register, node_of}
+use Rattle.std.specs.Prelude.{◌≡◌, ◌≢◌, ℕ, ◌<◌, slice_index, Bool, true, false, not, ◌&&◌, ◌||◌}
+use Rattle.std.specs.Prelude.{nat_eq, List, [], ◌∷◌, ◌++◌, length, map, Option, Some, None, if◌then◌else◌}
+use Rattle.std.specs.List.{list_any, flat_map}
+use Rattle.flat_net.specs.Net.{Net, Node, Table, Register, node_of, IsTable, ComesBefore}
 use Rattle.net_simulator.specs.declared.tables.Literal.{Literal}
 use Rattle.net_simulator.specs.declared.tables.Entry.{Entry}
+use Rattle.net_simulator.specs.declared.tables.Tables.{Tables}
+use Rattle.net_simulator.specs.Registers.{AreRegisters}
 
 -- the value that a mark wants of its pin; a dash wants none
 abbrev pub wanted : ℕ → Option Bool
@@ -42,19 +45,35 @@ node_literals None = []
 node_literals (Some (Table name cover pins)) = rows_literals cover.rows pins
 node_literals (Some (Register name init pin)) = []
 
--- what stands beside a node's literals
-abbrev pub entry_of : Option Node → Entry
-entry_of None = record { count = 0; is_table = false; is_on = true; always = false }
-entry_of (Some (Table name cover pins)) =
-    record { count = length (rows_literals cover.rows pins); is_table = true; is_on = cover.is_on; always = some_always cover.rows pins }
-entry_of (Some (Register name init pin)) = record { count = 0; is_table = false; is_on = true; always = false }
+-- what stands beside a table's literals
+abbrev pub entry_of : Option Node → ℕ → Entry
+entry_of None x = record { net = record { 0 = x }; is_on = true; always = false; count = 0 }
+entry_of (Some (Table name cover pins)) x =
+    record { net = record { 0 = x }; is_on = cover.is_on; always = some_always cover.rows pins; count = length (rows_literals cover.rows pins) }
+entry_of (Some (Register name init pin)) x = record { net = record { 0 = x }; is_on = true; always = false; count = 0 }
 
 abbrev pub entries : Net → List ℕ → List Entry
-entries n order = map (λ x. entry_of (node_of n x)) order
+entries n nets = map (λ x. entry_of (node_of n x) x) nets
 
 abbrev pub literals : Net → List ℕ → List Literal
-literals n [] = []
-literals n (x ∷ order) = node_literals (node_of n x) ++ literals n order
+literals n nets = flat_map (λ x. node_literals (node_of n x)) nets
+
+abbrev pub entry_nets : List Entry → List ℕ
+entry_nets es = map (λ e. e.net.0) es
+
+-- all tables, each once, each behind those that it reads
+pub record IsTableOrder (n : Net) (nets : List ℕ) : Type 0 where
+  pub tables : (k : ℕ) → k < length nets → IsTable (node_of n (slice_index nets k))
+  pub complete : (x : ℕ) → IsTable (node_of n x) → (k : ℕ) × (k < length nets) × (slice_index nets k ≡ x)
+  pub once : (j k : ℕ) → j < k → k < length nets → slice_index nets j ≢ slice_index nets k
+  pub after : (k i : ℕ) → k < length nets → ComesBefore n nets k i
+
+-- the tables of the design with their literals, and its registers
+pub record AreTables (n : Net) (t : Tables) : Type 0 where
+  pub order : IsTableOrder n (entry_nets t.entries.items)
+  pub entries : t.entries.items ≡ entries n (entry_nets t.entries.items)
+  pub literals : t.literals.items ≡ literals n (entry_nets t.entries.items)
+  pub registers : AreRegisters n t.registers.items
 
 -- the literal fits the value of its net
 abbrev pub literal_fits : (ℕ → Bool) → Literal → Bool

@@ -4,8 +4,10 @@
 //! each net meets its equation but for those that are forced; a step takes no memory.
 #![tactic(auto)]
 
-mod bench;
+mod bits;
 mod cycle;
+mod marks;
+mod registers;
 mod sim;
 mod tables;
 mod wide;

@@ -1,85 +1,53 @@
 //! One run of a design.
-ghost use Rattle.std.specs.Prelude.{◌≡◌, ◌<◌, ℕ, All, IfOk, IfSome, IsSome, IsSomeAnd, None, length, slice_index, option_map};
-ghost use Rattle.table_cover.specs.Words.{word_bit, bits_of};
+ghost use Rattle.std.specs.Prelude.{◌≡◌, ◌<◌, ℕ, All, IfOk, IfSome, IsSome, IsSomeAnd, None, length};
 ghost use Rattle.flat_net.specs.Net.{net_count};
 ghost use Rattle.net_meaning.specs.Meaning.{bit};
 ghost use Rattle.net_simulator.specs.Cycle.{IsCycle, forced_to};
-ghost use Rattle.net_simulator.specs.Settled.{marked};
+ghost use Rattle.net_simulator.specs.Settled.{forced_at};
 
-use crate::bench::Bench;
-use crate::cycle::word_of;
+use crate::bits::{bit_at, run_bits};
+use crate::tables::{Tables, tables_of};
 use flat_net::FlatNet;
 use std::alloc::Global;
 use std::marker::Model;
+use std::mem;
 use tmr_base::{NetId, OutOfMemory};
 
 /// A simulator of one run of a design.
 #[derive(Drop)]
 pub struct Sim<'a> {
-    bench: Bench<'a>,
+    net: &'a FlatNet,
+    started: bool,
+    bits: Vec<bool>,
+    before: Vec<bool>,
+    forced: Vec<Option<bool>>,
+    tables: Tables,
 }
 
 impl<'a> Model for Sim<'a> {
-    ghost use Rattle.std.specs.Prelude.{option_map};
-    ghost use Rattle.table_cover.specs.Words.{bits_of};
     ghost use Rattle.net_simulator.specs.Cycle.{Run};
 
     ghost Value = { Run };
 
-    ghost view = { λ s. record { net = s.bench.net; last = option_map (bits_of 0) s.bench.last } };
+    ghost use Rattle.net_simulator.specs.Inside.{run_of, IsSim};
+
+    ghost view = { run_of };
+
+    ghost invariant = { IsSim };
 }
 
-/// The lowest bit of a word.
-#[tactic(auto, using(crate::proofs::Marks::lowest_bits))]
-fn lowest(word: u64) -> bool
-    ensures { result ≡ word_bit 0 word }
+/// Forces what the pairs say, and nothing else.
+fn force(forced: &mut [Option<bool>], pairs: &[(NetId, bool)])
+    requires { All (λ f. f.0.0 < length forced.old) pairs.now }
+    ensures forced { (x : ℕ) → forced_at forced.new x ≡ forced_to pairs.now x }
+    ensures long { length forced.new ≡ length forced.old }
 {
-    word % 2 == 1
-}
-
-/// Gives the inputs the same bits in all runs.
-fn set_bits(bench: &mut Bench, ins: &[bool])
-    requires { length ins.now ≡ length bench.old.net.inputs }
-    ensures ins { bits_of 0 bench.new.ins ≡ ins.now }
-    ensures net { bench.new.net ≡ bench.old.net }
-    ensures last { bench.new.last ≡ bench.old.last }
-    ensures masks { bench.new.masks ≡ bench.old.masks }
-    ensures values { bench.new.values ≡ bench.old.values }
-{
-    let _inputs = bench.input_count();
-    for i in 0..ins.len() {
-        bench.set_input(i, word_of(ins[i]));
-    }
-}
-
-/// Forces in all runs what the pairs say, and nothing else.
-#[tactic(auto, using(crate::proofs::Marks::whole_words))]
-fn force_bits(bench: &mut Bench, forced: &[(NetId, bool)])
-    requires { All (λ f. f.0.0 < net_count bench.old.net) forced.now }
-    ensures forced { (x : ℕ) → x < net_count bench.old.net → marked bench.new.masks bench.new.values 0 x ≡ forced_to forced.now x }
-    ensures net { bench.new.net ≡ bench.old.net }
-    ensures last { bench.new.last ≡ bench.old.last }
-    ensures ins { bench.new.ins ≡ bench.old.ins }
-{
-    let _inputs = bench.input_count();
-    bench.release();
-    let count = forced.len();
+    forced.fill(None);
+    let count = pairs.len();
     for i in 0..count {
-        let (x, value) = forced[count - 1 - i];
-        bench.force(x, u64::MAX, word_of(value));
+        let (x, value) = pairs[count - 1 - i];
+        forced[x.0 as usize] = Some(value);
     }
-}
-
-/// One cycle.
-fn step_bits(bench: &mut Bench, ins: &[bool], forced: &[(NetId, bool)])
-    requires ins { length ins.now ≡ length bench.old.net.inputs }
-    requires forced { All (λ f. f.0.0 < net_count bench.old.net) forced.now }
-    ensures cycle { IsSomeAnd bench.new.last (λ words. IsCycle bench.old.net (option_map (bits_of 0) bench.old.last) ins.now (forced_to forced.now) (bits_of 0 words)) }
-    ensures net { bench.new.net ≡ bench.old.net }
-{
-    force_bits(bench, forced);
-    set_bits(bench, ins);
-    bench.run();
 }
 
 impl<'a> Sim<'a> {
@@ -88,8 +56,19 @@ impl<'a> Sim<'a> {
         ensures net { IfOk result (λ s. s.net ≡ net.now.net) }
         ensures last { IfOk result (λ s. s.last ≡ None) }
     {
-        let bench = Bench::new(alloc, net)?;
-        Ok(Sim { bench })
+        let nets = net.input_count() as usize + net.node_count() as usize;
+        let bits = Vec::from_elem(alloc, false, nets)?;
+        let before = Vec::from_elem(alloc, false, nets)?;
+        let forced = Vec::from_elem(alloc, None, nets)?;
+        let tables = tables_of(alloc, net)?;
+        Ok(Sim {
+            net,
+            started: false,
+            bits,
+            before,
+            forced,
+            tables,
+        })
     }
 
     /// Runs the next cycle, and takes no memory.
@@ -102,7 +81,18 @@ impl<'a> Sim<'a> {
         ensures cycle { IsSomeAnd self.new.last (λ row. IsCycle self.old.net self.old.last ins.now (forced_to forced.now) row) }
         ensures net { self.new.net ≡ self.old.net }
     {
-        step_bits(&mut self.bench, ins, forced);
+        force(&mut self.forced, forced);
+        mem::swap(&mut self.bits, &mut self.before);
+        run_bits(
+            self.net,
+            &self.tables,
+            self.started,
+            ins,
+            &self.before,
+            &self.forced,
+            &mut self.bits,
+        );
+        self.started = true;
     }
 
     /// The value of net x in the last cycle; before the first cycle there is none. It takes no memory.
@@ -111,6 +101,6 @@ impl<'a> Sim<'a> {
         requires range { x.0 < net_count self.now.net }
         ensures { IfSome self.now.last (λ row. result ≡ bit row x.0) }
     {
-        lowest(self.bench.word(x))
+        bit_at(&self.bits, x)
     }
 }

@@ -1,16 +1,17 @@
-//! The tables of a design as one list of literals, in the order of evaluation.
+//! The tables of a design as one list of literals, in an order of evaluation, and its registers.
 //!
 //! A row of marks without its dashes is a list of literals. The rows of all tables stand side by side, so that a
-//! cycle reads them from front to back, without a branch for a mark or a row.
+//! cycle reads them from front to back, without a branch for a mark or a row. No node's kind is asked in a cycle.
 ghost use Rattle.std.specs.Prelude.{◌≡◌, ◌<◌, ◌≤◌, ◌++◌, ◌&&◌, ◌||◌, not, ℕ, List, Bool, true, false, Option, Some, None, length, map, take, slice_index, slice_get, OnOk, IfOk, IsTrue};
 ghost use Rattle.table_cover.specs.Words.{word_bit, bits_of};
 ghost use Rattle.flat_net.specs.Net.{net_count, node_of, pins_at, IsTable};
 ghost use Rattle.net_meaning.specs.Meaning.{bit};
-ghost use Rattle.net_simulator.specs.Tables.{wanted, is_wanting, mark_literals, row_literals, has_literal, rows_literals, some_always, node_literals, entry_of, entries, literals, literal_fits, some_fits, entry_value};
+ghost use Rattle.net_simulator.specs.Tables.{wanted, is_wanting, mark_literals, row_literals, has_literal, rows_literals, some_always, node_literals, entry_of, AreTables, literal_fits, some_fits, entry_value};
 ghost use Rattle.net_simulator.specs.declared.tables.Literal.{Literal};
 
-use crate::cycle::{is_table, merged, word_of};
-use flat_net::FlatNet;
+use crate::marks::{merged, word_of};
+use crate::registers::{Held, registers_of};
+use flat_net::{FlatNet, Kind};
 use std::alloc::Global;
 use table_cover::Cover;
 use tmr_base::{NetId, OutOfMemory};
@@ -26,26 +27,28 @@ pub struct Literal {
     pub is_first: bool,
 }
 
-/// What stands beside the literals of a node. A register has none.
+/// What stands beside the literals of a table.
 #[derive(Clone, Copy, Drop)]
 pub struct Entry {
-    /// How many literals are the node's.
-    pub count: usize,
-    /// It is a table.
-    pub is_table: bool,
+    /// The table.
+    pub net: NetId,
     /// The rows tell where the value is 1, and not where it is 0.
     pub is_on: bool,
     /// Some row has no literal.
     pub always: bool,
+    /// How many literals are the table's.
+    pub count: usize,
 }
 
-/// The tables of a design.
+/// The nodes of a design.
 #[derive(Drop)]
 pub struct Tables {
-    /// One entry for each node, in the order of evaluation.
+    /// One entry for each table, behind those of the tables that it reads.
     pub entries: Vec<Entry>,
     /// Their literals, side by side.
     pub literals: Vec<Literal>,
+    /// The registers.
+    pub registers: Vec<Held>,
 }
 
 /// The value that the mark wants of its pin.
@@ -123,49 +126,63 @@ fn push_rows(
     Ok(always)
 }
 
-/// Adds the literals of node x. The result is its entry.
-fn push_node(literals: &mut Vec<Literal>, net: &FlatNet, x: NetId) -> Result<Entry, OutOfMemory>
+/// Adds the literals of table x. The result is its entry.
+fn push_table(literals: &mut Vec<Literal>, net: &FlatNet, x: NetId) -> Result<Entry, OutOfMemory>
     requires range { x.0 < net_count net.now.net }
     requires node { length net.now.net.inputs ≤ x.0 }
+    requires table { IsTable (node_of net.now.net x.0) }
     ensures literals { OnOk result (literals.new.items ≡ literals.old.items ++ node_literals (node_of net.now.net x.0)) }
-    ensures entry { IfOk result (λ entry. entry ≡ entry_of (node_of net.now.net x.0)) }
+    ensures entry { IfOk result (λ entry. entry ≡ entry_of (node_of net.now.net x.0) x.0) }
 {
-    if !is_table(net, x) {
-        return Ok(Entry {
-            count: 0,
-            is_table: false,
-            is_on: true,
-            always: false,
-        });
-    }
     let before = literals.len();
     let cover = net.cover(x);
     let always = push_rows(literals, net, x, cover)?;
     Ok(Entry {
-        count: literals.len() - before,
-        is_table: true,
+        net: x,
         is_on: cover.is_on(),
         always,
+        count: literals.len() - before,
     })
 }
 
-/// The tables of the design.
+/// Net x is a table.
+#[tactic(auto, using(crate::proofs::Lanes::kinds))]
+fn is_table(net: &FlatNet, x: NetId) -> bool
+    requires { x.0 < net_count net.now.net }
+    ensures yes { IsTrue result → IsTable (node_of net.now.net x.0) }
+    ensures no { IsTable (node_of net.now.net x.0) → IsTrue result }
+{
+    match net.kind(x) {
+        Kind::Table => true,
+        Kind::Input => false,
+        Kind::Register => false,
+    }
+}
+
+/// The nodes of the design.
 pub fn tables_of(alloc: Global, net: &FlatNet) -> Result<Tables, OutOfMemory>
-    ensures entries { IfOk result (λ t. t.entries.items ≡ entries net.now.net net.now.order) }
-    ensures literals { IfOk result (λ t. t.literals.items ≡ literals net.now.net net.now.order) }
+    ensures { IfOk result (λ t. AreTables net.now.net t) }
 {
     let _inputs = net.input_count();
+    let registers = registers_of(alloc, net)?;
     let mut entries = Vec::with_capacity(alloc, net.node_count() as usize)?;
     let mut literals = Vec::new(alloc);
     for i in 0..net.node_count() {
-        let entry = push_node(&mut literals, net, net.ordered(i))?;
-        entries.push(entry)?;
+        let x = net.ordered(i);
+        if is_table(net, x) {
+            let entry = push_table(&mut literals, net, x)?;
+            entries.push(entry)?;
+        }
     }
-    Ok(Tables { entries, literals })
+    Ok(Tables {
+        entries,
+        literals,
+        registers,
+    })
 }
 
 /// The word of net x.
-fn word_at(now: &[u64], x: NetId) -> u64
+pub fn word_at(now: &[u64], x: NetId) -> u64
     ensures { result ≡ slice_index now.now x.0 }
 {
     match now.get(x.0 as usize) {
@@ -183,7 +200,7 @@ fn literal_word(literal: Literal, now: &[u64]) -> u64
 }
 
 /// Literal i.
-fn literal_at(literals: &[Literal], i: usize) -> Literal
+pub fn literal_at(literals: &[Literal], i: usize) -> Literal
     requires { i < length literals.now }
     ensures { slice_get literals.now i ≡ Some result }
 {
@@ -191,11 +208,14 @@ fn literal_at(literals: &[Literal], i: usize) -> Literal
 }
 
 /// Entry i.
-pub fn entry_at(entries: &[Entry], i: usize) -> Entry
-    requires { i < length entries.now }
-    ensures { slice_get entries.now i ≡ Some result }
+pub fn entry_at(net: &FlatNet, tables: &Tables, i: usize) -> Entry
+    requires tables { AreTables net.now.net tables.now }
+    requires i { i < length tables.now.entries.items }
+    ensures there { slice_get tables.now.entries.items i ≡ Some result }
+    ensures table { IsTable (node_of net.now.net result.net.0) }
+    ensures high { result.net.0 < net_count net.now.net }
 {
-    entries[i]
+    tables.entries[i]
 }
 
 /// In which runs some row of the literals fits, or in all.

@@ -3,18 +3,26 @@ ghost use Rattle.std.specs.Prelude.{◌≡◌, ◌<◌, ℕ, All, IfOk, IfSome, 
 ghost use Rattle.table_cover.specs.Words.{bits_of};
 ghost use Rattle.flat_net.specs.Net.{net_count};
 ghost use Rattle.net_simulator.specs.Cycle.{IsCycle, forced_in};
-ghost use Rattle.net_simulator.specs.Settled.{marked};
+ghost use Rattle.net_simulator.specs.Settled.{marked, AreMarks};
 
-use crate::bench::Bench;
+use crate::cycle::run_cycle;
+use crate::marks::{Marks, no_marks};
+use crate::tables::{Tables, tables_of};
 use flat_net::FlatNet;
 use std::alloc::Global;
 use std::marker::Model;
+use std::mem;
 use tmr_base::{NetId, OutOfMemory};
 
 /// A simulator of 64 runs of a design: bit j of each word belongs to run j.
 #[derive(Drop)]
 pub struct WideSim<'a> {
-    bench: Bench<'a>,
+    net: &'a FlatNet,
+    started: bool,
+    words: Vec<u64>,
+    before: Vec<u64>,
+    marks: Marks,
+    tables: Tables,
 }
 
 impl<'a> Model for WideSim<'a> {
@@ -22,37 +30,26 @@ impl<'a> Model for WideSim<'a> {
 
     ghost Value = { WideRun };
 
-    ghost view = { λ s. record { net = s.bench.net; last = s.bench.last } };
+    ghost use Rattle.net_simulator.specs.Inside.{wide_run_of, IsWideSim};
+
+    ghost view = { wide_run_of };
+
+    ghost invariant = { IsWideSim };
 }
 
 /// Forces what the triples say, and nothing else.
-fn force_words(bench: &mut Bench, forced: &[(NetId, u64, u64)])
-    requires { All (λ f. f.0.0 < net_count bench.old.net) forced.now }
-    ensures forced { (j x : ℕ) → j < 64 → x < net_count bench.old.net → marked bench.new.masks bench.new.values j x ≡ forced_in j forced.now x }
-    ensures net { bench.new.net ≡ bench.old.net }
-    ensures last { bench.new.last ≡ bench.old.last }
-    ensures ins { bench.new.ins ≡ bench.old.ins }
+fn force(marks: &mut Marks, triples: &[(NetId, u64, u64)])
+    requires sized { AreMarks (length marks.old.forced.items) marks.old }
+    requires nets { All (λ f. f.0.0 < length marks.old.forced.items) triples.now }
+    ensures forced { (j x : ℕ) → j < 64 → marked marks.new j x ≡ forced_in j triples.now x }
+    ensures sized { AreMarks (length marks.old.forced.items) marks.new }
 {
-    let _inputs = bench.input_count();
-    bench.release();
-    let count = forced.len();
+    marks.release();
+    let count = triples.len();
     for i in 0..count {
-        let (x, mask, value) = forced[count - 1 - i];
-        bench.force(x, mask, value);
+        let (x, mask, value) = triples[count - 1 - i];
+        marks.force(x, mask, value);
     }
-}
-
-/// One cycle in each run.
-fn step_words(bench: &mut Bench, ins: &[u64], forced: &[(NetId, u64, u64)])
-    requires ins { length ins.now ≡ length bench.old.net.inputs }
-    requires forced { All (λ f. f.0.0 < net_count bench.old.net) forced.now }
-    ensures cycle { (j : ℕ) → j < 64 → IsSomeAnd bench.new.last (λ words. IsCycle bench.old.net (option_map (bits_of j) bench.old.last) (bits_of j ins.now) (forced_in j forced.now) (bits_of j words)) }
-    ensures net { bench.new.net ≡ bench.old.net }
-{
-    let _inputs = bench.input_count();
-    force_words(bench, forced);
-    bench.set_inputs(ins);
-    bench.run();
 }
 
 impl<'a> WideSim<'a> {
@@ -61,8 +58,19 @@ impl<'a> WideSim<'a> {
         ensures net { IfOk result (λ s. s.net ≡ net.now.net) }
         ensures last { IfOk result (λ s. s.last ≡ None) }
     {
-        let bench = Bench::new(alloc, net)?;
-        Ok(WideSim { bench })
+        let nets = net.input_count() as usize + net.node_count() as usize;
+        let words = Vec::from_elem(alloc, 0, nets)?;
+        let before = Vec::from_elem(alloc, 0, nets)?;
+        let marks = no_marks(alloc, nets)?;
+        let tables = tables_of(alloc, net)?;
+        Ok(WideSim {
+            net,
+            started: false,
+            words,
+            before,
+            marks,
+            tables,
+        })
     }
 
     /// Runs the next cycle of all runs, and takes no memory.
@@ -76,7 +84,18 @@ impl<'a> WideSim<'a> {
         ensures cycle { (j : ℕ) → j < 64 → IsSomeAnd self.new.last (λ words. IsCycle self.old.net (option_map (bits_of j) self.old.last) (bits_of j ins.now) (forced_in j forced.now) (bits_of j words)) }
         ensures net { self.new.net ≡ self.old.net }
     {
-        step_words(&mut self.bench, ins, forced);
+        force(&mut self.marks, forced);
+        mem::swap(&mut self.words, &mut self.before);
+        run_cycle(
+            self.net,
+            &self.tables,
+            self.started,
+            ins,
+            &self.before,
+            &self.marks,
+            &mut self.words,
+        );
+        self.started = true;
     }
 
     /// The word of net x in the last cycle; before the first cycle there is none. It takes no memory.
@@ -85,6 +104,6 @@ impl<'a> WideSim<'a> {
         requires range { x.0 < net_count self.now.net }
         ensures { IfSome self.now.last (λ words. result ≡ slice_index words x.0) }
     {
-        self.bench.word(x)
+        self.words[x.0 as usize]
     }
 }

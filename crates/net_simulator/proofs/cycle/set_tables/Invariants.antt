@@ -1,12 +1,12 @@
 use Rattle.std.proofs.Common.{◌≡◌, ◌<◌, ℕ, Bool, List, drop}
-use Rattle.flat_net.specs.Net.{net_count}
 use Rattle.table_cover.specs.Words.{bits_of}
-use Rattle.net_simulator.specs.Settled.{IsSettled, IsRegisterBelow, IsAmong, marked, number_of_cycle}
-use Rattle.net_simulator.specs.Tables.{literals}
+use Rattle.net_simulator.specs.Settled.{IsSettled, IsNoTable, IsAmong, marked, number_of_cycle}
+use Rattle.net_simulator.specs.Tables.{literals, entry_nets}
 use Rattle.net_simulator.proofs.cycle.set_tables.Given as goal
 
 abbrev pub invariant-loop-i : goal.invariant-loop-i
 invariant-loop-i l = record {
-  rest : l.rest ≡ literals l.net.net (drop l.i l.net.order);
-  settled : (j : ℕ) (ins : List Bool) → j < 64 → IsSettled l.net.net (number_of_cycle l.started) ins (bits_of j l.before) (marked l.masks l.values j) (IsRegisterBelow l.net.net (net_count l.net.net)) (bits_of j l.fn.now) → IsSettled l.net.net (number_of_cycle l.started) ins (bits_of j l.before) (marked l.masks l.values j) (IsAmong l.net.net l.net.order l.i) (bits_of j l.now);
+  rest : l.rest ≡ literals l.net.net (drop l.i (entry_nets l.tables.entries.items));
+  settled : (j : ℕ) (ins : List Bool) → j < 64 → IsSettled l.net.net (number_of_cycle l.started) ins (bits_of j l.before) (marked l.marks j) (IsNoTable l.net.net) (bits_of j l.fn.now)
+      → IsSettled l.net.net (number_of_cycle l.started) ins (bits_of j l.before) (marked l.marks j) (IsAmong l.net.net (entry_nets l.tables.entries.items) l.i) (bits_of j l.now);
 }

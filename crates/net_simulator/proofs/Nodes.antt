@@ -1,0 +1,77 @@
+-- One node more has its value.
+use Rattle.std.proofs.Common.{◌≡◌, ℕ, ◌+◌, ◌<◌, ◌≤◌, Bool, List, length, take, drop, cond, slice_get, slice_index, slice_set, Option, Some, sym, ◌∙◌, ap, subst}
+use Rattle.std.specs.Option.{unwrap_or}
+use Rattle.std.proofs.lemmas.Option.{slice_get_within}
+use Rattle.flat_net.specs.Net.{Net, node_of, net_count, IsTable}
+use Rattle.net_meaning.specs.Meaning.{bit}
+use Rattle.net_simulator.specs.Settled.{IsSettled, IsHeldAmong, IsAmong, number_of_cycle}
+use Rattle.net_simulator.specs.Registers.{Holds, held_nets}
+use Rattle.net_simulator.specs.Tables.{AreTables, entry_nets, entry_of, entry_value, node_literals, literals}
+use Rattle.net_simulator.specs.declared.tables.Tables.{Tables}
+use Rattle.net_simulator.specs.declared.tables.Entry.{Entry}
+use Rattle.net_simulator.specs.declared.tables.Literal.{Literal}
+use Rattle.net_simulator.specs.declared.registers.Held.{Held}
+use Rattle.net_simulator.proofs.Literals.{entry_is, count_is, entry_fits, front_is, back_is, front_within}
+use Rattle.net_simulator.proofs.Settling.{unread_at, among_fewer}
+use Rattle.net_simulator.proofs.Lanes.{own_settle, held_within, held_value, held_fewer, no_table_reads_none, net_there, net_index, table_within}
+
+module _ (n : Net) (tables : Tables) (are : AreTables n tables) (k : ℕ) (e : Entry) (there : slice_get tables.entries.items k ≡ Some e) where
+  abbrev nets : List ℕ
+  nets = entry_nets tables.entries.items
+
+  net_got : slice_get nets k ≡ Some e.net.0
+  net_got = net_there (λ (f : Entry). f.net.0) tables.entries.items k e there
+
+  net_is : slice_index nets k ≡ e.net.0
+  net_is = net_index (λ (f : Entry). f.net.0) tables.entries.items k e there
+
+  within : k < length nets
+  within = slice_get_within nets k e.net.0 net_got
+
+  pub entry_table : IsTable (node_of n e.net.0)
+  entry_table = subst (λ (z : ℕ). IsTable (node_of n z)) net_is (are.order.tables k within)
+
+  pub entry_high : e.net.0 < net_count n
+  entry_high = (table_within n e.net.0 entry_table).1
+
+  is_entry : e ≡ entry_of (node_of n e.net.0) e.net.0
+  is_entry = entry_is n nets tables.entries.items k e.net.0 e are.entries there net_got
+
+  count : e.count ≡ length (node_literals (node_of n e.net.0))
+  count = ap (λ (f : Entry). f.count) is_entry ∙ count_is (node_of n e.net.0) e.net.0
+
+  module _ (rest : List Literal) (is : rest ≡ literals n (drop k nets)) where
+    pub count_within : e.count ≤ length rest
+    count_within = front_within rest n nets k e.net.0 e.count is net_got count
+
+    pub rest_after : drop e.count rest ≡ literals n (drop (k + 1) nets)
+    rest_after = back_is rest n nets k e.net.0 e.count is net_got count
+
+    own_literals : take e.count rest ≡ node_literals (node_of n e.net.0)
+    own_literals = front_is rest n nets k e.net.0 e.count is net_got count
+
+    -- its value is written
+    pub table_settles : (own : List Literal) (started : Bool) (ins before : List Bool) (forced : ℕ → Option Bool) (v : List Bool) (value b : Bool) → own ≡ take e.count rest
+        → value ≡ entry_value e (bit v) own → b ≡ unwrap_or (forced e.net.0) value
+        → IsSettled n (number_of_cycle started) ins before forced (IsAmong n nets k) v → IsSettled n (number_of_cycle started) ins before forced (IsAmong n nets (k + 1)) (slice_set v e.net.0 b)
+    table_settles own started ins before forced v value b front f g settled =
+        let (low, high) = table_within n e.net.0 entry_table in
+        own_settle n (number_of_cycle started) ins before forced v (IsAmong n nets k) (IsAmong n nets (k + 1)) e.net.0 value b settled low high
+        (λ y q apart. among_fewer n nets k y q (λ same. apart (same ∙ net_is)))
+        (λ y q i m same. unread_at n nets are.order k within y q i m (same ∙ sym net_is))
+        (f ∙ (ap (λ (ls : List Literal). entry_value e (bit v) ls) (front ∙ own_literals)
+        ∙ (ap (λ (d : Entry). entry_value d (bit v) (node_literals (node_of n e.net.0))) is_entry
+        ∙ entry_fits (node_of n e.net.0) e.net.0 (number_of_cycle started) before v entry_table)))
+        g
+
+-- a register's value is written
+pub register_settles : (n : Net) (rs : List Held) (k : ℕ) (r : Held) (started : Bool) (ins before : List Bool) (forced : ℕ → Option Bool) (v : List Bool) (value b : Bool) → slice_get rs k ≡ Some r → Holds n r
+    → value ≡ cond started (bit before r.pin.0) r.init → b ≡ unwrap_or (forced r.net.0) value
+    → IsSettled n (number_of_cycle started) ins before forced (IsHeldAmong n (held_nets rs) k) v → IsSettled n (number_of_cycle started) ins before forced (IsHeldAmong n (held_nets rs) (k + 1)) (slice_set v r.net.0 b)
+register_settles n rs k r started ins before forced v value b there holds f g settled =
+    let (low, high) = held_within n r.net.0 r.init r.pin.0 holds in
+    own_settle n (number_of_cycle started) ins before forced v (IsHeldAmong n (held_nets rs) k) (IsHeldAmong n (held_nets rs) (k + 1)) r.net.0 value b settled low high
+    (λ y q apart. held_fewer n (held_nets rs) k y q (λ same. apart (same ∙ net_index (λ (h : Held). h.net.0) rs k r there)))
+    (λ y q i m. no_table_reads_none n r.net.0 y q.0 i m)
+    (f ∙ held_value (node_of n r.net.0) r.init r.pin.0 started before v holds)
+    g

@@ -1,0 +1,37 @@
+use Rattle.std.proofs.Common.{◌∙◌, true, arith}
+use Rattle.net_simulator.specs.Settled.{forced_at, number_of_cycle, IsNoTable, IsAmong, IsAnyNet}
+use Rattle.net_simulator.specs.Tables.{entry_nets}
+use Rattle.net_simulator.proofs.Settling.{settled_anyway}
+use Rattle.net_simulator.proofs.Lanes.{none_among, all_among}
+use Rattle.net_simulator.proofs.Nodes.{count_within, rest_after, table_settles}
+use Rattle.std.proofs.Common.{length, ◌≤◌}
+use Rattle.std.proofs.lemmas.List.{length-map}
+use Rattle.net_simulator.specs.declared.tables.Entry.{Entry}
+use Rattle.net_simulator.proofs.bits.set_tables.Goals as goal
+
+pub loop-i-init : goal.loop-i-init
+loop-i-init c = record {
+  rest = c.as_slice-rest.ensures.value ∙ c.requires.tables.literals;
+  settled = λ ins first.
+      settled_anyway c.args.net.now.net (number_of_cycle c.args.started) ins c.args.before.now (forced_at c.args.forced.now) (IsNoTable c.args.net.now.net) (IsAmong c.args.net.now.net (entry_nets c.args.tables.now.entries.items) 0) c.args.now.now 0 true
+      first (λ y h q. none_among c.args.net.now.net (entry_nets c.args.tables.now.entries.items) y q);
+}
+
+pub split_at-requires : goal.split_at-requires
+split_at-requires c = count_within c.args.net.now.net c.args.tables.now c.requires.tables c.loop-i.i c.entry_at-entry.result c.entry_at-entry.ensures.there c.loop-i.rest.now c.loop-i.invariant.rest
+
+pub loop-i-preserved : goal.loop-i-preserved
+loop-i-preserved c = record {
+  rest = c.split_at.ensures.back ∙ rest_after c.args.net.now.net c.args.tables.now c.requires.tables c.loop-i.i c.entry_at-entry.result c.entry_at-entry.ensures.there c.loop-i.rest.now c.loop-i.invariant.rest;
+  settled = λ ins first.
+      table_settles c.args.net.now.net c.args.tables.now c.requires.tables c.loop-i.i c.entry_at-entry.result c.entry_at-entry.ensures.there c.loop-i.rest.now c.loop-i.invariant.rest
+      c.split_at.result.0.now c.args.started ins c.args.before.now (forced_at c.args.forced.now) c.loop-i.now c.table_bit.result c.forced_bit.result
+      c.split_at.ensures.front c.table_bit.ensures c.forced_bit.ensures (c.loop-i.invariant.settled ins first);
+}
+
+pub returns : goal.returns
+returns c = λ ins first.
+    let long = length-map c.args.tables.now.entries.items (λ (e : Entry). e.net.0) in
+    let all : length (entry_nets c.args.tables.now.entries.items) ≤ c.loop-i.i = omega (arith, long) in
+    settled_anyway c.args.net.now.net (number_of_cycle c.args.started) ins c.args.before.now (forced_at c.args.forced.now) (IsAmong c.args.net.now.net (entry_nets c.args.tables.now.entries.items) c.loop-i.i) IsAnyNet c.loop-i.now 0 true
+    (c.loop-i.invariant.settled ins first) (λ y h q. all_among c.args.net.now.net (entry_nets c.args.tables.now.entries.items) c.loop-i.i c.requires.tables.order all y)

@@ -1,0 +1,9 @@
+use Rattle.net_simulator.specs.Settled.{marked}
+use Rattle.net_simulator.proofs.Triples.{one_triple_more}
+use Rattle.net_simulator.proofs.wide.force.Goals as goal
+
+pub loop-i-preserved : goal.loop-i-preserved
+loop-i-preserved c = record {
+  forced = λ j x l. one_triple_more j c.args.triples.now c.loop-i.i x (record { 0 = 0 }, 0, 0) (marked c.force.new.self j x) (marked c.loop-i.marks j x) c.loop-i-test.true (c.loop-i.invariant.forced j x l) (c.force.ensures.forced j x l);
+  sized = c.force.ensures.sized _ c.loop-i.invariant.sized;
+}

@@ -1,0 +1,28 @@
+-- Only private functions cite this: what the fields of the two simulators hold.
+use Rattle.std.specs.Prelude.{◌≡◌, length}
+use Rattle.flat_net.specs.Net.{net_count}
+use Rattle.net_simulator.specs.Cycle.{Run, WideRun}
+use Rattle.net_simulator.specs.Settled.{last_of, AreMarks}
+use Rattle.net_simulator.specs.Tables.{AreTables}
+use Rattle.net_simulator.specs.declared.sim.Sim.TheInside as single
+use Rattle.net_simulator.specs.declared.wide.WideSim.TheInside as wide
+
+abbrev pub run_of : single.Inside → Run
+run_of s = record { net = s.net.now.net; last = last_of s.started s.bits.items }
+
+-- there is a bit for each net in two cycles, and what is forced on each in the next
+pub record IsSim (s : single.Inside) : Type 0 where
+  pub bits : length s.bits.items ≡ net_count s.net.now.net
+  pub before : length s.before.items ≡ net_count s.net.now.net
+  pub forced : length s.forced.items ≡ net_count s.net.now.net
+  pub tables : AreTables s.net.now.net s.tables
+
+abbrev pub wide_run_of : wide.Inside → WideRun
+wide_run_of s = record { net = s.net.now.net; last = last_of s.started s.words.items }
+
+-- there is a word for each net in two cycles, and what is forced on each in the next
+pub record IsWideSim (s : wide.Inside) : Type 0 where
+  pub words : length s.words.items ≡ net_count s.net.now.net
+  pub before : length s.before.items ≡ net_count s.net.now.net
+  pub marks : AreMarks (net_count s.net.now.net) s.marks
+  pub tables : AreTables s.net.now.net s.tables
