@@ -4,7 +4,7 @@ use Rattle.std.specs.Prelude.{All, Contains, slice_get, option_and_then, option_
 use Rattle.std.specs.Option.{option_map_or}
 use mathlib.Core.Path.{fun_ext}
 use Rattle.std.proofs.lemmas.Bool.{cases_lt}
-use Rattle.std.proofs.lemmas.List.{get_or_default, get_or_push, get_or_append_left, length_push, length-map}
+use Rattle.std.proofs.lemmas.List.{get_or_default, get_or_push, get_or_append_left, get_or_past, length_push, length-map}
 use Rattle.std.proofs.lemmas.List.Elements.{Contains-append_left, Contains-append_right}
 use Rattle.std.proofs.lemmas.Option.{slice_get-get_or}
 use Rattle.blif_text.specs.Kind.{is_among}
@@ -19,7 +19,7 @@ use Rattle.hierarchy.specs.Faults.{element_fault}
 use Rattle.hierarchy.specs.Ports.{ports_of}
 use Rattle.hierarchy.specs.Walk.{model_at}
 use Rattle.hierarchy.specs.Flat.{no_model}
-use Rattle.hierarchy.specs.Counts.{Use, is_formal, uses_with, fixed_with, uses_to, fixed_to, uses_in, fixed_in, count_at, count_named, IsTold, IsOutcome, AreCounted, ArePlaces}
+use Rattle.hierarchy.specs.Counts.{Use, is_formal, uses_with, fixed_with, uses_to, fixed_to, uses_in, fixed_in, count_at, count_named, IsTold, IsCount, IsOutcome, AreCounted, AreCounts, ArePlaces}
 use Rattle.hierarchy.proofs.SoundStatements.{IsSoundPlacing, placing_sound, each_faultless}
 use Rattle.hierarchy.proofs.Moved.{at_model}
 
@@ -108,3 +108,11 @@ model_counted models limit item x found keys names positions items counts depth 
 
     at : model_at library x ≡ plain_model item
     at = at_model models x item below is
+
+-- each count that is there is exact
+pub counts_exact : (library : List PlainModel) (limit : ℕ) (order : List ℕ) (counts : List (Option Count)) → AreCounted library limit order counts → AreCounts library order counts
+counts_exact library limit order counts counted = record { exact = λ place depth count is deep. exact place depth count is deep (cases_lt place (length counts)) }
+  where
+    exact : (place depth : ℕ) (count : Count) → get_or counts place None ≡ Some count → place ≤ depth → (place < length counts) ⊎ (length counts ≤ place) → IsCount count (fixed_in library depth (get_or order place 0)) (uses_in library depth (get_or order place 0))
+    exact place depth count is deep (inl l) = subst (λ o. IsOutcome limit o (fixed_in library depth (get_or order place 0)) (uses_in library depth (get_or order place 0))) is (counted place depth l deep)
+    exact place depth count is deep (inr l) = absurd (let none : get_or counts place None ≡ None = get_or_past counts place None l in let same : None ≡ Some count = sym none ∙ is in cc)

@@ -15,11 +15,12 @@ use Rattle.tmr_base.specs.declared.ids.Edge.{Edge}
 use Rattle.hierarchy.specs.declared.chains.Way.{Way}
 use Rattle.hierarchy.specs.Graph.{graph, names_of, number_named, placed_of, row}
 use Rattle.hierarchy.specs.Found.{IsOrder}
-use Rattle.hierarchy.specs.Flat.{Level, NetTable, NetRegister, no_model, step, path_of, actual_of, resolve, resolved_control, elements_with, elements_to}
+use Rattle.hierarchy.specs.Flat.{Level, no_model, step, path_of, actual_of, resolve, resolved_control, elements_with, elements_to}
 use Rattle.hierarchy.specs.Counts.{control_names, element_names, ArePlaces}
 use Rattle.hierarchy.specs.Links.{IsBare, is_bare_element}
 use Rattle.hierarchy.specs.Walk.{model_at, no_element, placed_element}
-use Rattle.hierarchy.specs.Chains.{nets_in, placed_all, bound_at, is_plain_element, IsOnly, IsHandedOn, IsHandedWay, IsEndWay, IsWay, AreWays, way_at, way_named, StandFor}
+use Rattle.hierarchy.specs.Chains.{nets_in, placed_all, bound_at, IsOnly, IsHandedOn, IsHandedWay, IsWay, AreWays, way_at, way_named}
+use Rattle.hierarchy.proofs.Substitutes.{StandFor}
 use Rattle.hierarchy.proofs.AllCounts.{placed_there, row_at}
 use Rattle.hierarchy.proofs.BareLaws.{bare_target}
 use Rattle.hierarchy.proofs.Coming.{no_target, instance_first}
@@ -149,16 +150,6 @@ module _ (library : List PlainModel) (holds : List Bool) (bare : (x : ℕ) → s
       ∙ (only_made es i (record { within = (let w = only.within in omega arith); others = λ k l ne. only.others (suc k) (omega arith) (omega arith) }) depth (number + 1) levels
       ∙ ap (λ n. elements_with (elements_to library depth) levels n (slice_index_or es i no_element ∷ [])) (omega arith))
 
-  -- tables and registers are all there is
-  pub made_plain : (es : List PlainElement) → list_all (is_plain_element (names_of library) holds) es ≡ true → (depth number : ℕ) (levels : List Level) → elements_with (elements_to library depth) levels number es ≡ placed_all levels es
-  unfolding elements_with
-  made_plain [] h depth number levels = refl
-  made_plain (Table pins out cover ∷ es) h depth number levels = ap (λ rest. NetTable (map (resolve levels) pins) (resolve levels out) cover ∷ rest) (made_plain es (and_both (is_plain_element (names_of library) holds) (Table pins out cover) es h).1 depth number levels)
-  made_plain (Register pin out control init ∷ es) h depth number levels = ap (λ rest. NetRegister (resolve levels pin) (resolve levels out) (resolved_control levels control) init ∷ rest) (made_plain es (and_both (is_plain_element (names_of library) holds) (Register pin out control init) es h).1 depth number levels)
-  made_plain (Instance model bindings ∷ es) h depth number levels =
-      let both = and_both (is_plain_element (names_of library) holds) (Instance model bindings) es h in
-      bare_first (Instance model bindings) es depth number levels both.0 ∙ made_plain es both.1 depth (number + 1) levels
-
 -- ---- one level in
 
 pub into_model : (library : List PlainModel) (depth y : ℕ) (levels : List Level) (model : List ℕ) → number_named (names_of library) model ≡ Some y → elements_to library (suc depth) levels model ≡ elements_with (elements_to library depth) levels 0 (model_at library y).elements
@@ -190,19 +181,6 @@ module _ (library : List PlainModel) (order : List ℕ) (ordered : IsOrder (grap
         where
           earlier : (j : ℕ) × (j < place) × (get_or order j 0 ≡ get_or (row (graph library) x) t 0) → (j : ℕ) × (j < place) × (get_or order j 0 ≡ y)
           earlier (j, lower, same) = (j, lower, same ∙ (get_or_default (row (graph library) x) t 0 y within_row ∙ is_y))
-
-  -- the way of a model that holds tables and registers alone
-  pub end_is : (holds : List Bool) (place x : ℕ) (way : Way) → ((x : ℕ) → slice_index_or holds x true ≡ false → IsBare library (model_at library x).elements) → get_or order place 0 ≡ x → IsEndWay (names_of library) holds (model_at library x).elements x way → IsWay library order place way
-  end_is holds place x way bare at end = record {
-    end = place;
-    before = omega arith;
-    base = at ∙ sym end.base;
-    elements = (model_at library x).elements;
-    made = λ depth number levels deep. subst (λ v. elements_with (elements_to library depth) levels number (model_at library v).elements ≡ placed_all levels (model_at library x).elements) (sym end.base) (made_plain library holds bare (model_at library x).elements end.plain depth number levels);
-    bound = λ name among. ap is_some (end.bound name among);
-    same = λ depth number levels deep. subst (λ v. elements_with (elements_to library depth) levels number (model_at library v).elements ≡ placed_all (bound_at way.nets.items levels) (model_at library x).elements) (sym at)
-        (made_plain library holds bare (model_at library x).elements end.plain depth number levels ∙ sym (nets_same (bound_at way.nets.items levels) levels (model_at library x).elements (λ name among. itself way.nets.items levels name (end.bound name among))));
-  }
 
   -- the way of a model that holds one statement alone
   module _ (holds : List Bool) (bare : (x : ℕ) → slice_index_or holds x true ≡ false → IsBare library (model_at library x).elements) (place i : ℕ) (model : List ℕ) (bindings : List (List ℕ × List ℕ)) (here : place < length order) (only : IsOnly (names_of library) holds (model_at library (get_or order place 0)).elements i) (is : get_or (model_at library (get_or order place 0)).elements i no_element ≡ Instance model bindings) where

@@ -33,7 +33,9 @@ pub mod SoundStatements
 pub mod AllCounts
 pub mod FlatCosts
 pub mod MainCosts
+pub mod Substitutes
 pub mod ChainLaws
+pub mod Lifted
 pub mod OneElement
 pub mod Handing
 pub mod Ways

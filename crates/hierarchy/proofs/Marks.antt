@@ -1,8 +1,7 @@
 -- The marks of open initial values fit the design.
-use Rattle.std.proofs.Common.{◌≡◌, cond, ℕ, zero, suc, ◌+◌, ◌-◌, ◌<◌, ◌≤◌, ◌≢◌, ◌⊎◌, Bool, true, false, List, [], ◌∷◌, ◌++◌, length, map, refl, sym, ap, subst, ◌∙◌, arith, slice_get, Option, Some, None, Result, Ok, Err}
+use Rattle.std.proofs.Common.{◌≡◌, cond, ℕ, zero, suc, ◌+◌, ◌-◌, ◌≢◌, ◌⊎◌, Bool, true, false, List, [], ◌∷◌, length, map, refl, sym, ap, subst, ◌∙◌, arith, slice_get, Option, Some, None, Result, Ok, Err}
 use Rattle.std.specs.Prelude.{count_by, flat_map, MatchResult, IfOk, IfErr, IsErrAnd}
 use Rattle.std.specs.Option.{unwrap_or}
-use Rattle.std.specs.List.{sum_by}
 use Rattle.std.proofs.lemmas.List.Sums.{sum_by-cons}
 use Rattle.blif_text.specs.declared.library.Init.{Init}
 use Rattle.blif_text.specs.declared.library.Init.TheVariants.{Zero, One, Free, Unknown}

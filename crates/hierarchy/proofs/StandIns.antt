@@ -9,7 +9,8 @@ use Rattle.hierarchy.specs.Library.{IsPlaceable}
 use Rattle.hierarchy.specs.Flat.{Level, NetTable, NetRegister, step, path_of, resolve, resolved_control, main_of, main_level, elements_with, elements_to, flat_elements, flat_model}
 use Rattle.hierarchy.specs.Clash.{walked, clash_after}
 use Rattle.hierarchy.specs.Walk.{model_at, no_element}
-use Rattle.hierarchy.specs.Chains.{StandFor, AreStandIns, IsStandIn, IsSameFlat}
+use Rattle.hierarchy.specs.Chains.{IsSameFlat}
+use Rattle.hierarchy.proofs.Substitutes.{StandFor, AreStandIns, IsStandIn}
 use Rattle.hierarchy.proofs.Totals.{first_model}
 use Rattle.hierarchy.proofs.MainCosts.{few_placed, main_place}
 use Rattle.hierarchy.proofs.ChainLaws.{into_model, order_within}

@@ -17,13 +17,16 @@ use Rattle.hierarchy.specs.declared.chains.Way.{Way}
 use Rattle.hierarchy.specs.Graph.{graph, names_of, number_named}
 use Rattle.hierarchy.specs.Found.{IsOrder}
 use Rattle.hierarchy.specs.Flat.{no_model}
-use Rattle.hierarchy.specs.Counts.{ArePlaces}
+use Rattle.hierarchy.specs.declared.count.Count.{Count}
+use Rattle.hierarchy.specs.Counts.{ArePlaces, AreCounts, count_at}
 use Rattle.hierarchy.specs.Links.{IsBare}
 use Rattle.hierarchy.specs.Walk.{model_at, no_element}
-use Rattle.hierarchy.specs.Chains.{IsOnly, IsHandedWay, IsEndWay, IsWay, AreWays, way_at, way_named, StandFor, AreElementsFor, IsShort, AreStandIns}
+use Rattle.hierarchy.specs.Chains.{IsOnly, IsHandedWay, IsEndWay, IsWay, AreWays, way_at, way_named, AreElementsFor, IsShort}
+use Rattle.hierarchy.proofs.Substitutes.{StandFor, AreStandIns}
 use Rattle.hierarchy.proofs.Moved.{at_model}
 use Rattle.hierarchy.proofs.OneElement.{element_is}
-use Rattle.hierarchy.proofs.ChainLaws.{order_within, handed_way, end_is, itself_stands, way_stands}
+use Rattle.hierarchy.proofs.ChainLaws.{order_within, handed_way, itself_stands, way_stands}
+use Rattle.hierarchy.proofs.Lifted.{end_is}
 
 module _ (models : List BlifModel) (names : List (List ℕ)) (holds : List Bool) (order positions : List ℕ) (ways : List (Option Way)) (x : ℕ) (item : BlifModel) (elements : List Element) (named : names ≡ names_of (map plain_model models)) (bare : (x : ℕ) → slice_index_or holds x true ≡ false → IsBare (map plain_model models) (model_at (map plain_model models) x).elements) (ordered : IsOrder (graph (map plain_model models)) order) (here : length ways < length order) (at : get_or order (length ways) 0 ≡ x) (is : item ≡ get_or models x item) (are : elements ≡ item.elements.items) where
   abbrev library : List PlainModel
@@ -47,9 +50,12 @@ module _ (models : List BlifModel) (names : List (List ℕ)) (holds : List Bool)
       here_too : i < length elements
       here_too = let w = only.within in omega (arith, w, length-map elements plain_element)
 
-  -- the way of a model that holds tables and latches alone
-  pub next_end : (way : Way) → IsEndWay names holds (map plain_element elements) x way → IsWay library order (length ways) way
-  next_end way h = end_is library order ordered holds (length ways) x way bare at (subst (λ es. IsEndWay (names_of library) holds es x way) (sym (ap (λ v. (model_at library v).elements) (sym at) ∙ elements_are)) (subst (λ ns. IsEndWay ns holds (map plain_element elements) x way) named h))
+-- the way of a model at which chains may end
+pub next_end : (models : List BlifModel) (order positions : List ℕ) (counts : List (Option Count)) (place x : ℕ) (way : Way) → IsOrder (graph (map plain_model models)) order → ArePlaces order positions → AreCounts (map plain_model models) order counts → place < length order → get_or order place 0 ≡ x → IsEndWay (count_at positions counts x) x way → IsWay (map plain_model models) order place way
+next_end models order positions counts place x way ordered places counted here at h = end_is (map plain_model models) order ordered counts place x way counted here at (subst (λ o. IsEndWay o x way) found h)
+  where
+    found : count_at positions counts x ≡ get_or counts place None
+    found = ap (option_and_then (λ p. get_or counts p None)) (subst (λ v. slice_get positions v ≡ Some place) at (places place here))
 
 -- one way more
 pub ways_more : (library : List PlainModel) (order : List ℕ) (ways : List (Option Way)) (found : Option Way) → AreWays library order ways → IfSome found (λ way. IsWay library order (length ways) way) → AreWays library order (ways ++ found ∷ [])

@@ -2,14 +2,14 @@
 -- promise is said of the flat elements alone.
 use Rattle.std.specs.Prelude.{◌≡◌, ◌≢◌, ◌≤◌, ◌<◌, ℕ, Bool, true, List, [], ◌∷◌, ◌⊎◌, length, flat_map, slice_get, slice_index, slice_index_or, option_and_then, Option, Some, None}
 use Rattle.std.specs.Option.{is_some}
-use Rattle.std.specs.List.{list_all}
 use Rattle.blif_text.specs.Kind.{is_among}
-use Rattle.blif_text.specs.Models.{PlainElement, Table, Register, Instance, PlainModel}
+use Rattle.blif_text.specs.Models.{PlainElement, Instance, PlainModel}
 use Rattle.hierarchy.specs.declared.chains.Way.{Way}
 use Rattle.hierarchy.specs.Graph.{names_of, number_named}
 use Rattle.hierarchy.specs.Flat.{Level, NetElement, actual_of, elements_with, elements_to, flat_model}
 use Rattle.hierarchy.specs.Clash.{name_clash}
-use Rattle.hierarchy.specs.Counts.{element_names}
+use Rattle.hierarchy.specs.declared.count.Count.{Count}
+use Rattle.hierarchy.specs.Counts.{element_names, used}
 use Rattle.hierarchy.specs.Links.{is_bare_element}
 use Rattle.hierarchy.specs.Walk.{model_at, no_element, placed_element}
 
@@ -24,12 +24,6 @@ placed_all levels elements = flat_map (placed_element levels) elements
 -- one level further in, where these names are bound
 abbrev pub bound_at : List (List ℕ × List ℕ) → List Level → List Level
 bound_at nets levels = record { path = []; bindings = nets } ∷ levels
-
--- a table or a register, or a statement that places nothing that holds an element
-abbrev pub is_plain_element : List (List ℕ) → List Bool → PlainElement → Bool
-is_plain_element names holds (Table pins out cover) = true
-is_plain_element names holds (Register pin out control init) = true
-is_plain_element names holds (Instance model bindings) = is_bare_element names holds (Instance model bindings)
 
 -- the element with this number alone may hold elements
 pub record IsOnly (names : List (List ℕ)) (holds : List Bool) (elements : List PlainElement) (i : ℕ) : Type 0 where
@@ -46,15 +40,18 @@ abbrev pub IsHandedWay : Option Way → List (List ℕ × List ℕ) → Way → 
 IsHandedWay None bindings way = ⊥
 IsHandedWay (Some placed) bindings way = (way.base ≡ placed.base) × IsHandedOn placed.nets.items (actual_of bindings) way.nets.items
 
--- the way of a model without statements that hold an element: each name that stands there is bound to itself
-pub record IsEndWay (names : List (List ℕ)) (holds : List Bool) (elements : List PlainElement) (x : ℕ) (way : Way) : Type 0 where
+-- the way of a model with this number and count, where only formals stand below it: each of these is bound to itself
+pub record IsEndWay (found : Option Count) (x : ℕ) (way : Way) : Type 0 where
+  pub count : Count
+  pub is : found ≡ Some count
+  pub closed : count.places ≡ 0
   pub base : way.base ≡ x
-  pub plain : list_all (is_plain_element names holds) elements ≡ true
-  pub bound : (name : List ℕ) → is_among (nets_in elements) name ≡ true → actual_of way.nets.items name ≡ Some name
+  pub bound : (name : List ℕ) → used count name ≢ 0 → actual_of way.nets.items name ≡ Some name
 
 -- from this depth on, statements have these flat elements
 abbrev pub IsMadeOf : List PlainModel → ℕ → List PlainElement → (List Level → List NetElement) → Type 0
-IsMadeOf library bound elements flat = (depth number : ℕ) (levels : List Level) → bound ≤ depth → elements_with (elements_to library depth) levels number elements ≡ flat levels
+IsMadeOf library bound elements flat = (depth number : ℕ) (levels : List Level) → bound ≤ depth
+    → elements_with (elements_to library depth) levels number elements ≡ flat levels
 
 -- the model at this place of the order has the flat elements of the way's model, where the way binds what stands there
 pub record IsWay (library : List PlainModel) (order : List ℕ) (place : ℕ) (way : Way) : Type 0 where
@@ -77,12 +74,6 @@ way_at positions ways x = option_and_then (λ place. slice_index_or ways place N
 abbrev pub way_named : List (List ℕ) → List ℕ → List (Option Way) → List ℕ → Option Way
 way_named names positions ways model = option_and_then (way_at positions ways) (number_named names model)
 
--- these elements may stand for those of the model at this place of the order: they are the same flat elements, and place
--- models that stand before it alone
-pub record StandFor (library : List PlainModel) (order : List ℕ) (place : ℕ) (elements : List PlainElement) : Type 0 where
-  pub same : (depth : ℕ) (levels : List Level) → place ≤ depth → elements_with (elements_to library depth) levels 0 elements ≡ elements_with (elements_to library depth) levels 0 (model_at library (slice_index order place)).elements
-  pub placed : (i : ℕ) (model : List ℕ) (bindings : List (List ℕ × List ℕ)) (y : ℕ) → i < length elements → slice_index_or elements i no_element ≡ Instance model bindings → number_named (names_of library) model ≡ Some y → (j : ℕ) × (j < place) × (slice_index order j ≡ y)
-
 -- these elements are those of the model with this number, or the statement of its way alone
 pub record IsOfWay (library : List PlainModel) (positions : List ℕ) (ways : List (Option Way)) (x : ℕ) (elements : List PlainElement) : Type 0 where
   pub way : Way
@@ -100,18 +91,6 @@ pub record IsShort (library : List PlainModel) (positions : List ℕ) (ways : Li
   pub inputs : m.inputs ≡ (model_at library x).inputs
   pub outputs : m.outputs ≡ (model_at library x).outputs
   pub elements : AreElementsFor library positions ways x m.elements
-
--- the model may stand for that of this number, with the same name and ports
-pub record IsStandIn (library : List PlainModel) (order : List ℕ) (x : ℕ) (m : PlainModel) : Type 0 where
-  pub name : m.name ≡ (model_at library x).name
-  pub inputs : m.inputs ≡ (model_at library x).inputs
-  pub outputs : m.outputs ≡ (model_at library x).outputs
-  pub elements : (place : ℕ) → place < length order → slice_index order place ≡ x → StandFor library order place m.elements
-
--- each model may stand for that of the same number
-pub record AreStandIns (library : List PlainModel) (order : List ℕ) (models : List PlainModel) : Type 0 where
-  pub long : length models ≡ length library
-  pub each : (x : ℕ) → x < length library → IsStandIn library order x (model_at models x)
 
 -- the models have the same names, and the same comes of them
 pub record IsSameFlat (library models : List PlainModel) : Type 0 where

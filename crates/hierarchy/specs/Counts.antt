@@ -41,9 +41,12 @@ element_names (Instance model bindings) = []
 -- the nets that stand in the flat elements of statements, each as often as it stands there
 unfoldable pub uses_with : (List ℕ → Bool) → (List ℕ → List Use) → ℕ → List PlainElement → List Use
 uses_with is_formal inner number [] = []
-uses_with is_formal inner number (Table pins out cover ∷ elements) = map (use_of is_formal) (pins ++ out ∷ []) ++ uses_with is_formal inner number elements
-uses_with is_formal inner number (Register pin out control init ∷ elements) = map (use_of is_formal) (pin ∷ out ∷ control_names control) ++ uses_with is_formal inner number elements
-uses_with is_formal inner number (Instance model bindings ∷ elements) = map (placed_use is_formal number bindings) (inner model) ++ uses_with is_formal inner (number + 1) elements
+uses_with is_formal inner number (Table pins out cover ∷ elements) =
+    map (use_of is_formal) (pins ++ out ∷ []) ++ uses_with is_formal inner number elements
+uses_with is_formal inner number (Register pin out control init ∷ elements) =
+    map (use_of is_formal) (pin ∷ out ∷ control_names control) ++ uses_with is_formal inner number elements
+uses_with is_formal inner number (Instance model bindings ∷ elements) =
+    map (placed_use is_formal number bindings) (inner model) ++ uses_with is_formal inner (number + 1) elements
 
 abbrev pub control_fixed : Option (Edge × List ℕ) → ℕ
 control_fixed None = 0
@@ -70,11 +73,13 @@ is_formal library (suc x) name = is_among (model_at library (suc x)).inputs name
 -- the nets of the model of this name, which has at most so many models below one another
 unfoldable pub uses_to : List PlainModel → ℕ → List ℕ → List Use
 uses_to library zero name = []
-uses_to library (suc depth) name = option_map_or (λ x. uses_with (is_formal library x) (uses_to library depth) 0 (model_at library x).elements) (number_named (names_of library) name) []
+uses_to library (suc depth) name =
+    option_map_or (λ x. uses_with (is_formal library x) (uses_to library depth) 0 (model_at library x).elements) (number_named (names_of library) name) []
 
 unfoldable pub fixed_to : List PlainModel → ℕ → List ℕ → ℕ
 fixed_to library zero name = 0
-fixed_to library (suc depth) name = option_map_or (λ x. fixed_with (fixed_to library depth) (model_at library x).elements) (number_named (names_of library) name) 0
+fixed_to library (suc depth) name =
+    option_map_or (λ x. fixed_with (fixed_to library depth) (model_at library x).elements) (number_named (names_of library) name) 0
 
 -- those of the model of this number
 abbrev pub uses_in : List PlainModel → ℕ → ℕ → List Use
@@ -218,7 +223,13 @@ IsAdded limit true old new fixed uses = Adds old new fixed (sum_of uses)
 
 -- each count is that of the model at its place in the order, which has no more models below one another than stand before it
 abbrev pub AreCounted : List PlainModel → ℕ → List ℕ → List (Option Count) → Type 0
-AreCounted library limit order counts = (place depth : ℕ) → place < length counts → place ≤ depth → IsOutcome limit (slice_index_or counts place None) (fixed_in library depth (slice_index order place)) (uses_in library depth (slice_index order place))
+AreCounted library limit order counts = (place depth : ℕ) → place < length counts → place ≤ depth
+    → IsOutcome limit (slice_index_or counts place None) (fixed_in library depth (slice_index order place)) (uses_in library depth (slice_index order place))
+
+-- each count that is there is exactly that of the model at its place in the order
+pub record AreCounts (library : List PlainModel) (order : List ℕ) (counts : List (Option Count)) : Type 0 where
+  pub exact : (place depth : ℕ) (count : Count) → slice_index_or counts place None ≡ Some count → place ≤ depth
+      → IsCount count (fixed_in library depth (slice_index order place)) (uses_in library depth (slice_index order place))
 
 -- the place of each number of the order
 abbrev pub ArePlaces : List ℕ → List ℕ → Type 0

@@ -1,4 +1,5 @@
--- The flat elements of a library: the main model's tables and registers in order, with the elements of each placed model at the place of its `.subckt` statement.
+-- The flat elements of a library: the main model's tables and registers in order, with the elements of each placed model at the
+-- place of its `.subckt` statement.
 use Rattle.std.specs.Prelude.{ℕ, zero, suc, ◌+◌, List, [], ◌∷◌, ◌++◌, length, map, Option, Some, None, if◌then◌else◌}
 use Rattle.std.specs.Option.{option_map_or}
 use Rattle.std.specs.Str.{bytes_eq}
@@ -59,9 +60,14 @@ resolved_control levels (Some (edge, name)) = Some (edge, resolve levels name)
 -- the elements of statements, of which the first `.subckt` has this number, where `inner` gives those of the models that they place
 unfoldable pub elements_with : (List Level → List ℕ → List NetElement) → List Level → ℕ → List PlainElement → List NetElement
 elements_with inner levels number [] = []
-elements_with inner levels number (Table pins out cover ∷ elements) = NetTable (map (resolve levels) pins) (resolve levels out) cover ∷ elements_with inner levels number elements
-elements_with inner levels number (Register pin out control init ∷ elements) = NetRegister (resolve levels pin) (resolve levels out) (resolved_control levels control) init ∷ elements_with inner levels number elements
-elements_with inner levels number (Instance model bindings ∷ elements) = inner (record { path = path_of levels ++ step number; bindings = bindings } ∷ levels) model ++ elements_with inner levels (number + 1) elements
+elements_with inner levels number (Table pins out cover ∷ elements) =
+    NetTable (map (resolve levels) pins) (resolve levels out) cover ∷ elements_with inner levels number elements
+elements_with inner levels number (Register pin out control init ∷ elements) =
+    NetRegister (resolve levels pin) (resolve levels out) (resolved_control levels control) init
+    ∷ elements_with inner levels number elements
+elements_with inner levels number (Instance model bindings ∷ elements) =
+    inner (record { path = path_of levels ++ step number; bindings = bindings } ∷ levels) model
+    ++ elements_with inner levels (number + 1) elements
 
 -- the elements of the model of this name placed at these levels, which has at most so many models below one another
 unfoldable pub elements_to : List PlainModel → ℕ → List Level → List ℕ → List NetElement

@@ -64,7 +64,8 @@ IsTextFault library limit Memory = Unit {0}
 abbrev pub IsFlatFault : List PlainModel → ℕ → FlatFault → Type 0
 IsFlatFault library limit TooLarge = IsSound library × (limit < text_length (flat_model library))
 IsFlatFault library limit (NameClash name) = IsSound library × Fits library limit × (name_clash library ≡ Some name)
-IsFlatFault library limit (NetOf fault) = IsSound library × Fits library limit × (name_clash library ≡ None) × (fault ≢ net.Memory) × IsFaultOf (draft_of (flat_model library)) fault
+IsFlatFault library limit (NetOf fault) =
+    IsSound library × Fits library limit × (name_clash library ≡ None) × (fault ≢ net.Memory) × IsFaultOf (draft_of (flat_model library)) fault
 IsFlatFault library limit (UnknownModel name) = IsFirstFault library (placing.UnknownModel name)
 IsFlatFault library limit (UnboundInput name) = IsFirstFault library (placing.UnboundInput name)
 IsFlatFault library limit (UnknownFormal name) = IsFirstFault library (placing.UnknownFormal name)

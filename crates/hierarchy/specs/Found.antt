@@ -11,7 +11,8 @@ pub record IsOrder (rows : List (List ℕ)) (order : List ℕ) : Type 0 where
   pub reached : (k : ℕ) → k < length order → Reached rows (slice_index order k)
   pub complete : (x : ℕ) → Reached rows x → Contains order x
   pub once : (j k : ℕ) → j < k → k < length order → slice_index order j ≢ slice_index order k
-  pub after : (k i : ℕ) → k < length order → i < length (row rows (slice_index order k)) → (j : ℕ) × (j < k) × (slice_index order j ≡ slice_index (row rows (slice_index order k)) i)
+  pub after : (k i : ℕ) → k < length order → i < length (row rows (slice_index order k))
+      → (j : ℕ) × (j < k) × (slice_index order j ≡ slice_index (row rows (slice_index order k)) i)
 
 -- an order of the reached models, or a loop
 abbrev pub IsFound : List (List ℕ) → Found → Type 0

@@ -38,7 +38,8 @@ rest_of library depth levels f = elements_with (elements_to library depth) level
 -- the elements still to come of placed models, the innermost first
 unfoldable pub coming_from : List PlainModel → List ℕ → List Frame → List NetElement
 coming_from library path [] = []
-coming_from library path (f ∷ frames) = rest_of library (length library - length frames) (map (level_of library path) (f ∷ frames)) f ++ coming_from library path frames
+coming_from library path (f ∷ frames) =
+    rest_of library (length library - length frames) (map (level_of library path) (f ∷ frames)) f ++ coming_from library path frames
 
 abbrev pub innermost_first : Walk → List Frame
 innermost_first w = reverse w.frames.items
@@ -58,7 +59,8 @@ IsPlacing library (Some (x, i)) = (x < length library) × (i < length (model_at 
 -- paths become shorter outwards
 abbrev pub AreFrames : List PlainModel → ℕ → List Frame → Type 0
 AreFrames library bound [] = Unit {0}
-AreFrames library bound (f ∷ frames) = (f.path_end ≤ bound) × (f.number ≤ f.next) × (f.model < length library) × IsPlacing library f.placing × AreFrames library f.path_end frames
+AreFrames library bound (f ∷ frames) =
+    (f.path_end ≤ bound) × (f.number ≤ f.next) × (f.model < length library) × IsPlacing library f.placing × AreFrames library f.path_end frames
 
 -- the net of a name in the placed model of this depth, where a walk knows it: where its path ends, and its name
 abbrev pub known_net : Walk → ℕ → List ℕ → Option (ℕ × List ℕ)
@@ -67,7 +69,10 @@ known_net w depth name = option_and_then (λ nets. get bytes_eq nets name) (slic
 -- what is known of the net of a name in these placed models is right
 abbrev pub AreKnown : List PlainModel → List ℕ → (ℕ → List ℕ → Option (ℕ × List ℕ)) → List Frame → Type 0
 AreKnown library path known [] = Unit {0}
-AreKnown library path known (f ∷ frames) = ((name : List ℕ) (end : ℕ) (net : List ℕ) → known (length frames) name ≡ Some (end, net) → (end ≤ f.path_end) × (resolve (map (level_of library path) (f ∷ frames)) name ≡ record { path = take end path; name = net })) × AreKnown library path known frames
+AreKnown library path known (f ∷ frames) =
+    ((name : List ℕ) (end : ℕ) (net : List ℕ) → known (length frames) name ≡ Some (end, net)
+    → (end ≤ f.path_end) × (resolve (map (level_of library path) (f ∷ frames)) name ≡ record { path = take end path; name = net }))
+    × AreKnown library path known frames
 
 -- what a walk keeps
 abbrev pub IsWalking : List PlainModel → Walk → Type 0
@@ -98,7 +103,8 @@ moves_to library (suc depth) name = option_map_or (λ m. moves_with (moves_to li
 
 unfoldable pub moves_from : List PlainModel → List Frame → ℕ
 moves_from library [] = 0
-moves_from library (f ∷ frames) = moves_with (moves_to library (length library - length frames)) (drop f.next (model_at library f.model).elements) + moves_from library frames
+moves_from library (f ∷ frames) =
+    moves_with (moves_to library (length library - length frames)) (drop f.next (model_at library f.model).elements) + moves_from library frames
 
 abbrev pub moves : List PlainModel → Walk → ℕ
 moves library w = moves_from library (innermost_first w)
@@ -141,4 +147,5 @@ pub record IsNetWithin (library : List PlainModel) (w : Walk) (actual : List ℕ
 
 -- these formals of a statement have these nets
 abbrev pub AreWithin : List PlainModel → Walk → Link → (List ℕ → Option (ℕ × List ℕ)) → Type 0
-AreWithin library w link nets = (name : List ℕ) (end : ℕ) (net : List ℕ) → nets name ≡ Some (end, net) → (actual : List ℕ) × (get bytes_eq link.actuals name ≡ Some actual) × IsNetWithin library w actual end net
+AreWithin library w link nets = (name : List ℕ) (end : ℕ) (net : List ℕ) → nets name ≡ Some (end, net)
+    → (actual : List ℕ) × (get bytes_eq link.actuals name ≡ Some actual) × IsNetWithin library w actual end net

@@ -3,8 +3,10 @@
 //! A model that holds one `.subckt` statement alone has the flat elements of what that places, on other nets.
 //! Where each of these nets has a name in the model, a statement that places the end of the chain says the
 //! same. These statements are made here, for each model from those that it places.
-ghost use Rattle.std.specs.Prelude.{◌≡◌, ◌<◌, ◌||◌, ℕ, List, true, false, length, map, slice_index, slice_index_or, option_copied, IfOk, OnOk, IfSome};
-ghost use Rattle.std.specs.List.{list_all};
+//!
+//! Any model may be an end whose flat elements stand on its formals alone. Where a model binds few names and the
+//! statement would bind many, or long ones, the model is an end itself, with the few names.
+ghost use Rattle.std.specs.Prelude.{◌≡◌, ◌≢◌, ◌<◌, ℕ, List, true, false, Some, length, map, slice_index, slice_index_or, option_copied, IfOk, IfSome};
 ghost use Rattle.std.specs.Str.{bytes_eq};
 ghost use Rattle.indexmap.specs.IndexMap.{get};
 ghost use Rattle.blif_text.specs.Kind.{is_among};
@@ -12,25 +14,25 @@ ghost use Rattle.blif_text.specs.Views.{plain_model, plain_element};
 ghost use Rattle.hierarchy.specs.Graph.{names_of, graph};
 ghost use Rattle.hierarchy.specs.Found.{IsOrder};
 ghost use Rattle.hierarchy.specs.Flat.{actual_of};
-ghost use Rattle.hierarchy.specs.Counts.{ArePlaces, element_names};
+ghost use Rattle.hierarchy.specs.Counts.{ArePlaces, AreCounts, used, count_at as count_at_number};
 ghost use Rattle.hierarchy.specs.Links.{IsBare};
 ghost use Rattle.hierarchy.specs.Walk.{model_at};
-ghost use Rattle.hierarchy.specs.Chains.{IsHandedOn, IsHandedWay, IsEndWay, IsOnly, IsWay, AreWays, is_plain_element, nets_in, way_at as way_at_number, way_named};
+ghost use Rattle.hierarchy.specs.Chains.{IsHandedOn, IsHandedWay, IsEndWay, IsOnly, IsWay, AreWays, way_at as way_at_number, way_named};
 
 use crate::bare::is_bare;
-use crate::counting::add_names;
+use crate::count::{Count, count_at, times_used};
 use crate::links::bind_actuals;
 use blif_text::{BlifModel, Element};
 use indexmap::{IndexMap, IndexSet};
 use std::alloc::Global;
 use tmr_base::{Name, OutOfMemory};
 
-/// Where a model has more nets than its statement binds, and these besides, it is not handed on: all ways
-/// together are then no larger than the library.
-const MORE: usize = 64;
+/// Where a way would weigh this many times what the bindings of the model's statement do, the chain ends at the
+/// model: all ways together are then no larger than a constant times the library.
+const ROOM: usize = 4;
 
 /// A statement that has the flat elements of a model: it places the model `base` and binds each name that
-/// stands in that model's elements. A model without `.subckt` statements is its own base. The length is the
+/// stands in that model's flat elements. A model at which chains end is its own base. The length is the
 /// number of the statements that it stands for. Only time hangs on it, so no clause speaks of it.
 #[derive(Drop)]
 pub struct Way {
@@ -77,113 +79,50 @@ fn only_filled(names: &IndexSet<Name>, holds: &[bool], elements: &[Element]) -> 
     only
 }
 
-/// The element is a table or a latch, or holds no element.
-fn is_plain(names: &IndexSet<Name>, holds: &[bool], element: &Element) -> bool
-    ensures { result ≡ is_plain_element names.now.keys holds.now (plain_element element.now) }
-{
-    match element {
-        Element::Instance { .. } => is_bare(names, holds, element),
-        Element::Table { .. } | Element::Latch { .. } => true,
-    }
-}
-
-fn are_plain(names: &IndexSet<Name>, holds: &[bool], elements: &[Element]) -> bool
-    ensures { result ≡ list_all (is_plain_element names.now.keys holds.now) (map plain_element elements.now) }
-{
-    for element in elements {
-        if !is_plain(names, holds, element) {
-            return false;
-        }
-    }
-    true
-}
-
-/// One name more, once.
-fn add_name(alloc: Global, set: &mut IndexSet<Name>, name: &Name) -> Result<(), OutOfMemory>
-    ensures { OnOk result ((other : List ℕ) → is_among set.new.keys other ≡ (is_among set.old.keys other || bytes_eq other name.now)) }
-{
-    let copy = name.copy(alloc)?;
-    set.insert(copy)?;
-    Ok(())
-}
-
-/// The names of a table or a latch.
-fn add_element(
+/// Each of these names bound to itself that is a formal with this count and stands somewhere.
+fn bound_among(
     alloc: Global,
-    set: &mut IndexSet<Name>,
-    element: &Element,
-) -> Result<(), OutOfMemory>
-    ensures { OnOk result ((name : List ℕ) → is_among set.new.keys name ≡ (is_among set.old.keys name || is_among (element_names (plain_element element.now)) name)) }
-{
-    match element {
-        Element::Table { pins, out, .. } => {
-            add_names(alloc, set, pins)?;
-            add_name(alloc, set, out)?;
-        }
-        Element::Latch {
-            pin,
-            out,
-            control,
-            ..
-        } => {
-            add_name(alloc, set, pin)?;
-            add_name(alloc, set, out)?;
-            if let Some((_, clock)) = control {
-                add_name(alloc, set, clock)?;
-            }
-        }
-        Element::Instance { .. } => {}
-    }
-    Ok(())
-}
-
-/// The names that stand in tables and latches, each once.
-fn names_in(alloc: Global, elements: &[Element]) -> Result<IndexSet<Name>, OutOfMemory>
-    ensures { IfOk result (λ set. (name : List ℕ) → is_among set.keys name ≡ is_among (nets_in (map plain_element elements.now)) name) }
-{
-    let mut set = IndexSet::new(alloc);
-    for element in elements {
-        add_element(alloc, &mut set, element)?;
-    }
-    Ok(set)
-}
-
-/// Each name bound to itself.
-fn bound_alike(alloc: Global, names: &[Name]) -> Result<Vec<(Name, Name)>, OutOfMemory>
-    ensures { IfOk result (λ nets. (name : List ℕ) → is_among names.now name ≡ true → actual_of nets.items name ≡ Some name) }
+    count: &Count,
+    names: &[Name],
+) -> Result<Vec<(Name, Name)>, OutOfMemory>
+    ensures { IfOk result (λ nets. (name : List ℕ) → is_among names.now name ≡ true → used count.now name ≢ 0 → actual_of nets.items name ≡ Some name) }
 {
     let mut nets = Vec::new(alloc);
     for name in names {
-        let formal = name.copy(alloc)?;
-        let actual = name.copy(alloc)?;
-        nets.push((formal, actual))?;
+        if times_used(count, name) > 0 {
+            let formal = name.copy(alloc)?;
+            let actual = name.copy(alloc)?;
+            nets.push((formal, actual))?;
+        }
     }
     Ok(nets)
 }
 
-/// Each name that stands in tables and latches bound to itself.
-fn bound_names(alloc: Global, elements: &[Element]) -> Result<Vec<(Name, Name)>, OutOfMemory>
-    ensures { IfOk result (λ nets. (name : List ℕ) → is_among (nets_in (map plain_element elements.now)) name ≡ true → actual_of nets.items name ≡ Some name) }
+/// Each formal bound to itself that stands in the model with this count or below it.
+fn bound_formals(alloc: Global, count: &Count) -> Result<Vec<(Name, Name)>, OutOfMemory>
+    ensures { IfOk result (λ nets. (name : List ℕ) → used count.now name ≢ 0 → actual_of nets.items name ≡ Some name) }
 {
-    let stands = names_in(alloc, elements)?;
-    bound_alike(alloc, stands.as_slice())
+    bound_among(alloc, count, count.formals.as_slice())
 }
 
-/// The way of a model that holds tables and latches alone, where it is the end of a chain.
+/// The way of a model with only formals in its flat elements, where a chain may end at it: each of these formals
+/// is bound to itself.
 fn end_way(
     alloc: Global,
-    names: &IndexSet<Name>,
-    holds: &[bool],
     ends: &[bool],
-    elements: &[Element],
+    positions: &[usize],
+    counts: &[Option<Count>],
     x: usize,
 ) -> Result<Option<Way>, OutOfMemory>
-    ensures { IfOk result (λ found. IfSome found (λ way. IsEndWay names.now.keys holds.now (map plain_element elements.now) x way)) }
+    ensures { IfOk result (λ found. IfSome found (λ way. IsEndWay (count_at_number positions.now counts.now x) x way)) }
 {
-    if !matches!(ends.get(x), Some(true)) || !are_plain(names, holds, elements) {
+    let Some(count) = count_at(positions, counts, x) else {
+        return Ok(None);
+    };
+    if count.places > 0 || !matches!(ends.get(x), Some(true)) {
         return Ok(None);
     }
-    let nets = bound_names(alloc, elements)?;
+    let nets = bound_formals(alloc, count)?;
     Ok(Some(Way {
         base: x,
         nets,
@@ -191,19 +130,42 @@ fn end_way(
     }))
 }
 
-/// What a statement binds the nets of a placed model to, or none where it leaves one of them open.
+/// About what a binding takes in memory, beside a constant.
+fn weight_of(formal: &Name, actual: &Name) -> usize {
+    let names = formal.bytes().len().saturating_add(actual.bytes().len());
+    names.saturating_add(16)
+}
+
+/// How much the way of a model may weigh that holds a statement with these bindings.
+fn room_of(bindings: &[(Name, Name)]) -> usize {
+    let mut room: usize = 64;
+    for (formal, actual) in bindings {
+        room = room.saturating_add(weight_of(formal, actual).saturating_mul(ROOM));
+    }
+    room
+}
+
+/// What a statement binds the nets of a placed model to, or none where it leaves one of them open, or where this would
+/// weigh more than there is room for.
 fn handed_nets(
     alloc: Global,
     nets: &[(Name, Name)],
     actuals: &IndexMap<Name, Name>,
+    room: usize,
 ) -> Result<Option<Vec<(Name, Name)>>, OutOfMemory>
     ensures { IfOk result (λ found. IfSome found (λ handed. IsHandedOn nets.now (get bytes_eq actuals.now) handed.items)) }
 {
-    let mut handed = Vec::new(alloc);
+    let mut handed = Vec::with_capacity(alloc, nets.len())?;
+    let mut left = room;
     for (name, net) in nets {
         let Some(actual) = actuals.get(net) else {
             return Ok(None);
         };
+        let weight = weight_of(name, actual);
+        if weight > left {
+            return Ok(None);
+        }
+        left -= weight;
         let name = name.copy(alloc)?;
         let actual = actual.copy(alloc)?;
         handed.push((name, actual))?;
@@ -220,7 +182,7 @@ fn handed_on(
     ensures { IfOk result (λ found. IfSome found (λ handed. IsHandedOn nets.now (actual_of bindings.now) handed.items)) }
 {
     let actuals = bind_actuals(alloc, bindings)?;
-    handed_nets(alloc, nets, &actuals)
+    handed_nets(alloc, nets, &actuals, room_of(bindings))
 }
 
 /// The way of a model that holds this statement alone.
@@ -237,9 +199,6 @@ fn handed_way(
     let Some(placed) = way_of(names, positions, ways, model) else {
         return Ok(None);
     };
-    if placed.nets.len() > bindings.len().saturating_add(MORE) {
-        return Ok(None);
-    }
     match handed_on(alloc, &placed.nets, bindings)? {
         Some(nets) => Ok(Some(Way {
             base: placed.base,
@@ -259,6 +218,7 @@ fn next_way(
     ends: &[bool],
     order: &[usize],
     positions: &[usize],
+    counts: &[Option<Count>],
     ways: &[Option<Way>],
     x: usize,
 ) -> Result<Option<Way>, OutOfMemory>
@@ -266,6 +226,7 @@ fn next_way(
     requires bare { (x : ℕ) → slice_index_or holds.now x true ≡ false → IsBare (map plain_model models.now) (model_at (map plain_model models.now) x).elements }
     requires ordered { IsOrder (graph (map plain_model models.now)) order.now }
     requires places { ArePlaces order.now positions.now }
+    requires counts { AreCounts (map plain_model models.now) order.now counts.now }
     requires ways { AreWays (map plain_model models.now) order.now ways.now }
     requires here { length ways.now < length order.now }
     requires at { slice_index order.now (length ways.now) ≡ x }
@@ -274,10 +235,12 @@ fn next_way(
     let elements = &models[x].elements;
     if let Some(i) = only_filled(names, holds, elements) {
         if let Element::Instance { model, bindings } = &elements[i] {
-            return handed_way(alloc, names, positions, ways, model, bindings);
+            if let Some(way) = handed_way(alloc, names, positions, ways, model, bindings)? {
+                return Ok(Some(way));
+            }
         }
     }
-    end_way(alloc, names, holds, ends, elements, x)
+    end_way(alloc, ends, positions, counts, x)
 }
 
 /// The ways of the models of the order, each in its place.
@@ -289,17 +252,19 @@ pub(crate) fn all_ways(
     ends: &[bool],
     order: &[usize],
     positions: &[usize],
+    counts: &[Option<Count>],
 ) -> Result<Vec<Option<Way>>, OutOfMemory>
     requires names { names.now.keys ≡ names_of (map plain_model models.now) }
     requires bare { (x : ℕ) → slice_index_or holds.now x true ≡ false → IsBare (map plain_model models.now) (model_at (map plain_model models.now) x).elements }
     requires ordered { IsOrder (graph (map plain_model models.now)) order.now }
     requires places { ArePlaces order.now positions.now }
+    requires counts { AreCounts (map plain_model models.now) order.now counts.now }
     ensures { IfOk result (λ ways. AreWays (map plain_model models.now) order.now ways.items) }
 {
     let mut ways = Vec::new(alloc);
     for x in order {
         let way = next_way(
-            alloc, models, names, holds, ends, order, positions, &ways, *x,
+            alloc, models, names, holds, ends, order, positions, counts, &ways, *x,
         )?;
         ways.push(way)?;
     }

@@ -14,11 +14,7 @@ use std::alloc::{AllocError, Global};
 use tmr_base::{Name, OutOfMemory};
 
 /// These names, each once.
-pub(crate) fn add_names(
-    alloc: Global,
-    set: &mut IndexSet<Name>,
-    names: &[Name],
-) -> Result<(), OutOfMemory>
+fn add_names(alloc: Global, set: &mut IndexSet<Name>, names: &[Name]) -> Result<(), OutOfMemory>
     ensures { OnOk result ((name : List ℕ) → is_among set.new.keys name ≡ (is_among set.old.keys name || is_among names.now name)) }
 {
     for name in names {

@@ -5,7 +5,7 @@ ghost use Rattle.blif_text.specs.Views.{plain_model, plain_element};
 ghost use Rattle.blif_text.specs.Models.{Instance};
 ghost use Rattle.hierarchy.specs.Graph.{names_of, graph};
 ghost use Rattle.hierarchy.specs.Found.{IsOrder};
-ghost use Rattle.hierarchy.specs.Counts.{ArePlaces};
+ghost use Rattle.hierarchy.specs.Counts.{ArePlaces, AreCounts};
 ghost use Rattle.hierarchy.specs.Library.{IsPlaceable};
 ghost use Rattle.hierarchy.specs.Walk.{model_at};
 ghost use Rattle.hierarchy.specs.Chains.{AreElementsFor, AreWays, IsShort, IsSameFlat};
@@ -25,7 +25,7 @@ use tmr_base::{Name, OutOfMemory};
 fn copy_bindings(alloc: Global, bindings: &[(Name, Name)]) -> Result<Vec<(Name, Name)>, OutOfMemory>
     ensures { IfOk result (λ copies. copies.items ≡ bindings.now) }
 {
-    let mut copies = Vec::new(alloc);
+    let mut copies = Vec::with_capacity(alloc, bindings.len())?;
     for (formal, actual) in bindings {
         let formal = formal.copy(alloc)?;
         let actual = actual.copy(alloc)?;
@@ -73,7 +73,7 @@ fn copy_element(alloc: Global, element: &Element) -> Result<Element, OutOfMemory
 fn copy_elements(alloc: Global, elements: &[Element]) -> Result<Vec<Element>, OutOfMemory>
     ensures { IfOk result (λ copies. map plain_element copies.items ≡ map plain_element elements.now) }
 {
-    let mut copies = Vec::new(alloc);
+    let mut copies = Vec::with_capacity(alloc, elements.len())?;
     for element in elements {
         copies.push(copy_element(alloc, element)?)?;
     }
@@ -109,7 +109,7 @@ fn lone_statement(
 {
     let model = model.copy(alloc)?;
     let bindings = copy_bindings(alloc, bindings)?;
-    let mut elements = Vec::new(alloc);
+    let mut elements = Vec::with_capacity(alloc, 1)?;
     elements.push(Element::Instance { model, bindings })?;
     Ok(elements)
 }
@@ -163,7 +163,7 @@ fn stand_ins(
     ensures long { IfOk result (λ found. length found.items ≡ length models.now) }
     ensures each { IfOk result (λ found. (x : ℕ) → x < length models.now → IsShort (map plain_model models.now) positions.now ways.now x (model_at (map plain_model found.items) x)) }
 {
-    let mut found = Vec::new(alloc);
+    let mut found = Vec::with_capacity(alloc, models.len())?;
     for x in 0..models.len() {
         let is_head = matches!(heads.get(x), Some(true));
         let model = stand_in(alloc, models, positions, ways, is_head, x)?;
@@ -209,12 +209,15 @@ pub(crate) fn cut_short(
     requires placeable { IsPlaceable (map plain_model models.now) }
     requires ordered { IsOrder (graph (map plain_model models.now)) order.now }
     requires places { ArePlaces order.now positions.now }
+    requires counts { AreCounts (map plain_model models.now) order.now counts.now }
     ensures { IfOk result (λ found. IfSome found (λ short. IsSameFlat (map plain_model models.now) (map plain_model short.items))) }
 {
     let holds = filled_models(alloc, names, models, order)?;
     let Some(ends) = end_models(alloc, models, names, &holds, order, positions, counts)? else {
         return Ok(None);
     };
-    let ways = all_ways(alloc, models, names, &holds, &ends, order, positions)?;
+    let ways = all_ways(
+        alloc, models, names, &holds, &ends, order, positions, counts,
+    )?;
     cut_at_heads(alloc, models, names, order, positions, &ways)
 }

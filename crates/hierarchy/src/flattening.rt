@@ -10,7 +10,7 @@ ghost use Rattle.hierarchy.specs.FlatText.{text_length};
 ghost use Rattle.hierarchy.specs.Clash.{name_clash};
 ghost use Rattle.hierarchy.specs.Alone.{is_placing, places_nothing};
 ghost use Rattle.hierarchy.specs.Walk.{IsReady};
-ghost use Rattle.hierarchy.specs.Counts.{ArePlaces};
+ghost use Rattle.hierarchy.specs.Counts.{ArePlaces, AreCounts};
 ghost use Rattle.hierarchy.specs.Naming.{IsClash};
 ghost use Rattle.hierarchy.specs.Flatten.{IsSound, IsSoundFault, IsTextFault, IsFlatFault, IsSameFault, IsFlat, IsFreeFlat, Fits, flat_fault_of};
 ghost use Rattle.hierarchy.specs.Sizes.{row_total};
@@ -122,6 +122,7 @@ fn named_flat(
     requires placeable { IsPlaceable (map plain_model models.now) }
     requires ordered { IsOrder (graph (map plain_model models.now)) order.now }
     requires places { ArePlaces order.now positions.now }
+    requires counts { AreCounts (map plain_model models.now) order.now counts.now }
     ensures model { IfOk result (λ flat. plain_model flat ≡ flat_model (map plain_model models.now)) }
     ensures clear { OnOk result (name_clash (map plain_model models.now) ≡ None) }
     ensures fault { IfErr result (λ fault. IsClash (map plain_model models.now) fault) }
@@ -163,6 +164,7 @@ fn counted_within(
     requires ordered { IsOrder (graph (map plain_model models.now)) order.now }
     requires limit { limit ≤ 1073741824 }
     ensures places { IfOk result (λ counted. ArePlaces order.now counted.positions.items) }
+    ensures counts { IfOk result (λ counted. AreCounts (map plain_model models.now) order.now counted.counts.items) }
     ensures fits { OnOk result (Fits (map plain_model models.now) limit) }
     ensures fault { IfErr result (λ fault. IsTextFault (map plain_model models.now) limit fault) }
 {
@@ -188,6 +190,7 @@ fn flat_model(
     requires placeable { IsPlaceable (map plain_model models.now) }
     requires ordered { IsOrder (graph (map plain_model models.now)) order.now }
     requires places { ArePlaces order.now counted.now.positions.items }
+    requires counts { AreCounts (map plain_model models.now) order.now counted.now.counts.items }
     requires fits { Fits (map plain_model models.now) limit }
     ensures model { IfOk result (λ flat. plain_model flat ≡ flat_model (map plain_model models.now)) }
     ensures clear { OnOk result (name_clash (map plain_model models.now) ≡ None) }
@@ -314,6 +317,7 @@ fn flat_counted_design(
     requires ordered { IsOrder (graph lib.now) found.now.order.items }
     requires sound { IsSound lib.now }
     requires places { ArePlaces found.now.order.items counted.now.positions.items }
+    requires counts { AreCounts lib.now found.now.order.items counted.now.counts.items }
     requires fits { Fits lib.now limit }
     requires limit { limit ≤ 1073741824 }
     ensures ok { IfOk result (λ flat. IsFreeFlat lib.now limit flat.design.net flat.free) }

@@ -37,8 +37,8 @@ fn is_open(positions: &[usize], counts: &[Option<Count>], x: usize) -> bool {
     }
 }
 
-/// Which models are the ends of chains, among others: those that have no net of their own and that a model
-/// with one statement alone places. None, where no chain is long.
+/// Which models may be the ends of chains: those that have no net of their own and that a model with one statement
+/// alone places. None, where no chain is long.
 pub(crate) fn end_models(
     alloc: Global,
     models: &[BlifModel],
@@ -93,7 +93,7 @@ fn mark_placed(
     some
 }
 
-/// The models with a long chain that the main model or a model without a way places. None, where there is none.
+/// The models with a long chain that the main model, an end or a model without a way places. None, where there is none.
 pub(crate) fn head_models(
     alloc: Global,
     models: &[BlifModel],
@@ -107,13 +107,13 @@ pub(crate) fn head_models(
     for x in order {
         if *x < models.len() {
             match way_at(positions, ways, *x) {
-                Some(way) => {
+                Some(way) if way.base != *x => {
                     if *x == 0 && way.length >= LONG {
                         heads[*x] = true;
                         some = true;
                     }
                 }
-                None => {
+                _ => {
                     if mark_placed(names, positions, ways, &models[*x].elements, &mut heads) {
                         some = true;
                     }

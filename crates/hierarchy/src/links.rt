@@ -56,7 +56,7 @@ pub(crate) fn bind_actuals(
 ) -> Result<IndexMap<Name, Name>, OutOfMemory>
     ensures { IfOk result (λ actuals. (name : List ℕ) → get bytes_eq actuals name ≡ actual_of bindings.now name) }
 {
-    let mut actuals = IndexMap::new(alloc);
+    let mut actuals = IndexMap::with_capacity(alloc, bindings.len())?;
     for (formal, actual) in bindings {
         bind_one(alloc, &mut actuals, formal, actual)?;
     }
@@ -147,7 +147,7 @@ fn links_of(
 ) -> Result<Vec<Link>, OutOfMemory>
     ensures { IfOk result (λ links. AreLinks names.now.keys holds.now links.items (map plain_element elements.now)) }
 {
-    let mut links = Vec::new(alloc);
+    let mut links = Vec::with_capacity(alloc, elements.len())?;
     for element in elements {
         links.push(link_of(alloc, names, holds, branching, positions, counts, element)?)?;
     }
@@ -167,7 +167,7 @@ pub(crate) fn all_links(
 ) -> Result<Vec<Row>, OutOfMemory>
     ensures { IfOk result (λ rows. AreRows names.now.keys holds.now rows.items (map plain_model models.now)) }
 {
-    let mut rows = Vec::new(alloc);
+    let mut rows = Vec::with_capacity(alloc, models.len())?;
     for model in models {
         let links = links_of(
             alloc,
