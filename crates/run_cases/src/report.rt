@@ -5,12 +5,17 @@ use crate::notation::{push_bytes, push_lines};
 use crate::trial_run::Seen;
 use std::alloc::AllocError;
 use std::fmt::Write;
-use tmr_top::Status;
 
-/// Appends the exit code of a status and its name.
-fn push_status(report: &mut String, status: Status) -> Result<(), AllocError> {
-    let code = status.code();
-    writeln!(report, "{code} {status:?}")
+/// Appends the exit code of the status, its name, and how many calls and puts were made.
+fn push_status(report: &mut String, seen: &Seen) -> Result<(), AllocError> {
+    let code = seen.status.code();
+    let Seen {
+        status,
+        calls,
+        puts,
+        ..
+    } = seen;
+    writeln!(report, "{code} {status:?}, calls {calls}, puts {puts}")
 }
 
 /// The name of a text that is these bytes.
@@ -54,9 +59,9 @@ fn push_file(
     push_contents(report, before.texts, bytes)
 }
 
-/// Appends what was seen of a run: the status, the text, and each file that is new or was changed.
+/// Appends what was seen of a run: the status, the calls, the text, and each file that is new or was changed.
 pub fn push_seen(report: &mut String, before: &Before, seen: &Seen) -> Result<(), AllocError> {
-    push_status(report, seen.status)?;
+    push_status(report, seen)?;
     push_contents(report, before.texts, &seen.text)?;
     for (name, bytes) in seen.files.iter() {
         push_file(report, before, name, bytes)?;

@@ -4,7 +4,7 @@ use crate::contents::{Contents, hold};
 use crate::line::Failure;
 use std::alloc::{AllocError, Global};
 use std::collections::BTreeMap;
-use tmr_outside::{MemFiles, MemSink};
+use tmr_outside::{Files, MemFiles, MemSink, Sink};
 use tmr_top::{Status, run};
 
 /// What a run is given.
@@ -16,13 +16,19 @@ pub struct Given<'a> {
     pub puts: &'a [Failure],
 }
 
-/// What was seen of a run: how it ended, what it printed and what the files hold then.
+/// What was seen of a run: how it ended, what it printed and what the files hold then, and how many calls it made on the
+/// files and on the sink.
 #[derive(Drop)]
 pub struct Seen {
     pub status: Status,
     pub text: Vec<u8>,
     pub files: Contents,
+    pub calls: u64,
+    pub puts: u64,
 }
+
+/// So many calls are counted; more of them count as so many.
+const COUNTED: u64 = 16;
 
 /// The files of a run, of which some calls are to fail.
 fn files_of(alloc: Global, given: &Given) -> Result<MemFiles, AllocError> {
@@ -70,16 +76,48 @@ fn held_after(alloc: Global, given: &Given, files: &MemFiles) -> Result<Contents
     Ok(held)
 }
 
+/// How many calls were made on the files. All calls up to a number are now to fail, and each further one that fails was not
+/// made before.
+fn calls_made(alloc: Global, files: &mut MemFiles) -> Result<u64, AllocError> {
+    files.hold("", b"")?;
+    for call in 0..COUNTED {
+        files.fail_at(call, 0)?;
+    }
+    for left in 0..COUNTED {
+        if files.load(alloc, "", 0).is_ok() {
+            return Ok(COUNTED - left);
+        }
+    }
+    Ok(0)
+}
+
+/// How many puts were made, in the same way.
+fn puts_made(sink: &mut MemSink) -> Result<u64, AllocError> {
+    for put in 0..COUNTED {
+        sink.fail_at(put, 0)?;
+    }
+    for left in 0..COUNTED {
+        if sink.put(b"").is_ok() {
+            return Ok(COUNTED - left);
+        }
+    }
+    Ok(0)
+}
+
 /// One run.
 pub fn run_once(alloc: Global, given: &Given) -> Result<Seen, AllocError> {
     let mut files = files_of(alloc, given)?;
     let mut sink = sink_of(alloc, given.puts)?;
     let status = run(alloc, given.words, &mut files, &mut sink);
     let text = sink.written().to_vec(alloc)?;
-    let files = held_after(alloc, given, &files)?;
+    let held = held_after(alloc, given, &files)?;
+    let calls = calls_made(alloc, &mut files)?;
+    let puts = puts_made(&mut sink)?;
     Ok(Seen {
         status,
         text,
-        files,
+        files: held,
+        calls,
+        puts,
     })
 }
