@@ -5,8 +5,8 @@ use Rattle.std.proofs.lemmas.List.{length-map}
 use Rattle.aag_text.specs.declared.aig.Literal.{Literal}
 use Rattle.aag_text.specs.declared.aig.Latch.{Latch}
 use Rattle.aag_text.specs.declared.aig.Gate.{Gate}
-use Rattle.aag_reader.specs.declared.fault.AagFault.{AagFault}
-use Rattle.aag_reader.specs.declared.fault.AagFault.TheVariants.{Line, Doubled, Undefined, Memory}
+use Rattle.aag_reader.specs.declared.fault.GraphFault.{GraphFault}
+use Rattle.aag_reader.specs.declared.fault.GraphFault.TheVariants.{Line, Doubled, Undefined, Memory}
 use Rattle.aag_text.specs.declared.aig.Header.{Header}
 use Rattle.aag_text.specs.Lines.{lines_of, words_of, header_of, input_of, latch_of, output_of, gate_of, is_symbol, AreOf, AreSymbols, IsFile}
 use Rattle.aag_reader.specs.BadLine.{due, is_formed, AreFormed, IsBad, IsFirstBadLine, NoLine, NoHeader, BadLine}
@@ -81,7 +81,7 @@ module _ {A : Type 0} (form : List (List ℕ) → Option A) where
   bad_here h k (line ∷ rest) lt is stuck = (is line ∙ ap is_some stuck, λ le. absurd (omega (arith, lt, le)))
 
   -- a section stops at a line that is not of its form
-  section_bad : (bytes : List ℕ) (h : Header) (i count : ℕ) (start a b : Rest) (fault : AagFault) → start ≡ record { number = 1; bytes = bytes } → HasNext header_of start a h → HasFormed h 0 i a b → i + count ≤ due h
+  section_bad : (bytes : List ℕ) (h : Header) (i count : ℕ) (start a b : Rest) (fault : GraphFault) → start ≡ record { number = 1; bytes = bytes } → HasNext header_of start a h → HasFormed h 0 i a b → i + count ≤ due h
       → ((j : ℕ) (line : List ℕ) → i ≤ j → j < i + count → is_formed h j line ≡ is_some (form (words_of line))) → StopsIn form count b fault → IsLineFault bytes fault
   section_bad bytes h i count start a b (Line number) e head so_far within is s =
       let long = as_long s.before s.items s.are in
@@ -105,28 +105,28 @@ module _ (bytes : List ℕ) (h : Header) (r0 r1 : Rest) (e : r0 ≡ record { num
   nothing_formed : HasFormed h 0 0 r1 r1
   nothing_formed = record { before = []; lines = refl; are = tt; long = refl; number = omega arith }
 
-  pub inputs_bad : (fault : AagFault) → StopsIn (input_of h.most) h.inputs r1 fault → IsLineFault bytes fault
+  pub inputs_bad : (fault : GraphFault) → StopsIn (input_of h.most) h.inputs r1 fault → IsLineFault bytes fault
   inputs_bad fault s = section_bad (input_of h.most) bytes h 0 h.inputs r0 r1 r1 fault e head nothing_formed (omega arith) (λ j line le lt. at_input h j line (omega (arith, lt))) s
 
   module _ (r2 : Rest) (inputs : List ℕ) (one : HasSection (input_of h.most) h.inputs r1 r2 inputs) where
     formed_inputs : HasFormed h 0 h.inputs r1 r2
     formed_inputs = formed_section (input_of h.most) h 0 h.inputs r1 r2 inputs (λ j line le lt. at_input h j line (omega (arith, lt))) one
 
-    pub latches_bad : (fault : AagFault) → StopsIn (latch_of h.most) h.latches r2 fault → IsLineFault bytes fault
+    pub latches_bad : (fault : GraphFault) → StopsIn (latch_of h.most) h.latches r2 fault → IsLineFault bytes fault
     latches_bad fault s = section_bad (latch_of h.most) bytes h h.inputs h.latches r0 r1 r2 fault e head formed_inputs (omega arith) (λ j line le lt. at_latch h j line le lt) s
 
     module _ (r3 : Rest) (latches : List Latch) (two : HasSection (latch_of h.most) h.latches r2 r3 latches) where
       formed_latches : HasFormed h 0 (h.inputs + h.latches) r1 r3
       formed_latches = formed_then h 0 h.inputs h.inputs h.latches r1 r2 r3 (omega arith) formed_inputs (formed_section (latch_of h.most) h h.inputs h.latches r2 r3 latches (λ j line le lt. at_latch h j line le lt) two)
 
-      pub outputs_bad : (fault : AagFault) → StopsIn (output_of h.most) h.outputs r3 fault → IsLineFault bytes fault
+      pub outputs_bad : (fault : GraphFault) → StopsIn (output_of h.most) h.outputs r3 fault → IsLineFault bytes fault
       outputs_bad fault s = section_bad (output_of h.most) bytes h (h.inputs + h.latches) h.outputs r0 r1 r3 fault e head formed_latches (omega arith) (λ j line le lt. at_output h j line le lt) s
 
       module _ (r4 : Rest) (outputs : List Literal) (three : HasSection (output_of h.most) h.outputs r3 r4 outputs) where
         formed_outputs : HasFormed h 0 (h.inputs + h.latches + h.outputs) r1 r4
         formed_outputs = formed_then h 0 (h.inputs + h.latches) (h.inputs + h.latches) h.outputs r1 r3 r4 (omega arith) formed_latches (formed_section (output_of h.most) h (h.inputs + h.latches) h.outputs r3 r4 outputs (λ j line le lt. at_output h j line le lt) three)
 
-        pub gates_bad : (fault : AagFault) → StopsIn (gate_of h.most) h.gates r4 fault → IsLineFault bytes fault
+        pub gates_bad : (fault : GraphFault) → StopsIn (gate_of h.most) h.gates r4 fault → IsLineFault bytes fault
         gates_bad fault s = section_bad (gate_of h.most) bytes h (h.inputs + h.latches + h.outputs) h.gates r0 r1 r4 fault e head formed_outputs (omega arith) (λ j line le lt. at_gate h j line le lt) s
 
         module _ (r5 : Rest) (gates : List Gate) (four : HasSection (gate_of h.most) h.gates r4 r5 gates) where
@@ -137,7 +137,7 @@ module _ (bytes : List ℕ) (h : Header) (r0 r1 : Rest) (e : r0 ≡ record { num
           are_symbols k [] le are = tt
           are_symbols k (line ∷ lines) le are = (at_symbol h k line le ∙ are.0, are_symbols (suc k) lines (omega (arith, le)) are.1)
 
-          pub symbols_bad : (fault : AagFault) → StopsInSymbols h r5 fault → IsLineFault bytes fault
+          pub symbols_bad : (fault : GraphFault) → StopsInSymbols h r5 fault → IsLineFault bytes fault
           symbols_bad (Line number) s =
               let first = ap (λ (r : Rest). r.number) e in
               let so_far = formed_gates in
@@ -185,7 +185,7 @@ stuck_bad : (bytes : List ℕ) (number : ℕ) (lines : List (List ℕ)) → line
 stuck_bad bytes number [] is e stuck = NoLine is e
 stuck_bad bytes number (line ∷ rest) is e stuck = NoHeader line rest is stuck e
 
-pub header_bad : (bytes : List ℕ) (r0 : Rest) (fault : AagFault) → r0 ≡ record { number = 1; bytes = bytes } → HasNoNext header_of r0 fault → IsLineFault bytes fault
+pub header_bad : (bytes : List ℕ) (r0 : Rest) (fault : GraphFault) → r0 ≡ record { number = 1; bytes = bytes } → HasNoNext header_of r0 fault → IsLineFault bytes fault
 header_bad bytes r0 (Line number) e none =
     let first = ap (λ (r : Rest). r.number) e in
     stuck_bad bytes number (lines_of r0.bytes) (ap (λ (r : Rest). lines_of r.bytes) (sym e)) (none.0 ∙ first) none.1

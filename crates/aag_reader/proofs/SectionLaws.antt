@@ -1,7 +1,7 @@
 -- One line more of a section.
 use Rattle.std.proofs.Common.{◌≡◌, ℕ, ◌+◌, ◌<◌, List, [], ◌∷◌, ◌++◌, map, Option, Some, None, refl, sym, ap, subst, ◌∙◌, arith, append_assoc, length-append}
-use Rattle.aag_reader.specs.declared.fault.AagFault.{AagFault}
-use Rattle.aag_reader.specs.declared.fault.AagFault.TheVariants.{Line, Doubled, Undefined, Memory}
+use Rattle.aag_reader.specs.declared.fault.GraphFault.{GraphFault}
+use Rattle.aag_reader.specs.declared.fault.GraphFault.TheVariants.{Line, Doubled, Undefined, Memory}
 use Rattle.aag_text.specs.Lines.{lines_of, words_of}
 use Rattle.aag_reader.specs.Sections.{Rest, HasWords, HasNoWords, HasNext, HasNoNext, IsStuck, HasSection, StopsIn}
 
@@ -21,7 +21,7 @@ module _ {A : Type 0} (form : List (List ℕ) → Option A) where
   next_is_none old new words has is = (refl, subst (IsStuck form) (sym has.lines) (ap form (sym has.are) ∙ is))
 
   -- there is none
-  pub none_next : (old : Rest) (fault : AagFault) → HasNoWords old fault → HasNoNext form old fault
+  pub none_next : (old : Rest) (fault : GraphFault) → HasNoWords old fault → HasNoNext form old fault
   none_next old (Line number) none = (none.0, stuck_none _ none.1)
   none_next old (Doubled v) none = none
   none_next old (Undefined v) none = none
@@ -48,7 +48,7 @@ module _ {A : Type 0} (form : List (List ℕ) → Option A) where
   }
 
   -- the next line is none of the section
-  pub section_stops : (i count : ℕ) (a b : Rest) (items : List A) (fault : AagFault) → i < count → HasSection form i a b items → HasNoNext form b fault → StopsIn form count a fault
+  pub section_stops : (i count : ℕ) (a b : Rest) (items : List A) (fault : GraphFault) → i < count → HasSection form i a b items → HasNoNext form b fault → StopsIn form count a fault
   section_stops i count a b items (Line number) less s none = record {
     before = s.section;
     rest = lines_of b.bytes;

@@ -1,7 +1,7 @@
 -- One symbol more.
 use Rattle.std.proofs.Common.{◌≡◌, ℕ, Bool, true, false, List, [], ◌∷◌, ◌++◌, refl, sym, ap, ◌∙◌, arith, append_assoc, length-append}
-use Rattle.aag_reader.specs.declared.fault.AagFault.{AagFault}
-use Rattle.aag_reader.specs.declared.fault.AagFault.TheVariants.{Line, Doubled, Undefined, Memory}
+use Rattle.aag_reader.specs.declared.fault.GraphFault.{GraphFault}
+use Rattle.aag_reader.specs.declared.fault.GraphFault.TheVariants.{Line, Doubled, Undefined, Memory}
 use Rattle.aag_text.specs.declared.aig.Header.{Header}
 use Rattle.aag_text.specs.Lines.{lines_of, words_of, is_symbol, AreSymbols}
 use Rattle.aag_reader.specs.Sections.{Rest, NextSymbol, IsNextSymbol, HasNoSymbol, ReadSymbols, HasSymbols, StopsInSymbols}
@@ -29,7 +29,7 @@ pub symbols_end : (h : Header) (a b c : Rest) (more : Bool) → ReadSymbols h a 
 symbols_end h a b c true s next e = absurd (cc)
 symbols_end h a b c false s next e = record { symbols = s.symbols; comment = lines_of b.bytes; lines = s.lines; are = s.are; ends = next }
 
-pub symbols_stop : (h : Header) (a b : Rest) (fault : AagFault) → ReadSymbols h a b → HasNoSymbol h b fault → StopsInSymbols h a fault
+pub symbols_stop : (h : Header) (a b : Rest) (fault : GraphFault) → ReadSymbols h a b → HasNoSymbol h b fault → StopsInSymbols h a fault
 symbols_stop h a b (Line number) s none = record {
   before = s.symbols;
   line = none.line;

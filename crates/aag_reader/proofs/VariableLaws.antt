@@ -3,8 +3,8 @@ use Rattle.std.proofs.Common.{◌≡◌, ℕ, ◌+◌, ◌<◌, ◌≤◌, Bool,
 use Rattle.std.proofs.lemmas.List.{append_assoc, take_more, take_all, drop_more, take-append-drop}
 use Rattle.flat_net.specs.First.{HasNone, IsFirst}
 use Rattle.flat_net.proofs.Firsts.{none_nil, none_push, first_here}
-use Rattle.aag_reader.specs.declared.fault.AagFault.{AagFault}
-use Rattle.aag_reader.specs.declared.fault.AagFault.TheVariants.{Line, Doubled, Undefined, Memory}
+use Rattle.aag_reader.specs.declared.fault.GraphFault.{GraphFault}
+use Rattle.aag_reader.specs.declared.fault.GraphFault.TheVariants.{Line, Doubled, Undefined, Memory}
 use Rattle.aag_reader.specs.Faults.{is_among}
 use Rattle.aag_reader.specs.Found.{IsTwice, IsDoubledIn}
 
@@ -29,7 +29,7 @@ pub keys_go : (all keys next : List ℕ) (i : ℕ) → i < length all → keys �
 keys_go all keys next i lt is e = e ∙ (ap (λ (ks : List ℕ). ks ++ get_or all i 0 ∷ []) is ∙ sym (take_more all i 0 lt))
 
 -- the next variable is one of those before
-pub doubled_here : (all keys : List ℕ) (i : ℕ) (fault : AagFault) → i < length all → keys ≡ take i all → HasNone is_among (take i all) → IsTwice keys (get_or all i 0) fault → IsDoubledIn all fault
+pub doubled_here : (all keys : List ℕ) (i : ℕ) (fault : GraphFault) → i < length all → keys ≡ take i all → HasNone is_among (take i all) → IsTwice keys (get_or all i 0) fault → IsDoubledIn all fault
 doubled_here all keys i (Line number) lt is none twice = twice
 doubled_here all keys i (Doubled v) lt is none twice = subst (IsFirst is_among all) (sym twice.0) (first_found is_among all i lt none (ap (λ (ks : List ℕ). is_among ks (get_or all i 0)) (sym is) ∙ twice.1))
 doubled_here all keys i (Undefined v) lt is none twice = twice

@@ -7,8 +7,8 @@ use Rattle.aag_text.specs.declared.aig.Latch.{Latch}
 use Rattle.aag_text.specs.declared.aig.Gate.{Gate}
 use Rattle.aag_text.specs.Aig.{PlainAig}
 use Rattle.aag_text.specs.Lines.{IsFile}
-use Rattle.aag_reader.specs.declared.fault.AagFault.{AagFault}
-use Rattle.aag_reader.specs.declared.fault.AagFault.TheVariants.{Line, Doubled, Undefined, Memory}
+use Rattle.aag_reader.specs.declared.fault.GraphFault.{GraphFault}
+use Rattle.aag_reader.specs.declared.fault.GraphFault.TheVariants.{Line, Doubled, Undefined, Memory}
 use Rattle.aag_reader.specs.BadLine.{IsFirstBadLine}
 
 -- the variables that are defined, in the order of the file
@@ -39,7 +39,7 @@ abbrev pub IsDefined : PlainAig → Type 0
 IsDefined a = HasNone (is_undefined a) (read_variables a)
 
 -- a fault of lines or variables, and none before it
-abbrev pub IsGraphFault : List ℕ → AagFault → Type 0
+abbrev pub IsGraphFault : List ℕ → GraphFault → Type 0
 IsGraphFault bytes (Line number) = IsFirstBadLine bytes number
 IsGraphFault bytes (Doubled v) = (a : PlainAig) × IsFile bytes a × IsFirst is_among (defined a) v
 IsGraphFault bytes (Undefined v) = (a : PlainAig) × IsFile bytes a × IsDefinedOnce a × IsFirst (is_undefined a) (read_variables a) v

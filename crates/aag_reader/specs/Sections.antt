@@ -1,8 +1,8 @@
 -- For private functions alone: a file, read section by section.
 use Rattle.std.specs.Prelude.{◌≡◌, ℕ, ◌+◌, ◌<◌, List, [], ◌∷◌, ◌++◌, length, Bool, true, false, Option, Some, None}
 use Rattle.aag_text.specs.declared.aig.Header.{Header}
-use Rattle.aag_reader.specs.declared.fault.AagFault.{AagFault}
-use Rattle.aag_reader.specs.declared.fault.AagFault.TheVariants.{Line, Doubled, Undefined, Memory}
+use Rattle.aag_reader.specs.declared.fault.GraphFault.{GraphFault}
+use Rattle.aag_reader.specs.declared.fault.GraphFault.TheVariants.{Line, Doubled, Undefined, Memory}
 use Rattle.aag_text.specs.Lines.{lines_of, words_of, is_symbol, is_comment, AreOf, AreSymbols, IsEnd}
 use Rattle.aag_reader.specs.BadLine.{AreFormed, IsFirstBadLine}
 
@@ -19,7 +19,7 @@ pub record HasWords (old new : Rest) (words : List (List ℕ)) : Type 0 where
   pub number : new.number ≡ old.number + 1
 
 -- a fault, where there is no next line
-abbrev pub HasNoWords : Rest → AagFault → Type 0
+abbrev pub HasNoWords : Rest → GraphFault → Type 0
 HasNoWords old (Line number) = (number ≡ old.number) × (lines_of old.bytes ≡ [])
 HasNoWords old (Doubled v) = ⊥
 HasNoWords old (Undefined v) = ⊥
@@ -38,7 +38,7 @@ IsStuck form [] = Unit {0}
 IsStuck form (line ∷ lines) = form (words_of line) ≡ None
 
 -- a fault in the next line
-abbrev pub HasNoNext : {A : Type 0} → (List (List ℕ) → Option A) → Rest → AagFault → Type 0
+abbrev pub HasNoNext : {A : Type 0} → (List (List ℕ) → Option A) → Rest → GraphFault → Type 0
 HasNoNext form old (Line number) = (number ≡ old.number) × IsStuck form (lines_of old.bytes)
 HasNoNext form old (Doubled v) = ⊥
 HasNoNext form old (Undefined v) = ⊥
@@ -63,7 +63,7 @@ pub record StopsAt {A : Type 0} (form : List (List ℕ) → Option A) (count : �
   pub stuck : IsStuck form rest
   pub is : number ≡ old.number + length items
 
-abbrev pub StopsIn : {A : Type 0} → (List (List ℕ) → Option A) → ℕ → Rest → AagFault → Type 0
+abbrev pub StopsIn : {A : Type 0} → (List (List ℕ) → Option A) → ℕ → Rest → GraphFault → Type 0
 StopsIn form count old (Line number) = StopsAt form count old number
 StopsIn form count old (Doubled v) = ⊥
 StopsIn form count old (Undefined v) = ⊥
@@ -89,7 +89,7 @@ pub record IsNoSymbol (h : Header) (old : Rest) (number : ℕ) : Type 0 where
   pub no_comment : is_comment line ≡ false
   pub is : number ≡ old.number
 
-abbrev pub HasNoSymbol : Header → Rest → AagFault → Type 0
+abbrev pub HasNoSymbol : Header → Rest → GraphFault → Type 0
 HasNoSymbol h old (Line number) = IsNoSymbol h old number
 HasNoSymbol h old (Doubled v) = ⊥
 HasNoSymbol h old (Undefined v) = ⊥
@@ -121,14 +121,14 @@ pub record StopsAtSymbol (h : Header) (old : Rest) (number : ℕ) : Type 0 where
   pub no_comment : is_comment line ≡ false
   pub is : number ≡ old.number + length before
 
-abbrev pub StopsInSymbols : Header → Rest → AagFault → Type 0
+abbrev pub StopsInSymbols : Header → Rest → GraphFault → Type 0
 StopsInSymbols h old (Line number) = StopsAtSymbol h old number
 StopsInSymbols h old (Doubled v) = ⊥
 StopsInSymbols h old (Undefined v) = ⊥
 StopsInSymbols h old Memory = Unit {0}
 
 -- a fault of lines
-abbrev pub IsLineFault : List ℕ → AagFault → Type 0
+abbrev pub IsLineFault : List ℕ → GraphFault → Type 0
 IsLineFault bytes (Line number) = IsFirstBadLine bytes number
 IsLineFault bytes (Doubled v) = ⊥
 IsLineFault bytes (Undefined v) = ⊥

@@ -1,14 +1,22 @@
 //! The graph of a file.
-ghost use Rattle.std.specs.Prelude.{◌+◌, ◌<◌, ◌^◌, length, IfOk, IfErr};
+ghost use Rattle.std.specs.Prelude.{◌≡◌, ◌+◌, ◌<◌, ◌^◌, length, IfOk, IfErr};
 ghost use Rattle.aag_text.specs.Lines.{IsFile};
-ghost use Rattle.aag_reader.specs.Faults.{IsDefinedOnce, IsDefined, IsGraphFault};
+ghost use Rattle.aag_reader.specs.Faults.{defined, IsDefinedOnce, IsDefined, IsGraphFault};
 ghost use Rattle.aag_text.specs.Nets.{plain_aig};
 
-use crate::AagFault;
+use crate::GraphFault;
 use crate::reading::aig_of_text;
 use crate::variables::{check_reads, defined};
 use aag_text::Aig;
+use indexmap::IndexSet;
 use std::alloc::Global;
+
+/// A graph, and the variables that it defines: those of its inputs, latches and gates, in this order.
+#[derive(Drop)]
+pub struct Graph {
+    pub aig: Aig,
+    pub variables: IndexSet<u32>,
+}
 
 /// Reads the graph of an AIGER file (ASCII, format 1.0). In the graph each variable is defined once, and each
 /// variable that is read is defined or 0.
@@ -17,15 +25,16 @@ use std::alloc::Global;
 /// that is defined a second time, and then `Undefined` for the first that is read and nowhere defined. `Memory` may
 /// come in place of any answer. Loops of gates are not looked for.
 #[tactic(auto, using(crate::proofs::GraphFaults::graph_faults))]
-pub fn graph_of(alloc: Global, bytes: &[u8]) -> Result<Aig, AagFault>
+pub fn graph_of(alloc: Global, bytes: &[u8]) -> Result<Graph, GraphFault>
     requires { length bytes.now + 1 < 2 ^ 32 }
-    ensures file { IfOk result (λ a. IsFile bytes.now (plain_aig a)) }
-    ensures once { IfOk result (λ a. IsDefinedOnce (plain_aig a)) }
-    ensures known { IfOk result (λ a. IsDefined (plain_aig a)) }
+    ensures file { IfOk result (λ g. IsFile bytes.now (plain_aig g.aig)) }
+    ensures once { IfOk result (λ g. IsDefinedOnce (plain_aig g.aig)) }
+    ensures known { IfOk result (λ g. IsDefined (plain_aig g.aig)) }
+    ensures variables { IfOk result (λ g. g.variables.keys ≡ defined (plain_aig g.aig)) }
     ensures fault { IfErr result (IsGraphFault bytes.now) }
 {
     let a = aig_of_text(alloc, bytes)?;
     let variables = defined(alloc, &a)?;
     check_reads(alloc, &a, &variables)?;
-    Ok(a)
+    Ok(Graph { aig: a, variables })
 }

@@ -11,5 +11,5 @@ mod lines;
 mod reading;
 mod variables;
 
-pub use fault::AagFault;
-pub use file::graph_of;
+pub use fault::GraphFault;
+pub use file::{Graph, graph_of};

@@ -5,7 +5,7 @@ ghost use Rattle.aag_reader.specs.Words.{texts};
 ghost use Rattle.aag_text.specs.Lines.{header_of, input_of, latch_of, output_of, gate_of, IsFile};
 ghost use Rattle.aag_reader.specs.Sections.{HasWords, HasNoWords, HasNext, HasNoNext, HasSection, StopsIn, NextSymbol, HasNoSymbol, HasSymbols, StopsInSymbols, IsLineFault};
 
-use crate::AagFault;
+use crate::GraphFault;
 use crate::forms::{gate_of, header_of, input_of, is_symbol, latch_of, output_of, words_of};
 use crate::lines::Lines;
 use aag_text::{Aig, Gate, Header, Latch, Literal};
@@ -13,18 +13,18 @@ use std::alloc::Global;
 
 /// The words of the next line, which is due.
 #[tactic(auto, using(crate::proofs::SectionLaws::has_words))]
-fn next_words<'a>(alloc: Global, lines: &mut Lines<'a>) -> Result<Vec<&'a [u8]>, AagFault>
+fn next_words<'a>(alloc: Global, lines: &mut Lines<'a>) -> Result<Vec<&'a [u8]>, GraphFault>
     ensures words { IfOk result (λ words. HasWords lines.old lines.new (texts words.items)) }
     ensures none { IfErr result (HasNoWords lines.old) }
 {
     let number = lines.number();
     match lines.next() {
         Some(line) => Ok(words_of(alloc, line)?),
-        None => Err(AagFault::Line(number)),
+        None => Err(GraphFault::Line(number)),
     }
 }
 
-fn next_header(alloc: Global, lines: &mut Lines<'_>) -> Result<Header, AagFault>
+fn next_header(alloc: Global, lines: &mut Lines<'_>) -> Result<Header, GraphFault>
     ensures next { IfOk result (HasNext header_of lines.old lines.new) }
     ensures none { IfErr result (HasNoNext header_of lines.old) }
 {
@@ -32,11 +32,11 @@ fn next_header(alloc: Global, lines: &mut Lines<'_>) -> Result<Header, AagFault>
     let words = next_words(alloc, lines)?;
     match header_of(&words) {
         Some(header) => Ok(header),
-        None => Err(AagFault::Line(number)),
+        None => Err(GraphFault::Line(number)),
     }
 }
 
-fn next_input(alloc: Global, lines: &mut Lines<'_>, most: u32) -> Result<u32, AagFault>
+fn next_input(alloc: Global, lines: &mut Lines<'_>, most: u32) -> Result<u32, GraphFault>
     ensures next { IfOk result (HasNext (input_of most) lines.old lines.new) }
     ensures none { IfErr result (HasNoNext (input_of most) lines.old) }
 {
@@ -44,7 +44,7 @@ fn next_input(alloc: Global, lines: &mut Lines<'_>, most: u32) -> Result<u32, Aa
     let words = next_words(alloc, lines)?;
     match input_of(most, &words) {
         Some(input) => Ok(input),
-        None => Err(AagFault::Line(number)),
+        None => Err(GraphFault::Line(number)),
     }
 }
 
@@ -54,7 +54,7 @@ fn read_inputs(
     lines: &mut Lines<'_>,
     most: u32,
     count: u32,
-) -> Result<Vec<u32>, AagFault>
+) -> Result<Vec<u32>, GraphFault>
     ensures section { IfOk result (λ inputs. HasSection (input_of most) count lines.old lines.new inputs.items) }
     ensures stops { IfErr result (StopsIn (input_of most) count lines.old) }
 {
@@ -66,7 +66,7 @@ fn read_inputs(
     Ok(inputs)
 }
 
-fn next_latch(alloc: Global, lines: &mut Lines<'_>, most: u32) -> Result<Latch, AagFault>
+fn next_latch(alloc: Global, lines: &mut Lines<'_>, most: u32) -> Result<Latch, GraphFault>
     ensures next { IfOk result (HasNext (latch_of most) lines.old lines.new) }
     ensures none { IfErr result (HasNoNext (latch_of most) lines.old) }
 {
@@ -74,7 +74,7 @@ fn next_latch(alloc: Global, lines: &mut Lines<'_>, most: u32) -> Result<Latch, 
     let words = next_words(alloc, lines)?;
     match latch_of(most, &words) {
         Some(latch) => Ok(latch),
-        None => Err(AagFault::Line(number)),
+        None => Err(GraphFault::Line(number)),
     }
 }
 
@@ -84,7 +84,7 @@ fn read_latches(
     lines: &mut Lines<'_>,
     most: u32,
     count: u32,
-) -> Result<Vec<Latch>, AagFault>
+) -> Result<Vec<Latch>, GraphFault>
     ensures section { IfOk result (λ latches. HasSection (latch_of most) count lines.old lines.new latches.items) }
     ensures stops { IfErr result (StopsIn (latch_of most) count lines.old) }
 {
@@ -96,7 +96,7 @@ fn read_latches(
     Ok(latches)
 }
 
-fn next_output(alloc: Global, lines: &mut Lines<'_>, most: u32) -> Result<Literal, AagFault>
+fn next_output(alloc: Global, lines: &mut Lines<'_>, most: u32) -> Result<Literal, GraphFault>
     ensures next { IfOk result (HasNext (output_of most) lines.old lines.new) }
     ensures none { IfErr result (HasNoNext (output_of most) lines.old) }
 {
@@ -104,7 +104,7 @@ fn next_output(alloc: Global, lines: &mut Lines<'_>, most: u32) -> Result<Litera
     let words = next_words(alloc, lines)?;
     match output_of(most, &words) {
         Some(output) => Ok(output),
-        None => Err(AagFault::Line(number)),
+        None => Err(GraphFault::Line(number)),
     }
 }
 
@@ -114,7 +114,7 @@ fn read_outputs(
     lines: &mut Lines<'_>,
     most: u32,
     count: u32,
-) -> Result<Vec<Literal>, AagFault>
+) -> Result<Vec<Literal>, GraphFault>
     ensures section { IfOk result (λ outputs. HasSection (output_of most) count lines.old lines.new outputs.items) }
     ensures stops { IfErr result (StopsIn (output_of most) count lines.old) }
 {
@@ -126,7 +126,7 @@ fn read_outputs(
     Ok(outputs)
 }
 
-fn next_gate(alloc: Global, lines: &mut Lines<'_>, most: u32) -> Result<Gate, AagFault>
+fn next_gate(alloc: Global, lines: &mut Lines<'_>, most: u32) -> Result<Gate, GraphFault>
     ensures next { IfOk result (HasNext (gate_of most) lines.old lines.new) }
     ensures none { IfErr result (HasNoNext (gate_of most) lines.old) }
 {
@@ -134,7 +134,7 @@ fn next_gate(alloc: Global, lines: &mut Lines<'_>, most: u32) -> Result<Gate, Aa
     let words = next_words(alloc, lines)?;
     match gate_of(most, &words) {
         Some(gate) => Ok(gate),
-        None => Err(AagFault::Line(number)),
+        None => Err(GraphFault::Line(number)),
     }
 }
 
@@ -144,7 +144,7 @@ fn read_gates(
     lines: &mut Lines<'_>,
     most: u32,
     count: u32,
-) -> Result<Vec<Gate>, AagFault>
+) -> Result<Vec<Gate>, GraphFault>
     ensures section { IfOk result (λ gates. HasSection (gate_of most) count lines.old lines.new gates.items) }
     ensures stops { IfErr result (StopsIn (gate_of most) count lines.old) }
 {
@@ -157,7 +157,7 @@ fn read_gates(
 }
 
 /// Whether a symbol is next. Else a comment is, or the file ends.
-fn next_symbol(alloc: Global, lines: &mut Lines<'_>, h: &Header) -> Result<bool, AagFault>
+fn next_symbol(alloc: Global, lines: &mut Lines<'_>, h: &Header) -> Result<bool, GraphFault>
     ensures next { IfOk result (NextSymbol h.now lines.old lines.new) }
     ensures none { IfErr result (HasNoSymbol h.now lines.old) }
     ensures shorter { IfOk result (λ more. more ≡ true → length lines.new.bytes < length lines.old.bytes) }
@@ -171,7 +171,7 @@ fn next_symbol(alloc: Global, lines: &mut Lines<'_>, h: &Header) -> Result<bool,
             }
             let words = words_of(alloc, line)?;
             if !is_symbol(h, &words) {
-                return Err(AagFault::Line(number));
+                return Err(GraphFault::Line(number));
             }
             Ok(true)
         }
@@ -180,7 +180,7 @@ fn next_symbol(alloc: Global, lines: &mut Lines<'_>, h: &Header) -> Result<bool,
 
 /// The symbols, up to a line `c` or the end.
 #[tactic(auto, using(crate::proofs::SymbolLaws::symbols))]
-fn check_symbols(alloc: Global, lines: &mut Lines<'_>, h: &Header) -> Result<(), AagFault>
+fn check_symbols(alloc: Global, lines: &mut Lines<'_>, h: &Header) -> Result<(), GraphFault>
     ensures symbols { OnOk result (HasSymbols h.now lines.old) }
     ensures stops { IfErr result (StopsInSymbols h.now lines.old) }
 {
@@ -193,7 +193,7 @@ fn check_symbols(alloc: Global, lines: &mut Lines<'_>, h: &Header) -> Result<(),
 
 /// The graph of a file, or its first bad line.
 #[tactic(auto, using(crate::proofs::FileLaws::faults))]
-pub fn aig_of_text(alloc: Global, bytes: &[u8]) -> Result<Aig, AagFault>
+pub fn aig_of_text(alloc: Global, bytes: &[u8]) -> Result<Aig, GraphFault>
     requires { length bytes.now + 1 < 2 ^ 32 }
     ensures file { IfOk result (λ a. IsFile bytes.now (plain_aig a)) }
     ensures fault { IfErr result (IsLineFault bytes.now) }

@@ -6,7 +6,7 @@ ghost use Rattle.aag_reader.specs.Faults.{defined, is_among, read_variables, is_
 ghost use Rattle.aag_reader.specs.Found.{IsTwice, IsDoubledIn, IsUndefinedIn, gate_reads};
 ghost use Rattle.aag_text.specs.Nets.{plain_aig};
 
-use crate::AagFault;
+use crate::GraphFault;
 use aag_text::{Aig, Gate, Latch, Literal};
 use indexmap::IndexSet;
 use std::alloc::{AllocError, Global};
@@ -41,21 +41,21 @@ fn definitions(alloc: Global, a: &Aig) -> Result<Vec<u32>, AllocError>
 }
 
 /// Adds a variable, which is not defined yet.
-fn define(variables: &mut IndexSet<u32>, variable: u32) -> Result<(), AagFault>
+fn define(variables: &mut IndexSet<u32>, variable: u32) -> Result<(), GraphFault>
     ensures ok { OnOk result (variables.new.keys ≡ variables.old.keys ++ variable ∷ []) }
     ensures new { OnOk result (is_among variables.old.keys variable ≡ false) }
     ensures fault { IfErr result (IsTwice variables.old.keys variable) }
 {
     match variables.insert(variable) {
         Ok(true) => Ok(()),
-        Ok(false) => Err(AagFault::Doubled(variable)),
-        Err(_) => Err(AagFault::Memory),
+        Ok(false) => Err(GraphFault::Doubled(variable)),
+        Err(_) => Err(GraphFault::Memory),
     }
 }
 
 /// Each of these variables once, in order.
 #[tactic(auto, using(crate::proofs::VariableLaws::doubled_here))]
-fn defined_once(alloc: Global, all: &[u32]) -> Result<IndexSet<u32>, AagFault>
+fn defined_once(alloc: Global, all: &[u32]) -> Result<IndexSet<u32>, GraphFault>
     ensures keys { IfOk result (λ variables. variables.keys ≡ all.now) }
     ensures once { IfOk result (λ _. HasNone is_among all.now) }
     ensures fault { IfErr result (IsDoubledIn all.now) }
@@ -68,7 +68,7 @@ fn defined_once(alloc: Global, all: &[u32]) -> Result<IndexSet<u32>, AagFault>
 }
 
 /// The variables that are defined, in the order of the file: each once.
-pub fn defined(alloc: Global, a: &Aig) -> Result<IndexSet<u32>, AagFault>
+pub fn defined(alloc: Global, a: &Aig) -> Result<IndexSet<u32>, GraphFault>
     ensures keys { IfOk result (λ variables. variables.keys ≡ defined (plain_aig a.now)) }
     ensures once { IfOk result (λ _. IsDefinedOnce (plain_aig a.now)) }
     ensures fault { IfErr result (IsDoubledIn (defined (plain_aig a.now))) }
@@ -125,20 +125,20 @@ fn is_unknown(variables: &IndexSet<u32>, variable: u32) -> bool
 }
 
 /// The first variable that is neither 0 nor one of these.
-fn check_known(variables: &IndexSet<u32>, all: &[u32]) -> Result<(), AagFault>
+fn check_known(variables: &IndexSet<u32>, all: &[u32]) -> Result<(), GraphFault>
     ensures known { OnOk result (HasNone (λ before v. not (nat_eq v 0 || is_among variables.now.keys v)) all.now) }
     ensures fault { IfErr result (IsUndefinedIn variables.now.keys all.now) }
 {
     for variable in all {
         if is_unknown(variables, *variable) {
-            return Err(AagFault::Undefined(*variable));
+            return Err(GraphFault::Undefined(*variable));
         }
     }
     Ok(())
 }
 
 /// Each variable that is read is 0 or defined.
-pub fn check_reads(alloc: Global, a: &Aig, variables: &IndexSet<u32>) -> Result<(), AagFault>
+pub fn check_reads(alloc: Global, a: &Aig, variables: &IndexSet<u32>) -> Result<(), GraphFault>
     requires { variables.now.keys ≡ defined (plain_aig a.now) }
     ensures known { OnOk result (IsDefined (plain_aig a.now)) }
     ensures fault { IfErr result (IsUndefinedIn (defined (plain_aig a.now)) (read_variables (plain_aig a.now))) }

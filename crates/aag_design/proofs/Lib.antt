@@ -1,0 +1,15 @@
+pub mod Places
+pub mod NameLaws
+pub mod DraftLaws
+pub mod Nets
+pub mod Known
+pub mod Values
+pub mod OneMeaning
+pub mod FreeMarks
+pub mod Bounds
+pub mod GateLoops
+pub mod MarkLists
+pub mod Turns
+pub mod DraftFaults
+pub mod Designs
+pub mod FileFacts

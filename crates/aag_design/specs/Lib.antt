@@ -1,0 +1,6 @@
+pub mod Draft
+pub mod Drafting
+pub mod Loop
+pub mod Same
+pub mod Read
+pub mod Small
