@@ -4,6 +4,7 @@
 //! The line is printed again, and below it what it answers: the flat text of the design, written alike, and how many registers are
 //! free, or the first fault.
 #![tactic(auto)]
+
 ghost use Rattle.std.specs.Prelude.{◌≤◌, length};
 
 use aag_design::{AagFault, read_aag};
@@ -66,7 +67,12 @@ fn put_fault(told: &mut String, fault: &AagFault) -> Result<(), AllocError> {
 }
 
 /// Puts what a file answers.
-fn put_answer(told: &mut String, alloc: Global, bytes: &[u8], limit: u64) -> Result<(), AllocError> {
+fn put_answer(
+    told: &mut String,
+    alloc: Global,
+    bytes: &[u8],
+    limit: u64,
+) -> Result<(), AllocError> {
     if bytes.len() > 8_388_608 {
         return told.push_str("too long");
     }
