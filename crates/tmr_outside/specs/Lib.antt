@@ -1,10 +1,12 @@
 pub mod Contents
 pub mod Counts
 pub mod FailedCalls
+pub mod Loading
 pub mod MemoryFiles
 pub mod MemorySink
 pub mod Pieces
 pub mod Plan
 pub mod Reading
+pub mod Saving
 pub mod Seen
 pub mod Written

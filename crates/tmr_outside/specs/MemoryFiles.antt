@@ -1,10 +1,11 @@
 -- What files in memory are, and what calls do to them.
-use Rattle.std.specs.Prelude.{ℕ, List, [], ◌∷◌, ◌++◌, refl}
+use Rattle.std.specs.Prelude.{◌≡◌, ℕ, List, [], ◌∷◌, ◌++◌, Some, refl}
 use Rattle.std.specs.Coded.{Coded, code_by, coded×, coded_ℕ, coded_list}
-use Rattle.std.specs.FinMap.{insert}
+use Rattle.std.specs.FinMap.{empty, insert}
 use Rattle.tmr_outside.specs.Contents.{Contents, contents_code}
 use Rattle.tmr_outside.specs.Plan.{Plan, plan_code, after_call, with_failure}
 use Rattle.tmr_outside.specs.FailedCalls.{loads_of, saves_of}
+use Rattle.tmr_outside.specs.Seen.{FilesSeen}
 use Rattle.tmr_outside.specs.declared.failed_calls.CallKind.{CallKind}
 
 -- what each name holds, the calls that failed, and which calls are to fail
@@ -26,6 +27,14 @@ failed_loads files = loads_of files.failed
 -- how many of the calls that failed were saves of a name
 abbrev pub failed_saves : FilesInMemory → List ℕ → ℕ
 failed_saves files = saves_of files.failed
+
+-- what is seen of them: all is told
+abbrev pub files_seen : FilesInMemory → FilesSeen
+files_seen files = record { contents = Some files.held; load_count = failed_loads files; save_count = failed_saves files }
+
+-- no call is to fail
+abbrev pub is_steady : FilesInMemory → Type 0
+is_steady files = files.plan.failing ≡ empty
 
 -- a call was made
 abbrev pub called : FilesInMemory → FilesInMemory

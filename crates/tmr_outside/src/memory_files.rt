@@ -1,12 +1,12 @@
 //! Files in memory.
-ghost use Rattle.std.specs.Prelude.{◌≡◌, ◌≢◌, ◌<◌, ◌≤◌, ◌⊎◌, List, ℕ, [], take, vec_len, IfOk, OnOk, OnErr, IsOk, IsErrOf, IsSome, IfSome, IsOkUnless, ◌∷◌, ◌++◌, length, Option, IsSomeAnd, Some, None, option_map};
+ghost use Rattle.std.specs.Prelude.{◌≡◌, ◌≢◌, ◌≤◌, ◌⊎◌, [], take, vec_len, IfOk, OnOk, OnErr, IsOk, IsErrOf, IsSome, IfSome, IsOkUnless, ◌∷◌, ◌++◌, length, Option, Some, None, option_map};
 ghost use Rattle.std.specs.FinMap.{empty, get, insert};
 ghost use Rattle.tmr_outside.specs.Contents.{IsTooLong};
-ghost use Rattle.tmr_outside.specs.Counts.{NoneFell, NoneRose, OthersStay};
-ghost use Rattle.tmr_outside.specs.FailedCalls.{loads_of, saves_of};
-ghost use Rattle.tmr_outside.specs.Pieces.{Takes, TakesFile};
+ghost use Rattle.tmr_outside.specs.Loading.{IsLoad};
+ghost use Rattle.tmr_outside.specs.Pieces.{TakesFile};
 ghost use Rattle.tmr_outside.specs.Plan.{prefix_left};
-ghost use Rattle.tmr_outside.specs.MemoryFiles.{failed_loads, failed_saves, called, noting, holding, failing_at};
+ghost use Rattle.tmr_outside.specs.MemoryFiles.{called, noting, holding, failing_at, files_seen, is_steady};
+ghost use Rattle.tmr_outside.specs.Saving.{IsSave};
 
 use crate::failed_calls::{CallKind, FailedCalls};
 use crate::pieces::{front, hand_out};
@@ -137,7 +137,6 @@ fn store(alloc: Global, stored: &mut StoredFiles, name: &str, bytes: &[u8]) -> R
 fn fail_load(alloc: Global, failed: &mut FailedCalls, name: &str) -> LoadFault
     ensures failed { result ≡ LoadFault.Failed → failed.new ≡ failed.old ++ (CallKind.Load, name.now) ∷ [] }
     ensures memory { result ≡ LoadFault.Memory → failed.new ≡ failed.old }
-    ensures others { OthersStay name.now (loads_of failed.old) (loads_of failed.new) }
     ensures kinds { result ≢ LoadFault.TooLong }
 {
     match failed.note(alloc, CallKind::Load, name) {
@@ -157,7 +156,6 @@ fn fail_save(
     ensures noted { result ≡ SaveFault.Failed → failed.new ≡ failed.old ++ (CallKind.Save, name.now) ∷ [] }
     ensures left { result ≡ SaveFault.Failed → stored.new ≡ insert stored.old name.now kept.now }
     ensures memory { result ≡ SaveFault.Memory → failed.new ≡ failed.old }
-    ensures others { OthersStay name.now (saves_of failed.old) (saves_of failed.new) }
     ensures memory_left { result ≡ SaveFault.Memory → stored.new ≡ stored.old }
 {
     match failed.note(alloc, CallKind::Save, name) {
@@ -174,17 +172,12 @@ fn fail_save(
 }
 
 impl Files for MemFiles {
-    ghost use Rattle.std.specs.Prelude.{Some, ◌≡◌, refl};
-    ghost use Rattle.std.specs.FinMap.{empty};
-    ghost use Rattle.tmr_outside.specs.MemoryFiles.{failed_loads, failed_saves};
+    ghost use Rattle.std.specs.Prelude.{refl};
+    ghost use Rattle.tmr_outside.specs.MemoryFiles.{files_seen, is_steady};
 
-    ghost seen = { λ files. record {
-      contents = Some files.held;
-      load_count = failed_loads files;
-      save_count = failed_saves files;
-    } };
+    ghost seen = { files_seen };
 
-    ghost steady = { λ files. files.plan.failing ≡ empty };
+    ghost steady = { is_steady };
 
     ghost steady_tells = { λ files steady. refl };
 
@@ -192,23 +185,8 @@ impl Files for MemFiles {
     fn load(&mut self, alloc: Global, name: &str, limit: u64) -> Result<Vec<u8>, LoadFault>
         ensures limit { IfOk result (λ bytes. vec_len bytes ≤ limit) }
         ensures bytes { IfOk result (λ bytes. get self.old.held name.now ≡ Some bytes.items) }
-        ensures stays { self.new.held ≡ self.old.held }
-        ensures too_long { IsErrOf result LoadFault.TooLong → IsTooLong self.old.held name.now limit }
-        ensures too_long_only { OnOk result (¬ (IsTooLong self.old.held name.now limit)) }
-        ensures failed { IsErrOf result LoadFault.Failed
-            → failed_loads self.old name.now < failed_loads self.new name.now }
-        ensures missing { get self.old.held name.now ≡ None
-            → (IsErrOf result LoadFault.Failed) ⊎ (IsErrOf result LoadFault.Memory) }
-        ensures loads { NoneFell (failed_loads self.old) (failed_loads self.new) }
-        ensures other_loads { OthersStay name.now (failed_loads self.old) (failed_loads self.new) }
-        ensures no_saves { NoneRose (failed_saves self.old) (failed_saves self.new) }
-        ensures answered { result ≢ Err LoadFault.Failed
-            → failed_loads self.new name.now ≡ failed_loads self.old name.now }
-        ensures steady { self.old.plan.failing ≡ empty → self.new.plan.failing ≡ empty }
-        ensures steady_failed { self.old.plan.failing ≡ empty → IsErrOf result LoadFault.Failed
-            → get self.old.held name.now ≡ None }
-        ensures steady_counts { self.old.plan.failing ≡ empty → IsSome (get self.old.held name.now)
-            → NoneRose (failed_loads self.old) (failed_loads self.new) }
+        ensures seen { IsLoad name.now limit result (files_seen self.old) (files_seen self.new)
+            (is_steady self.old) (is_steady self.new) }
 
         // Of a load that did not want memory: it fails exactly where its number is on the list or the
         // name is not there.
@@ -241,23 +219,8 @@ impl Files for MemFiles {
         requires { limit ≤ T.room to.old }
         ensures taken { TakesFile (T.stands to.old) (T.stands to.new) (T.room to.old) (T.room to.new) limit
             (Some self.old.held) name.now (IsOk result) }
-        ensures stays { self.new.held ≡ self.old.held }
-        ensures too_long { IsErrOf result LoadFault.TooLong → IsTooLong self.old.held name.now limit }
-        ensures too_long_only { OnOk result (¬ (IsTooLong self.old.held name.now limit)) }
-        ensures failed { IsErrOf result LoadFault.Failed
-            → failed_loads self.old name.now < failed_loads self.new name.now }
-        ensures missing { get self.old.held name.now ≡ None
-            → (IsErrOf result LoadFault.Failed) ⊎ (IsErrOf result LoadFault.Memory) }
-        ensures loads { NoneFell (failed_loads self.old) (failed_loads self.new) }
-        ensures other_loads { OthersStay name.now (failed_loads self.old) (failed_loads self.new) }
-        ensures no_saves { NoneRose (failed_saves self.old) (failed_saves self.new) }
-        ensures answered { result ≢ Err LoadFault.Failed
-            → failed_loads self.new name.now ≡ failed_loads self.old name.now }
-        ensures steady { self.old.plan.failing ≡ empty → self.new.plan.failing ≡ empty }
-        ensures steady_failed { self.old.plan.failing ≡ empty → IsErrOf result LoadFault.Failed
-            → get self.old.held name.now ≡ None }
-        ensures steady_counts { self.old.plan.failing ≡ empty → IsSome (get self.old.held name.now)
-            → NoneRose (failed_loads self.old) (failed_loads self.new) }
+        ensures seen { IsLoad name.now limit result (files_seen self.old) (files_seen self.new)
+            (is_steady self.old) (is_steady self.new) }
 
         // Of a load that did not want memory: it fails exactly where its number is on the list or the
         // name is not there.
@@ -284,19 +247,8 @@ impl Files for MemFiles {
 
     #[tactic(auto, using(crate::proofs::FailedCallLemmas::call_rules, crate::proofs::ContentsLemmas::contents_rules))]
     fn save(&mut self, name: &str, bytes: &[u8]) -> Result<(), SaveFault>
-        ensures ok { OnOk result (self.new.held ≡ insert self.old.held name.now bytes.now) }
-        ensures memory { IsErrOf result SaveFault.Memory → self.new.held ≡ self.old.held }
-        ensures others { (other : List ℕ) → other ≢ name.now → get self.new.held other ≡ get self.old.held other }
-        ensures failed { IsErrOf result SaveFault.Failed
-            → failed_saves self.old name.now < failed_saves self.new name.now }
-        ensures saves { NoneFell (failed_saves self.old) (failed_saves self.new) }
-        ensures no_loads { NoneRose (failed_loads self.old) (failed_loads self.new) }
-        ensures other_saves { OthersStay name.now (failed_saves self.old) (failed_saves self.new) }
-        ensures answered { result ≢ Err SaveFault.Failed
-            → failed_saves self.new name.now ≡ failed_saves self.old name.now }
-        ensures steady { self.old.plan.failing ≡ empty → self.new.plan.failing ≡ empty }
-        ensures steady_ok { self.old.plan.failing ≡ empty → (result ≢ Err SaveFault.Failed)
-            × NoneRose (failed_saves self.old) (failed_saves self.new) × NoneRose (failed_loads self.old) (failed_loads self.new) }
+        ensures seen { IsSave name.now bytes.now result (files_seen self.old) (files_seen self.new)
+            (is_steady self.old) (is_steady self.new) }
 
         // Of a save that did not want memory: it fails exactly where its number is on the list.
         ensures listed { IsErrOf result SaveFault.Failed → IsSome (prefix_left self.old.plan) }

@@ -1,6 +1,7 @@
-use Rattle.std.proofs.Common.{ap, ◌∙◌}
-use Rattle.tmr_outside.specs.MemoryFiles.{failed_loads}
+use Rattle.std.proofs.Common.{arith}
+use Rattle.std.proofs.lemmas.Grind.{common_steps}
+use Rattle.tmr_outside.proofs.MemoryLemmas.{load_fails}
 use Rattle.tmr_outside.proofs.memory_files.MemFilesFiles.load_pieces.Goals as goal
 
-pub returns-in-Err-Failed-clause-other_loads : goal.returns-in-Err-Failed-clause-other_loads
-returns-in-Err-Failed-clause-other_loads g c = λ other differs. c.fail_load.ensures.others other differs ∙ ap (λ files. failed_loads files other) c.self.view_is
+pub returns-in-Err-Failed-clause-seen : goal.returns-in-Err-Failed-clause-seen
+returns-in-Err-Failed-clause-seen g c = rw (← c.self.view_is) (load_fails c.args.name.now c.args.limit c.fail_load.result c.self.inside.stored c.self.inside.failed c.fail_load.new.failed c.self.inside.plan c.begin-keep.new.self c.fail_load.ensures.failed c.fail_load.ensures.memory c.fail_load.ensures.kinds (grind (arith, common_steps)) (grind (arith, common_steps)))
