@@ -1,5 +1,6 @@
 -- Where no node would move.
-use Rattle.std.proofs.Common.{◌≡◌, ℕ, ◌<◌, ◌≤◌, inl, inr, true, length, sym, ap, subst, arith, get_or}
+use Rattle.std.proofs.Common.{◌≡◌, ℕ, ◌+◌, ◌<◌, ◌≤◌, ◌⊎◌, inl, inr, true, length, sym, ap, subst, arith, get_or}
+use Rattle.std.proofs.lemmas.Bool.{cases_eq}
 use Rattle.flat_net.specs.Net.{Net}
 use Rattle.tmr_base.specs.Parts.{PlainParts}
 use Rattle.partitioner.specs.Cost.{cost}
@@ -30,3 +31,14 @@ mover_not_minimal n size parts i l moves minimal = go (is_place n size parts i).
     go : IsReached (λ q. cost n (put parts i q)) (has_room size parts) (get_or parts.of i 0) parts.count (place n size parts i) → ⊥
     go (inl e) = moves e
     go (inr h) = omega (arith, h.2, cost_now n parts i, minimal i (place n size parts i) l h.0 (λ e. moves (sym e)) h.1)
+
+-- the first i nodes stay, and so does the next
+pub stays_more : (n : Net) (size : ℕ) (before parts : PlainParts) (i : ℕ) → parts ≡ before → ((j : ℕ) → j < i → place n size before j ≡ get_or before.of j 0) → place n size parts i ≡ get_or parts.of i 0 → (j : ℕ) → j < i + 1 → place n size before j ≡ get_or before.of j 0
+stays_more n size before parts i same earlier now j l = go (cases_eq j i)
+  where
+    here : place n size before i ≡ get_or before.of i 0
+    here = subst (λ (ps : PlainParts). place n size ps i ≡ get_or ps.of i 0) same now
+
+    go : (j ≡ i) ⊎ (j ≡ i → ⊥) → place n size before j ≡ get_or before.of j 0
+    go (inl e) = subst (λ (k : ℕ). place n size before k ≡ get_or before.of k 0) (sym e) here
+    go (inr ne) = earlier j (omega (arith, l, ne))

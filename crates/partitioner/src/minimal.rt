@@ -1,5 +1,5 @@
 //! Whether a single move lowers the cost.
-ghost use Rattle.std.specs.Prelude.{◌≡◌, ◌<◌, ◌↔◌, ℕ, length, IsTrue, IfOk};
+ghost use Rattle.std.specs.Prelude.{◌≡◌, ◌<◌, ◌↔◌, ℕ, true, length, IsTrue, IfOk};
 ghost use Rattle.partitioner.specs.Sizes.{KeepsSize};
 ghost use Rattle.partitioner.specs.Refining.{IsMinimal};
 ghost use Rattle.partitioner.specs.Tracking.{Tracks, parts_of};
@@ -17,7 +17,7 @@ use std::alloc::Global;
 use tmr_base::{OutOfMemory, Parts};
 
 /// Each node goes to where it stands.
-pub fn all_stay(n: &FlatNet, p: &Partitioning, spots: &Spots, gains: &mut Gains, size: u32) -> bool
+fn all_stay(n: &FlatNet, p: &Partitioning, spots: &Spots, gains: &mut Gains, size: u32) -> bool
     requires tracks { Tracks n.now.net p.now }
     requires spots { AreSpots n.now.net size (parts_of p.now) spots.now }
     requires kept { AreKept p.now.count gains.old }
@@ -32,6 +32,27 @@ pub fn all_stay(n: &FlatNet, p: &Partitioning, spots: &Spots, gains: &mut Gains,
         }
     }
     true
+}
+
+/// The same, where it may be known already: a pass that moved no node tried them all.
+pub fn no_move_helps(
+    n: &FlatNet,
+    p: &Partitioning,
+    spots: &Spots,
+    gains: &mut Gains,
+    size: u32,
+    settled: bool,
+) -> bool
+    requires tracks { Tracks n.now.net p.now }
+    requires spots { AreSpots n.now.net size (parts_of p.now) spots.now }
+    requires kept { AreKept p.now.count gains.old }
+    requires settled { settled ≡ true → IsMinimal n.now.net size (parts_of p.now) }
+    ensures { IsTrue result ↔ IsMinimal n.now.net size (parts_of p.now) }
+{
+    if settled {
+        return true;
+    }
+    all_stay(n, p, spots, gains, size)
 }
 
 /// No single node moved to a partition with room lowers the cost. `parts` keeps the rule of sizes.

@@ -1,15 +1,15 @@
 //! Passes of moves.
-ghost use Rattle.std.specs.Prelude.{◌≡◌, ◌<◌, ◌≤◌, ◌↔◌, ℕ, Bool, false, length, IsTrue, OnOk, IfOk};
+ghost use Rattle.std.specs.Prelude.{◌≡◌, ◌<◌, ◌≤◌, ◌↔◌, ℕ, Bool, true, false, length, slice_index, IsTrue, OnOk, IfOk};
 ghost use Rattle.flat_net.specs.Net.{Net};
 ghost use Rattle.partitioner.specs.Cost.{cost};
 ghost use Rattle.partitioner.specs.Sizes.{KeepsSize};
-ghost use Rattle.partitioner.specs.Refining.{move, pass, refined, IsMinimal};
+ghost use Rattle.partitioner.specs.Refining.{move, pass, place, refined, IsMinimal};
 ghost use Rattle.partitioner.specs.Tracking.{Tracks, parts_of};
 ghost use Rattle.partitioner.specs.Spotting.{AreSpots};
 ghost use Rattle.partitioner.specs.Gaining.{AreKept};
 
 use crate::gains::{Gains, no_gains};
-use crate::minimal::all_stay;
+use crate::minimal::no_move_helps;
 use crate::moving::move_to;
 use crate::nodes::nodes_of;
 use crate::pairs::pairs_in;
@@ -39,6 +39,7 @@ fn move_node(
     ensures kept { OnOk result (AreKept p.new.count gains.new) }
     ensures parts { OnOk result (parts_of p.new ≡ move n.now.net size (parts_of p.old) i) }
     ensures still { IfOk result (λ moved. moved ≡ false → parts_of p.new ≡ parts_of p.old) }
+    ensures stays { IfOk result (λ moved. moved ≡ false → place n.now.net size (parts_of p.old) i ≡ slice_index p.old.of.items i) }
 {
     let place = place_of(n, p, spots, gains, size, i);
     if place == part_of(n, p, i) {
@@ -64,6 +65,7 @@ fn pass_once(
     ensures kept { OnOk result (AreKept p.new.count gains.new) }
     ensures parts { OnOk result (parts_of p.new ≡ pass n.now.net size (parts_of p.old)) }
     ensures still { IfOk result (λ moved. moved ≡ false → parts_of p.new ≡ parts_of p.old) }
+    ensures minimal { IfOk result (λ moved. moved ≡ false → IsMinimal n.now.net size (parts_of p.new)) }
 {
     if !some_room(n, p, size) {
         return Ok(false);
@@ -77,7 +79,7 @@ fn pass_once(
     Ok(moved)
 }
 
-/// So many passes, ended after a pass without moves.
+/// So many passes, ended after a pass without moves. Says whether they ended so.
 fn pass_often(
     n: &FlatNet,
     p: &mut Partitioning,
@@ -85,7 +87,7 @@ fn pass_often(
     gains: &mut Gains,
     size: u32,
     passes: u32,
-) -> Result<(), OutOfMemory>
+) -> Result<bool, OutOfMemory>
     requires tracks { Tracks n.now.net p.old }
     requires spots { AreSpots n.now.net size (parts_of p.old) spots.old }
     requires kept { AreKept p.old.count gains.old }
@@ -93,15 +95,24 @@ fn pass_often(
     ensures spots { OnOk result (AreSpots n.now.net size (parts_of p.new) spots.new) }
     ensures kept { OnOk result (AreKept p.new.count gains.new) }
     ensures parts { OnOk result (parts_of p.new ≡ refined n.now.net size (parts_of p.old) passes) }
+    ensures minimal { IfOk result (λ settled. settled ≡ true → IsMinimal n.now.net size (parts_of p.new)) }
 {
     let mut left = passes;
     while left > 0 {
         if !pass_once(n, p, spots, gains, size)? {
-            return Ok(());
+            return Ok(true);
         }
         left -= 1;
     }
-    Ok(())
+    Ok(false)
+}
+
+/// What passes of moves leave beside the parts, and whether the last one moved no node.
+#[derive(Drop)]
+struct Passed {
+    spots: Spots,
+    gains: Gains,
+    settled: bool,
 }
 
 /// So many passes of moves, with what is kept beside them.
@@ -111,18 +122,23 @@ fn pass_all(
     p: &mut Partitioning,
     size: u32,
     passes: u32,
-) -> Result<(Spots, Gains), OutOfMemory>
+) -> Result<Passed, OutOfMemory>
     requires { Tracks n.now.net p.old }
     ensures tracks { OnOk result (Tracks n.now.net p.new) }
     ensures parts { OnOk result (parts_of p.new ≡ refined n.now.net size (parts_of p.old) passes) }
-    ensures spots { IfOk result (λ kept. AreSpots n.now.net size (parts_of p.new) kept.0) }
-    ensures kept { IfOk result (λ kept. AreKept p.new.count kept.1) }
+    ensures spots { IfOk result (λ passed. AreSpots n.now.net size (parts_of p.new) passed.spots) }
+    ensures kept { IfOk result (λ passed. AreKept p.new.count passed.gains) }
+    ensures minimal { IfOk result (λ passed. passed.settled ≡ true → IsMinimal n.now.net size (parts_of p.new)) }
 {
     let mut spots = spots_of(alloc, n, p)?;
     shut_full(n, p, &mut spots, size);
     let mut gains = no_gains(alloc, p.count)?;
-    pass_often(n, p, &mut spots, &mut gains, size, passes)?;
-    Ok((spots, gains))
+    let settled = pass_often(n, p, &mut spots, &mut gains, size, passes)?;
+    Ok(Passed {
+        spots,
+        gains,
+        settled,
+    })
 }
 
 /// The parts after so many passes of moves.
@@ -137,7 +153,7 @@ fn refined_parts(
     ensures { IfOk result (λ after. after ≡ refined n.now.net size parts.now passes) }
 {
     let mut p = track(alloc, n, parts)?;
-    let _kept = pass_all(alloc, n, &mut p, size, passes)?;
+    let _passed = pass_all(alloc, n, &mut p, size, passes)?;
     let Partitioning { count, of, .. } = p;
     Ok(Parts::make(count, of))
 }
@@ -191,9 +207,16 @@ pub fn refine_counted(
 {
     let mut p = track(alloc, n, parts)?;
     let before = pairs_in(alloc, n, &p.readers, p.count, p.of.as_slice())?;
-    let (spots, mut gains) = pass_all(alloc, n, &mut p, size, passes)?;
+    let mut passed = pass_all(alloc, n, &mut p, size, passes)?;
     let cost = pairs_in(alloc, n, &p.readers, p.count, p.of.as_slice())?;
-    let minimal = all_stay(n, &p, &spots, &mut gains, size);
+    let minimal = no_move_helps(
+        n,
+        &p,
+        &passed.spots,
+        &mut passed.gains,
+        size,
+        passed.settled,
+    );
     let Partitioning { count, of, .. } = p;
     Ok(Refined {
         parts: Parts::make(count, of),

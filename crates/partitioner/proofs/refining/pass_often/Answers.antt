@@ -1,4 +1,5 @@
 use Rattle.std.proofs.Common.{◌≡◌, ◌-◌, ◌+◌, ◌∙◌, ℕ, sym, ap, arith}
+use Rattle.std.proofs.lemmas.Bool.{false≢true}
 use Rattle.partitioner.specs.Refining.{pass, refined}
 use Rattle.partitioner.specs.Tracking.{parts_of}
 use Rattle.partitioner.proofs.RefineLaws.{refined_none, refined_more, refined_fixed}
@@ -37,4 +38,5 @@ returns c =
       spots = c.loop-left.invariant.0.1;
       kept = c.loop-left.invariant.0.2;
       parts = c.loop-left.invariant.1 ∙ ap (λ (k : ℕ). refined c.args.n.now.net c.args.size (parts_of c.args.p.now) k) all;
+      minimal = λ h. absurd (false≢true h);
     }

@@ -1,10 +1,10 @@
-use Rattle.std.proofs.Common.{◌≡◌, ℕ, Bool, false}
+use Rattle.std.proofs.Common.{◌≡◌, ℕ, ◌<◌, Bool, false, slice_index}
 use Rattle.tmr_base.specs.Parts.{PlainParts}
 use Rattle.flat_net.specs.Net.{Net}
 use Rattle.partitioner.specs.declared.partitioning.Partitioning.{Partitioning}
 use Rattle.partitioner.specs.declared.spots.Spots.{Spots}
 use Rattle.partitioner.specs.declared.gains.Gains.{Gains}
-use Rattle.partitioner.specs.Refining.{moves}
+use Rattle.partitioner.specs.Refining.{moves, place}
 use Rattle.partitioner.specs.Tracking.{Tracks, parts_of}
 use Rattle.partitioner.specs.Spotting.{AreSpots}
 use Rattle.partitioner.specs.Gaining.{AreKept}
@@ -17,6 +17,7 @@ pub record Moved (n : Net) (size : ℕ) (before : PlainParts) (p : Partitioning)
   pub kept : AreKept p.count gains
   pub parts : parts_of p ≡ moves n size before k
   pub still : moved ≡ false → parts_of p ≡ before
+  pub stays : moved ≡ false → (j : ℕ) → j < k → place n size before j ≡ slice_index before.of j
 
 abbrev pub invariant-loop-i : goal.invariant-loop-i
 invariant-loop-i l = Moved l.n.net l.size (parts_of l.initial.p) l.p l.spots l.gains l.i l.moved
