@@ -6,3 +6,5 @@ pub mod OneCycle
 pub mod Ordering
 pub mod Settling
 pub mod Triples
+pub mod TruthLaws
+pub mod TruthTables

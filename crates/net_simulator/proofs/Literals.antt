@@ -2,6 +2,7 @@
 use Rattle.std.proofs.Common.{◌≡◌, ℕ, suc, ◌+◌, ◌-◌, ◌<◌, ◌≤◌, ◌^◌, cond, Bool, true, false, not, ◌&&◌, ◌||◌, List, [], ◌∷◌, ◌++◌, length, map, take, drop, slice_index, slice_get, Option, Some, None, refl, sym, ◌∙◌, ap, subst, arith}
 use Rattle.std.specs.Prelude.{option_map, nat_eq, bit_and, bit_or}
 use Rattle.std.specs.Option.{unwrap_or}
+use Rattle.std.specs.List.{flat_map}
 use Rattle.std.proofs.lemmas.List.{length-append, append-nil, drop_all, append_assoc, map-append}
 use Rattle.std.proofs.lemmas.Grind.{flat_map-append}
 use Rattle.std.proofs.lemmas.Option.{get_or_from_slice_get, slice_get_within, slice_get-map}
@@ -12,7 +13,7 @@ use Rattle.table_cover.proofs.WordLaws.{word_bit_and, word_bit_or, word_bit_not}
 use Rattle.flat_net.specs.Net.{Net, Node, Table, Register, node_of, IsTable}
 use Rattle.net_meaning.specs.Meaning.{bit}
 use Rattle.net_simulator.specs.Settled.{own_value, mark}
-use Rattle.net_simulator.specs.Tables.{wanted, mark_literals, row_literals, has_literal, rows_literals, some_always, node_literals, entry_of, entries, entry_nets, literals, literal_fits, some_fits, entry_value, is_wanting}
+use Rattle.net_simulator.specs.Tables.{wanted, mark_literals, row_literals, has_literal, rows_literals, some_always, node_literals, entry_of, entries, entry_nets, literal_fits, some_fits, entry_value, is_wanting}
 use Rattle.net_simulator.specs.declared.tables.Literal.{Literal}
 use Rattle.net_simulator.specs.declared.tables.Entry.{Entry}
 
@@ -40,7 +41,7 @@ or_or false q r = refl
 next_item : (xs : List ℕ) (i x : ℕ) → i < length xs → slice_index xs i ≡ x → drop i xs ≡ x ∷ drop (i + 1) xs
 next_item xs i x h e = drop-cons xs i 0 h ∙ (ap (λ (y : ℕ). y ∷ drop (suc i) xs) e ∙ ap (λ (k : ℕ). x ∷ drop k xs) (let s : suc i ≡ i + 1 = omega arith in s))
 
-next_got : {A : Type 0} (xs : List A) (i : ℕ) (x : A) → slice_get xs i ≡ Some x → drop i xs ≡ x ∷ drop (i + 1) xs
+pub next_got : {A : Type 0} (xs : List A) (i : ℕ) (x : A) → slice_get xs i ≡ Some x → drop i xs ≡ x ∷ drop (i + 1) xs
 next_got {A} xs i x e =
     let h : i < length xs = slice_get_within xs i x e in
     drop-cons xs i x h ∙ (ap (λ (y : A). y ∷ drop (suc i) xs) (get_or_from_slice_get xs i x x e) ∙ ap (λ (k : ℕ). x ∷ drop k xs) (let s : suc i ≡ i + 1 = omega arith in s))
@@ -205,9 +206,9 @@ rows_next rows pins i row e = ap (λ (rs : List (List ℕ)). rows_literals rs pi
 pub always_next : (rows : List (List ℕ)) (pins : List ℕ) (i : ℕ) (row : List ℕ) → slice_get rows i ≡ Some row → some_always (drop i rows) pins ≡ (not (has_literal false row pins) || some_always (drop (i + 1) rows) pins)
 always_next rows pins i row e = ap (λ (rs : List (List ℕ)). some_always rs pins) (next_got rows i row e)
 
--- one node more
-pub literals_next : (n : Net) (order : List ℕ) (i x : ℕ) → slice_get order i ≡ Some x → literals n (drop i order) ≡ node_literals (node_of n x) ++ literals n (drop (i + 1) order)
-literals_next n order i x e = ap (literals n) (next_got order i x e)
+-- one net more
+pub flat_next : {A : Type 0} (f : ℕ → List A) (order : List ℕ) (i x : ℕ) → slice_get order i ≡ Some x → flat_map f (drop i order) ≡ f x ++ flat_map f (drop (i + 1) order)
+flat_next {A} f order i x e = ap (flat_map f) (next_got order i x e)
 
 -- what is added to one list is taken from the other
 moved : {A : Type 0} (whole items new one rest more : List A) → whole ≡ items ++ rest → rest ≡ one ++ more → new ≡ items ++ one → whole ≡ new ++ more
@@ -239,25 +240,24 @@ pub nets_pushed : (es new : List Entry) (x : ℕ) (e : Entry) → e.net.0 ≡ x 
 nets_pushed es new x e net pushed =
     ap entry_nets pushed ∙ (map-append (λ (f : Entry). f.net.0) es (e ∷ []) ∙ ap (λ (y : ℕ). entry_nets es ++ y ∷ []) net)
 
-pub literals_pushed : (n : Net) (nets more : List ℕ) (x : ℕ) (ls new : List Literal) → ls ≡ literals n nets → more ≡ nets ++ x ∷ [] → new ≡ ls ++ node_literals (node_of n x) → new ≡ literals n more
-literals_pushed n nets more x ls new same one pushed =
-    pushed ∙ (ap (λ (l : List Literal). l ++ node_literals (node_of n x)) same
-    ∙ (ap (λ (l : List Literal). literals n nets ++ l) (sym (append-nil (node_literals (node_of n x))))
-    ∙ (sym (flat_map-append (λ (y : ℕ). node_literals (node_of n y)) nets (x ∷ [])) ∙ ap (literals n) (sym one))))
+pub flat_pushed : {A : Type 0} (f : ℕ → List A) (nets more : List ℕ) (x : ℕ) (ls new : List A) → ls ≡ flat_map f nets → more ≡ nets ++ x ∷ [] → new ≡ ls ++ f x → new ≡ flat_map f more
+flat_pushed {A} f nets more x ls new same one pushed =
+    pushed ∙ (ap (λ (l : List A). l ++ f x) same
+    ∙ (ap (λ (l : List A). flat_map f nets ++ l) (sym (append-nil (f x)))
+    ∙ (sym (flat_map-append f nets (x ∷ [])) ∙ ap (flat_map f) (sym one))))
 
--- a node's literals stand at the front of what is left
-pub front_is : (rest : List Literal) (n : Net) (order : List ℕ) (i x count : ℕ) → rest ≡ literals n (drop i order) → slice_get order i ≡ Some x → count ≡ length (node_literals (node_of n x)) → take count rest ≡ node_literals (node_of n x)
-front_is rest n order i x count e f g =
-    ap (λ (k : ℕ). take k rest) g ∙ (ap (take (length (node_literals (node_of n x)))) (e ∙ literals_next n order i x f) ∙ take-append_seam (node_literals (node_of n x)) (literals n (drop (i + 1) order)))
+-- what a net has stands at the front of what is left
+module _ {A : Type 0} (f : ℕ → List A) (rest : List A) (order : List ℕ) (i x count : ℕ) (is : rest ≡ flat_map f (drop i order)) (there : slice_get order i ≡ Some x) (long : count ≡ length (f x)) where
+  pub front_is : take count rest ≡ f x
+  front_is = ap (λ (k : ℕ). take k rest) long ∙ (ap (take (length (f x))) (is ∙ flat_next f order i x there) ∙ take-append_seam (f x) (flat_map f (drop (i + 1) order)))
 
-pub back_is : (rest : List Literal) (n : Net) (order : List ℕ) (i x count : ℕ) → rest ≡ literals n (drop i order) → slice_get order i ≡ Some x → count ≡ length (node_literals (node_of n x)) → drop count rest ≡ literals n (drop (i + 1) order)
-back_is rest n order i x count e f g =
-    ap (λ (k : ℕ). drop k rest) g ∙ (ap (drop (length (node_literals (node_of n x)))) (e ∙ literals_next n order i x f) ∙ drop-append_seam (node_literals (node_of n x)) (literals n (drop (i + 1) order)))
+  pub back_is : drop count rest ≡ flat_map f (drop (i + 1) order)
+  back_is = ap (λ (k : ℕ). drop k rest) long ∙ (ap (drop (length (f x))) (is ∙ flat_next f order i x there) ∙ drop-append_seam (f x) (flat_map f (drop (i + 1) order)))
 
-pub front_within : (rest : List Literal) (n : Net) (order : List ℕ) (i x count : ℕ) → rest ≡ literals n (drop i order) → slice_get order i ≡ Some x → count ≡ length (node_literals (node_of n x)) → count ≤ length rest
-front_within rest n order i x count e f g =
-    let all : length rest ≡ length (node_literals (node_of n x)) + length (literals n (drop (i + 1) order)) = ap length (e ∙ literals_next n order i x f) ∙ length-append (node_literals (node_of n x)) (literals n (drop (i + 1) order)) in
-    omega (arith, all, g)
+  pub front_within : count ≤ length rest
+  front_within =
+      let all : length rest ≡ length (f x) + length (flat_map f (drop (i + 1) order)) = ap length (is ∙ flat_next f order i x there) ∙ length-append (f x) (flat_map f (drop (i + 1) order)) in
+      omega (arith, all, long)
 
 pub has_pushed : (whole begun b : Bool) (row pins : List ℕ) (i : ℕ) (value : Option Bool) → whole ≡ has_literal begun (drop i row) (drop i pins) → b ≡ (begun || is_wanting value)
     → i < length row → i < length pins → value ≡ wanted (slice_index row i) → whole ≡ has_literal b (drop (i + 1) row) (drop (i + 1) pins)

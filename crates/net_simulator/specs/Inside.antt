@@ -3,7 +3,8 @@ use Rattle.std.specs.Prelude.{◌≡◌, length}
 use Rattle.flat_net.specs.Net.{net_count}
 use Rattle.net_simulator.specs.Cycle.{Run, WideRun}
 use Rattle.net_simulator.specs.Settled.{last_of, AreMarks}
-use Rattle.net_simulator.specs.Tables.{AreTables}
+use Rattle.net_simulator.specs.Tables.{AreTables, entry_nets}
+use Rattle.net_simulator.specs.Truth.{AreTruths}
 use Rattle.net_simulator.specs.declared.sim.Sim.TheInside as single
 use Rattle.net_simulator.specs.declared.wide.WideSim.TheInside as wide
 
@@ -16,6 +17,7 @@ pub record IsSim (s : single.Inside) : Type 0 where
   pub before : length s.before.items ≡ net_count s.net.now.net
   pub forced : length s.forced.items ≡ net_count s.net.now.net
   pub tables : AreTables s.net.now.net s.tables
+  pub truths : AreTruths s.net.now.net (entry_nets s.tables.entries.items) s.truths
 
 abbrev pub wide_run_of : wide.Inside → WideRun
 wide_run_of s = record { net = s.net.now.net; last = last_of s.started s.words.items }

@@ -4,3 +4,4 @@ pub mod Inside
 pub mod Registers
 pub mod Settled
 pub mod Tables
+pub mod Truth

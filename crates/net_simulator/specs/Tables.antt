@@ -1,6 +1,6 @@
 -- Only private functions cite this: the tables as one list of literals, in the order of evaluation.
 use Rattle.std.specs.Prelude.{◌≡◌, ◌≢◌, ℕ, ◌<◌, slice_index, Bool, true, false, not, ◌&&◌, ◌||◌}
-use Rattle.std.specs.Prelude.{nat_eq, List, [], ◌∷◌, ◌++◌, length, map, Option, Some, None, if◌then◌else◌}
+use Rattle.std.specs.Prelude.{nat_eq, nat_le, List, [], ◌∷◌, ◌++◌, length, map, Option, Some, None, if◌then◌else◌}
 use Rattle.std.specs.List.{list_any, flat_map}
 use Rattle.flat_net.specs.Net.{Net, Node, Table, Register, node_of, IsTable, ComesBefore}
 use Rattle.net_simulator.specs.declared.tables.Literal.{Literal}
@@ -47,10 +47,16 @@ node_literals (Some (Register name init pin)) = []
 
 -- what stands beside a table's literals
 abbrev pub entry_of : Option Node → ℕ → Entry
-entry_of None x = record { net = record { 0 = x }; is_on = true; always = false; count = 0 }
-entry_of (Some (Table name cover pins)) x =
-    record { net = record { 0 = x }; is_on = cover.is_on; always = some_always cover.rows pins; count = length (rows_literals cover.rows pins) }
-entry_of (Some (Register name init pin)) x = record { net = record { 0 = x }; is_on = true; always = false; count = 0 }
+entry_of None x = record { net = record { 0 = x }; is_on = true; always = false; is_short = false; pins = 0; count = 0 }
+entry_of (Some (Table name cover pins)) x = record {
+  net = record { 0 = x };
+  is_on = cover.is_on;
+  always = some_always cover.rows pins;
+  is_short = nat_le (length pins) 6;
+  pins = if nat_le (length pins) 6 then length pins else 0;
+  count = length (rows_literals cover.rows pins);
+}
+entry_of (Some (Register name init pin)) x = record { net = record { 0 = x }; is_on = true; always = false; is_short = false; pins = 0; count = 0 }
 
 abbrev pub entries : Net → List ℕ → List Entry
 entries n nets = map (λ x. entry_of (node_of n x) x) nets

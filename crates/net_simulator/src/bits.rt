@@ -5,11 +5,13 @@ ghost use Rattle.net_meaning.specs.Meaning.{bit};
 ghost use Rattle.std.specs.Option.{unwrap_or};
 ghost use Rattle.net_simulator.specs.Settled.{IsSettled, IsInput, IsNoTable, IsAnyNet, forced_at, number_of_cycle, last_of};
 ghost use Rattle.net_simulator.specs.Registers.{AreRegisters};
-ghost use Rattle.net_simulator.specs.Tables.{AreTables, literal_fits, some_fits, entry_value};
+ghost use Rattle.net_simulator.specs.Tables.{AreTables, entry_nets, literal_fits, some_fits, entry_value};
+ghost use Rattle.net_simulator.specs.Truth.{AreTruths, short_value};
 ghost use Rattle.net_simulator.specs.Cycle.{IsCycle};
 
 use crate::registers::{Held, held_at};
 use crate::tables::{Entry, Literal, Tables, entry_at, literal_at};
+use crate::truth::{Truths, word_at_place, word_value};
 use flat_net::FlatNet;
 use tmr_base::NetId;
 
@@ -55,10 +57,22 @@ fn some_row_fits(literals: &[Literal], always: bool, now: &[bool]) -> bool
 }
 
 /// The value of a table with these literals.
-fn table_bit(entry: Entry, literals: &[Literal], now: &[bool]) -> bool
+fn rows_bit(entry: Entry, literals: &[Literal], now: &[bool]) -> bool
     ensures { result ≡ entry_value entry (bit now.now) literals.now }
 {
     some_row_fits(literals, entry.always, now) == entry.is_on
+}
+
+/// The value of a table, by its word if it is short, or else by its literals.
+fn table_bit(entry: Entry, word: u64, pins: &[NetId], literals: &[Literal], now: &[bool]) -> bool
+    requires { length pins.now ≤ 6 }
+    ensures { result ≡ short_value entry word pins.now literals.now (bit now.now) }
+{
+    if entry.is_short {
+        word_value(word, pins, now)
+    } else {
+        rows_bit(entry, literals, now)
+    }
 }
 
 /// What its own equation gives a register.
@@ -110,12 +124,14 @@ fn set_registers(
 fn set_tables(
     net: &FlatNet,
     tables: &Tables,
+    truths: &Truths,
     started: bool,
     before: &[bool],
     forced: &[Option<bool>],
     now: &mut [bool],
 )
     requires tables { AreTables net.now.net tables.now }
+    requires truths { AreTruths net.now.net (entry_nets tables.now.entries.items) truths.now }
     requires now { length now.old ≡ net_count net.now.net }
     ensures { (ins : List Bool) →
         IsSettled net.now.net (number_of_cycle started) ins before.now (forced_at forced.now) (IsNoTable net.now.net) now.old →
@@ -123,12 +139,17 @@ fn set_tables(
 {
     let _inputs = net.input_count();
     let mut rest = tables.literals.as_slice();
+    let mut rest_pins = truths.pins.as_slice();
     for i in 0..tables.entries.len() {
         let entry = entry_at(net, tables, i);
-        let (own, others) = rest.split_at(entry.count);
+        let (literals, others) = rest.split_at(entry.count);
+        let (pins, other_pins) = rest_pins.split_at(entry.pins as usize);
         let k = entry.net.0 as usize;
-        now[k] = forced_bit(table_bit(entry, own, now), forced, k);
+        let word = word_at_place(&truths.words, i);
+        let own = table_bit(entry, word, pins, literals, now);
+        now[k] = forced_bit(own, forced, k);
         rest = others;
+        rest_pins = other_pins;
     }
 }
 
@@ -136,6 +157,7 @@ fn set_tables(
 pub fn run_bits(
     net: &FlatNet,
     tables: &Tables,
+    truths: &Truths,
     started: bool,
     ins: &[bool],
     before: &[bool],
@@ -145,10 +167,11 @@ pub fn run_bits(
     requires ins { length ins.now ≡ length net.now.net.inputs }
     requires now { length now.old ≡ net_count net.now.net }
     requires tables { AreTables net.now.net tables.now }
+    requires truths { AreTruths net.now.net (entry_nets tables.now.entries.items) truths.now }
     ensures { IsCycle net.now.net (last_of started before.now) ins.now (forced_at forced.now) now.new }
 {
     let _inputs = net.input_count();
     set_inputs(ins, forced, now);
     set_registers(net, &tables.registers, started, before, forced, now);
-    set_tables(net, tables, started, before, forced, now);
+    set_tables(net, tables, truths, started, before, forced, now);
 }

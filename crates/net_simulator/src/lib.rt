@@ -10,6 +10,7 @@ mod marks;
 mod registers;
 mod sim;
 mod tables;
+mod truth;
 mod wide;
 
 pub use sim::Sim;

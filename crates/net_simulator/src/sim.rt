@@ -7,6 +7,7 @@ ghost use Rattle.net_simulator.specs.Settled.{forced_at};
 
 use crate::bits::{bit_at, run_bits};
 use crate::tables::{Tables, tables_of};
+use crate::truth::{Truths, truths_of};
 use flat_net::FlatNet;
 use std::alloc::Global;
 use std::marker::Model;
@@ -22,6 +23,7 @@ pub struct Sim<'a> {
     before: Vec<bool>,
     forced: Vec<Option<bool>>,
     tables: Tables,
+    truths: Truths,
 }
 
 impl<'a> Model for Sim<'a> {
@@ -61,6 +63,7 @@ impl<'a> Sim<'a> {
         let before = Vec::from_elem(alloc, false, nets)?;
         let forced = Vec::from_elem(alloc, None, nets)?;
         let tables = tables_of(alloc, net)?;
+        let truths = truths_of(alloc, net, &tables)?;
         Ok(Sim {
             net,
             started: false,
@@ -68,6 +71,7 @@ impl<'a> Sim<'a> {
             before,
             forced,
             tables,
+            truths,
         })
     }
 
@@ -86,6 +90,7 @@ impl<'a> Sim<'a> {
         run_bits(
             self.net,
             &self.tables,
+            &self.truths,
             self.started,
             ins,
             &self.before,

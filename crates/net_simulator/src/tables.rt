@@ -2,7 +2,7 @@
 //!
 //! A row of marks without its dashes is a list of literals. The rows of all tables stand side by side, so that a
 //! cycle reads them from front to back, without a branch for a mark or a row. No node's kind is asked in a cycle.
-ghost use Rattle.std.specs.Prelude.{◌≡◌, ◌<◌, ◌≤◌, ◌++◌, ◌&&◌, ◌||◌, not, ℕ, List, Bool, true, false, Option, Some, None, length, map, take, slice_index, slice_get, OnOk, IfOk, IsTrue};
+ghost use Rattle.std.specs.Prelude.{◌≡◌, ◌<◌, ◌≤◌, ◌++◌, ◌&&◌, ◌||◌, not, ℕ, List, Bool, true, false, Option, Some, None, length, map, take, slice_index, slice_get, OnOk, IfOk, IsTrue, nat_le, if◌then◌else◌};
 ghost use Rattle.table_cover.specs.Words.{word_bit, bits_of};
 ghost use Rattle.flat_net.specs.Net.{net_count, node_of, pins_at, IsTable};
 ghost use Rattle.net_meaning.specs.Meaning.{bit};
@@ -36,6 +36,10 @@ pub struct Entry {
     pub is_on: bool,
     /// Some row has no literal.
     pub always: bool,
+    /// A word tells its values, since its pins are at most six.
+    pub is_short: bool,
+    /// How many pins it has, where a word tells its values.
+    pub pins: u8,
     /// How many literals are the table's.
     pub count: usize,
 }
@@ -126,6 +130,13 @@ fn push_rows(
     Ok(always)
 }
 
+/// How many pins a word stands for: all, if they are at most six.
+pub fn pins_in_word(pins: u32) -> u8
+    ensures { result ≡ (if nat_le pins 6 then pins else 0) }
+{
+    if pins <= 6 { pins as u8 } else { 0 }
+}
+
 /// Adds the literals of table x. The result is its entry.
 fn push_table(literals: &mut Vec<Literal>, net: &FlatNet, x: NetId) -> Result<Entry, OutOfMemory>
     requires range { x.0 < net_count net.now.net }
@@ -137,10 +148,13 @@ fn push_table(literals: &mut Vec<Literal>, net: &FlatNet, x: NetId) -> Result<En
     let before = literals.len();
     let cover = net.cover(x);
     let always = push_rows(literals, net, x, cover)?;
+    let pins = net.pin_count(x);
     Ok(Entry {
         net: x,
         is_on: cover.is_on(),
         always,
+        is_short: pins <= 6,
+        pins: pins_in_word(pins),
         count: literals.len() - before,
     })
 }
@@ -213,6 +227,7 @@ pub fn entry_at(net: &FlatNet, tables: &Tables, i: usize) -> Entry
     requires i { i < length tables.now.entries.items }
     ensures there { slice_get tables.now.entries.items i ≡ Some result }
     ensures table { IsTable (node_of net.now.net result.net.0) }
+    ensures low { length net.now.net.inputs ≤ result.net.0 }
     ensures high { result.net.0 < net_count net.now.net }
 {
     tables.entries[i]

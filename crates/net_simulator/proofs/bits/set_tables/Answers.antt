@@ -1,9 +1,11 @@
-use Rattle.std.proofs.Common.{◌∙◌, true, arith}
+use Rattle.std.proofs.Common.{◌∙◌, ℕ, List, slice_index, ap, true, arith}
 use Rattle.net_simulator.specs.Settled.{forced_at, number_of_cycle, IsNoTable, IsAmong, IsAnyNet}
 use Rattle.net_simulator.specs.Tables.{entry_nets}
+use Rattle.net_meaning.specs.Meaning.{bit}
+use Rattle.net_simulator.specs.Truth.{short_value}
 use Rattle.net_simulator.proofs.Settling.{settled_anyway}
 use Rattle.net_simulator.proofs.Lanes.{none_among, all_among}
-use Rattle.net_simulator.proofs.Nodes.{count_within, rest_after, table_settles}
+use Rattle.net_simulator.proofs.Nodes.{count_within, rest_after, literals_value, pins_within, pins_after, pins_few, entry_short_value, table_settles}
 use Rattle.std.proofs.Common.{length, ◌≤◌}
 use Rattle.std.proofs.lemmas.List.{length-map}
 use Rattle.net_simulator.specs.declared.tables.Entry.{Entry}
@@ -12,6 +14,7 @@ use Rattle.net_simulator.proofs.bits.set_tables.Goals as goal
 pub loop-i-init : goal.loop-i-init
 loop-i-init c = record {
   rest = c.as_slice-rest.ensures.value ∙ c.requires.tables.literals;
+  pins = c.as_slice-rest_pins.ensures.value ∙ c.requires.truths.pins;
   settled = λ ins first.
       settled_anyway c.args.net.now.net (number_of_cycle c.args.started) ins c.args.before.now (forced_at c.args.forced.now) (IsNoTable c.args.net.now.net) (IsAmong c.args.net.now.net (entry_nets c.args.tables.now.entries.items) 0) c.args.now.now 0 true
       first (λ y h q. none_among c.args.net.now.net (entry_nets c.args.tables.now.entries.items) y q);
@@ -20,14 +23,31 @@ loop-i-init c = record {
 pub split_at-requires : goal.split_at-requires
 split_at-requires c = count_within c.args.net.now.net c.args.tables.now c.requires.tables c.loop-i.i c.entry_at-entry.result c.entry_at-entry.ensures.there c.loop-i.rest.now c.loop-i.invariant.rest
 
+pub split_at-requires-in-loop-i : goal.split_at-requires-in-loop-i
+split_at-requires-in-loop-i c = pins_within c.args.net.now.net c.args.tables.now c.requires.tables c.loop-i.i c.entry_at-entry.result c.entry_at-entry.ensures.there c.args.truths.now c.requires.truths c.loop-i.rest_pins.now c.loop-i.invariant.pins
+
+pub table_bit-own-requires : goal.table_bit-own-requires
+table_bit-own-requires c = pins_few c.args.net.now.net c.args.tables.now c.requires.tables c.loop-i.i c.entry_at-entry.result c.entry_at-entry.ensures.there c.args.truths.now c.requires.truths c.loop-i.rest_pins.now c.loop-i.invariant.pins c.split_at-in-loop-i.result.0.now c.split_at-in-loop-i.ensures.front
+
 pub loop-i-preserved : goal.loop-i-preserved
-loop-i-preserved c = record {
-  rest = c.split_at.ensures.back ∙ rest_after c.args.net.now.net c.args.tables.now c.requires.tables c.loop-i.i c.entry_at-entry.result c.entry_at-entry.ensures.there c.loop-i.rest.now c.loop-i.invariant.rest;
-  settled = λ ins first.
-      table_settles c.args.net.now.net c.args.tables.now c.requires.tables c.loop-i.i c.entry_at-entry.result c.entry_at-entry.ensures.there c.loop-i.rest.now c.loop-i.invariant.rest
-      c.split_at.result.0.now c.args.started ins c.args.before.now (forced_at c.args.forced.now) c.loop-i.now c.table_bit.result c.forced_bit.result
-      c.split_at.ensures.front c.table_bit.ensures c.forced_bit.ensures (c.loop-i.invariant.settled ins first);
-}
+loop-i-preserved c =
+    let n = c.args.net.now.net in
+    let e = c.entry_at-entry.result in
+    let there = c.entry_at-entry.ensures.there in
+    record {
+      rest = c.split_at.ensures.back ∙ rest_after n c.args.tables.now c.requires.tables c.loop-i.i e there c.loop-i.rest.now c.loop-i.invariant.rest;
+      pins = c.split_at-in-loop-i.ensures.back ∙ pins_after n c.args.tables.now c.requires.tables c.loop-i.i e there c.args.truths.now c.requires.truths c.loop-i.rest_pins.now c.loop-i.invariant.pins;
+      settled = λ ins first.
+          table_settles n c.args.tables.now c.requires.tables c.loop-i.i e there
+          c.args.started ins c.args.before.now (forced_at c.args.forced.now) c.loop-i.now c.table_bit-own.result c.forced_bit.result
+          (c.table_bit-own.ensures
+          ∙ (ap (λ (w : ℕ). short_value e w c.split_at-in-loop-i.result.0.now c.split_at.result.0.now (bit c.loop-i.now)) (c.word_at_place-word.ensures ∙ ap (λ (ws : List ℕ). slice_index ws c.loop-i.i) c.deref.ensures.value)
+          ∙ entry_short_value n c.args.tables.now c.requires.tables c.loop-i.i e there c.args.truths.now c.requires.truths c.loop-i.rest_pins.now c.loop-i.invariant.pins
+          c.split_at-in-loop-i.result.0.now c.split_at.result.0.now (number_of_cycle c.args.started) c.args.before.now c.loop-i.now c.split_at-in-loop-i.ensures.front
+          (literals_value n c.args.tables.now c.requires.tables c.loop-i.i e there c.loop-i.rest.now c.loop-i.invariant.rest
+          c.split_at.result.0.now (number_of_cycle c.args.started) c.args.before.now c.loop-i.now c.split_at.ensures.front)))
+          c.forced_bit.ensures (c.loop-i.invariant.settled ins first);
+    }
 
 pub returns : goal.returns
 returns c = λ ins first.

@@ -6,7 +6,7 @@ use Rattle.net_simulator.specs.Tables.{entry_nets}
 use Rattle.net_simulator.specs.declared.tables.Entry.{Entry}
 use Rattle.net_simulator.proofs.Settling.{settled_anyway}
 use Rattle.net_simulator.proofs.Lanes.{none_among, all_among, settled_words}
-use Rattle.net_simulator.proofs.Nodes.{count_within, rest_after, table_settles}
+use Rattle.net_simulator.proofs.Nodes.{count_within, rest_after, literals_value, table_settles}
 use Rattle.net_simulator.proofs.cycle.set_tables.Goals as goal
 
 pub loop-i-init : goal.loop-i-init
@@ -25,9 +25,11 @@ loop-i-preserved c = record {
   rest = c.split_at.ensures.back ∙ rest_after c.args.net.now.net c.args.tables.now c.requires.tables c.loop-i.i c.entry_at-entry.result c.entry_at-entry.ensures.there c.loop-i.rest.now c.loop-i.invariant.rest;
   settled = λ j ins l first.
       settled_words c.args.net.now.net (number_of_cycle c.args.started) ins (bits_of j c.args.before.now) (marked c.args.marks.now j) (IsAmong c.args.net.now.net (entry_nets c.args.tables.now.entries.items) (c.loop-i.i + 1)) c.loop-i.now j c.entry_at-entry.result.net.0 c.word.result
-      (table_settles c.args.net.now.net c.args.tables.now c.requires.tables c.loop-i.i c.entry_at-entry.result c.entry_at-entry.ensures.there c.loop-i.rest.now c.loop-i.invariant.rest
-      c.split_at.result.0.now c.args.started ins (bits_of j c.args.before.now) (marked c.args.marks.now j) (bits_of j c.loop-i.now) (word_bit j c.table_word.result) (word_bit j c.word.result)
-      c.split_at.ensures.front (c.table_word.ensures j l) (c.word.ensures j l) (c.loop-i.invariant.settled j ins l first));
+      (table_settles c.args.net.now.net c.args.tables.now c.requires.tables c.loop-i.i c.entry_at-entry.result c.entry_at-entry.ensures.there
+      c.args.started ins (bits_of j c.args.before.now) (marked c.args.marks.now j) (bits_of j c.loop-i.now) (word_bit j c.table_word.result) (word_bit j c.word.result)
+      (c.table_word.ensures j l ∙ literals_value c.args.net.now.net c.args.tables.now c.requires.tables c.loop-i.i c.entry_at-entry.result c.entry_at-entry.ensures.there c.loop-i.rest.now c.loop-i.invariant.rest
+      c.split_at.result.0.now (number_of_cycle c.args.started) (bits_of j c.args.before.now) (bits_of j c.loop-i.now) c.split_at.ensures.front)
+      (c.word.ensures j l) (c.loop-i.invariant.settled j ins l first));
 }
 
 pub returns : goal.returns

@@ -2,11 +2,11 @@ use Rattle.std.proofs.Common.{◌≡◌, ◌+◌, ◌<◌, ◌≤◌, ◌∙◌,
 use Rattle.std.proofs.lemmas.Option.{get_or_from_slice_get}
 use Rattle.flat_net.specs.Net.{node_of, IsTable}
 use Rattle.flat_net.proofs.Orders.{length-order}
-use Rattle.net_simulator.specs.Tables.{entries, literals, entry_nets}
+use Rattle.net_simulator.specs.Tables.{entries, literals, entry_nets, node_literals}
 use Rattle.net_simulator.specs.declared.tables.Entry.{Entry}
 use Rattle.net_simulator.specs.declared.tables.Literal.{Literal}
 use Rattle.net_simulator.proofs.Ordering.{HasTables, none_yet, no_table_more, one_table_more, has_all}
-use Rattle.net_simulator.proofs.Literals.{entry_pushed, nets_pushed, literals_pushed, net_of_entry}
+use Rattle.net_simulator.proofs.Literals.{entry_pushed, nets_pushed, flat_pushed, net_of_entry}
 use Rattle.net_simulator.proofs.tables.tables_of.Goals.{then-is_table+in_ok-entry+in_ok-push, else-is_table}
 use Rattle.net_simulator.proofs.tables.tables_of.Goals as goal
 
@@ -36,7 +36,7 @@ loop-i-preserved c =
           record {
             has = subst (HasTables n order (c.loop-i.i + 1)) (sym nets) (one_table_more n order c.loop-i.i (entry_nets c.loop-i.entries.items) c.loop-i.invariant.has x is_order within there (c.is_table.ensures.yes w.if-is_table.true));
             entries = entry_pushed n c.loop-i.entries.items c.if-is_table.entries.items x e c.loop-i.invariant.entries w.in_ok-entry.ensures.entry net pushed;
-            literals = literals_pushed n (entry_nets c.loop-i.entries.items) (entry_nets c.if-is_table.entries.items) x c.loop-i.literals.items c.if-is_table.literals.items c.loop-i.invariant.literals nets
+            literals = flat_pushed (λ (y : ℕ). node_literals (node_of n y)) (entry_nets c.loop-i.entries.items) (entry_nets c.if-is_table.entries.items) x c.loop-i.literals.items c.if-is_table.literals.items c.loop-i.invariant.literals nets
                 (ap (λ (v : Vec Literal Global). v.items) w.literals-is ∙ w.in_ok-entry.ensures.literals);
           }
       | else-is_table w ↦
