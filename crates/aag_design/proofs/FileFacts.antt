@@ -15,9 +15,11 @@ use Rattle.aag_reader.specs.declared.file.Graph.{Graph}
 use Rattle.aag_reader.specs.Faults.{defined, IsDefinedOnce, IsDefined}
 use Rattle.aag_design.specs.declared.fault.AagFault.{AagFault}
 use Rattle.aag_design.specs.declared.fault.AagFault.TheVariants.{Line, Doubled, Undefined, Loop, TooLarge, Memory}
+use Rattle.aag_design.specs.declared.file.CountedDesign.{CountedDesign}
+use Rattle.aag_design.specs.Counts.{counts_of}
 use Rattle.aag_design.specs.Drafting.{plain_draft, plain_marks, number_behind, IsTurnedFrom, IsGraph, IsSound, IsLoopOf}
 use Rattle.aag_design.specs.Small.{is_small}
-use Rattle.aag_design.specs.Read.{design_text, IsGraphOf, IsDesignOf, IsFaultOf, IsReadAs}
+use Rattle.aag_design.specs.Read.{design_text, IsGraphOf, IsDesignOf, IsFaultOf, IsReadCounted}
 use Rattle.aag_design.specs.Loop.{IsLoop, HasNoLoop}
 use Rattle.aag_design.specs.Same.{DoesTheSame}
 use Rattle.aag_design.proofs.Bounds.{few_entries, variables_are, inputs_distinct, outputs_distinct, reads_few}
@@ -47,14 +49,17 @@ pub text_is : (a : PlainAig) (n : FreeDesign) → IsDesignOf a n → free_text n
 unfolding design_text
 text_is a n of = ap (λ (m : Net). free_text m n.free) of.net ∙ ap (free_text (net_of_draft (aig_draft a))) of.marks
 
-pub small_text : (bytes : List ℕ) (limit : ℕ) (a : PlainAig) (n : FreeDesign) → IsGraphOf bytes a → HasNoLoop a → IsDesignOf a n → is_small n limit ≡ true → IsReadAs bytes limit n
+-- the text keeps the limit
+text_fits : (limit : ℕ) (a : PlainAig) (n : FreeDesign) → IsDesignOf a n → is_small n limit ≡ true → length (design_text a) ≤ limit
 unfolding is_small
-small_text bytes limit a n of no_loop design small = record {
-  graph = a;
-  of = of;
-  no_loop = no_loop;
-  small = let fits : length (free_text n.design.net n.free) ≤ limit = leb-true _ _ small in subst (λ (t : List ℕ). length t ≤ limit) (text_is a n design) fits;
-  design = design;
+text_fits limit a n design small =
+    let fits : length (free_text n.design.net n.free) ≤ limit = leb-true _ _ small in
+    subst (λ (t : List ℕ). length t ≤ limit) (text_is a n design) fits
+
+pub small_text : (bytes : List ℕ) (limit : ℕ) (a : PlainAig) (r : CountedDesign) → IsGraphOf bytes a → HasNoLoop a → IsDesignOf a r.net → is_small r.net limit ≡ true → r.counts ≡ counts_of a → IsReadCounted bytes limit r
+small_text bytes limit a r of no_loop design small counts = record {
+  read = record { graph = a; of = of; no_loop = no_loop; small = text_fits limit a r.net design small; design = design };
+  counts = counts;
 }
 
 pub large_text : (bytes : List ℕ) (limit : ℕ) (a : PlainAig) (n : FreeDesign) → IsGraphOf bytes a → HasNoLoop a → IsDesignOf a n → is_small n limit ≡ false → IsFaultOf bytes limit TooLarge

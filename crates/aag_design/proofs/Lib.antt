@@ -13,3 +13,4 @@ pub mod Turns
 pub mod DraftFaults
 pub mod Designs
 pub mod FileFacts
+pub mod OneAnswer

@@ -1,4 +1,5 @@
 pub mod Draft
+pub mod Counts
 pub mod Drafting
 pub mod Loop
 pub mod Same

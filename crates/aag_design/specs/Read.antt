@@ -10,6 +10,8 @@ use Rattle.aag_reader.specs.BadLine.{IsFirstBadLine}
 use Rattle.aag_reader.specs.Faults.{defined, is_among, is_undefined, read_variables, IsDefinedOnce, IsDefined}
 use Rattle.aag_design.specs.declared.fault.AagFault.{AagFault}
 use Rattle.aag_design.specs.declared.fault.AagFault.TheVariants.{Line, Doubled, Undefined, Loop, TooLarge, Memory}
+use Rattle.aag_design.specs.declared.file.CountedDesign.{CountedDesign}
+use Rattle.aag_design.specs.Counts.{counts_of}
 use Rattle.aag_design.specs.Draft.{aig_draft, aig_marks}
 use Rattle.aag_design.specs.Loop.{IsLoop, HasNoLoop}
 use Rattle.aag_design.specs.Same.{DoesTheSame}
@@ -46,3 +48,8 @@ pub record IsReadAs (bytes : List ℕ) (limit : ℕ) (n : FreeDesign) : Type 0 w
   pub no_loop : HasNoLoop graph
   pub small : length (design_text graph) ≤ limit
   pub design : IsDesignOf graph n
+
+-- the same, and these are the numbers of the graph
+pub record IsReadCounted (bytes : List ℕ) (limit : ℕ) (r : CountedDesign) : Type 0 where
+  pub read : IsReadAs bytes limit r.net
+  pub counts : r.counts ≡ counts_of read.graph

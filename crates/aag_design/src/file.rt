@@ -7,9 +7,10 @@ ghost use Rattle.aag_design.specs.Draft.{aig_draft, aig_marks};
 ghost use Rattle.aag_design.specs.Drafting.{IsGraph, IsSound};
 ghost use Rattle.aag_design.specs.Loop.{HasNoLoop};
 ghost use Rattle.aag_design.specs.Small.{is_small};
-ghost use Rattle.aag_design.specs.Read.{IsGraphOf, IsDesignOf, IsFaultOf, IsReadAs};
+ghost use Rattle.aag_design.specs.Read.{IsGraphOf, IsDesignOf, IsFaultOf, IsReadAs, IsReadCounted};
 
 use crate::AagFault;
+use crate::counts::{Counts, counts_of};
 use crate::design::design_of;
 use crate::marks::marks_of;
 use aag_reader::{Graph, GraphFault, graph_of};
@@ -17,6 +18,13 @@ use blif_writer::write_free;
 use flat_net::{FlatNet, FreeNet};
 use std::alloc::Global;
 use tmr_base::OutOfMemory;
+
+/// The design of a file, and how many entries its graph has.
+#[derive(Drop)]
+pub struct CountedDesign {
+    pub net: FreeNet,
+    pub counts: Counts,
+}
 
 /// The graph of a file, or the first fault of its lines or variables.
 #[tactic(auto, using(crate::proofs::FileFacts::file_facts))]
@@ -66,10 +74,12 @@ fn is_within(alloc: Global, net: &FreeNet, limit: u64) -> Result<bool, OutOfMemo
 /// then `Undefined` for the first that is read and nowhere defined; then `Loop` where gates read each other in a loop; then
 /// `TooLarge` where the flat text of the design has more than `limit` bytes. `Memory` may come in place of any answer. The file
 /// has at most 8,388,608 bytes, which the caller knows. Nothing is sized by the numbers that the file names.
+///
+/// The counts are the numbers of the header, and how many latches are free.
 #[tactic(auto, using(crate::proofs::FileFacts::file_facts))]
-pub fn read_aag(alloc: Global, bytes: &[u8], limit: u64) -> Result<FreeNet, AagFault>
+pub fn read_counted(alloc: Global, bytes: &[u8], limit: u64) -> Result<CountedDesign, AagFault>
     requires { length bytes.now ≤ 8388608 }
-    ensures design { IfOk result (IsReadAs bytes.now limit) }
+    ensures design { IfOk result (IsReadCounted bytes.now limit) }
     ensures fault { IfErr result (IsFaultOf bytes.now limit) }
 {
     let g = match sound_graph(alloc, bytes) {
@@ -82,8 +92,23 @@ pub fn read_aag(alloc: Global, bytes: &[u8], limit: u64) -> Result<FreeNet, AagF
     };
     let net = marked(alloc, &g, net)?;
     match is_within(alloc, &net, limit) {
-        Ok(true) => Ok(net),
+        Ok(true) => Ok(CountedDesign {
+            net,
+            counts: counts_of(&g.aig),
+        }),
         Ok(false) => Err(AagFault::TooLarge),
         Err(_) => Err(AagFault::Memory),
+    }
+}
+
+/// The same without the counts.
+pub fn read_aag(alloc: Global, bytes: &[u8], limit: u64) -> Result<FreeNet, AagFault>
+    requires { length bytes.now ≤ 8388608 }
+    ensures design { IfOk result (IsReadAs bytes.now limit) }
+    ensures fault { IfErr result (IsFaultOf bytes.now limit) }
+{
+    match read_counted(alloc, bytes, limit) {
+        Ok(read) => Ok(read.net),
+        Err(fault) => Err(fault),
     }
 }

@@ -14,29 +14,34 @@ use Rattle.aag_reader.specs.Sections.{Rest, HasNext, HasNoNext, IsStuck, HasSect
 
 -- ---- which form is due
 
-at_input : (h : Header) (k : ℕ) (line : List ℕ) → k < h.inputs → is_formed h k line ≡ is_some (input_of h.most (words_of line))
+pub at_input : (h : Header) (k : ℕ) (line : List ℕ) → k < h.inputs → is_formed h k line ≡ is_some (input_of h.most (words_of line))
 unfolding is_formed
 at_input h k line lt = rw (lt-ltb k h.inputs lt) refl
 
-at_latch : (h : Header) (k : ℕ) (line : List ℕ) → h.inputs ≤ k → k < h.inputs + h.latches → is_formed h k line ≡ is_some (latch_of h.most (words_of line))
+pub at_latch : (h : Header) (k : ℕ) (line : List ℕ) → h.inputs ≤ k → k < h.inputs + h.latches → is_formed h k line ≡ is_some (latch_of h.most (words_of line))
 unfolding is_formed
 at_latch h k line le lt = rw (le-ltb k h.inputs le, lt-ltb k (h.inputs + h.latches) lt) refl
 
-at_output : (h : Header) (k : ℕ) (line : List ℕ) → h.inputs + h.latches ≤ k → k < h.inputs + h.latches + h.outputs → is_formed h k line ≡ is_some (output_of h.most (words_of line))
+pub at_output : (h : Header) (k : ℕ) (line : List ℕ) → h.inputs + h.latches ≤ k → k < h.inputs + h.latches + h.outputs → is_formed h k line ≡ is_some (output_of h.most (words_of line))
 unfolding is_formed
 at_output h k line le lt = rw (le-ltb k h.inputs (omega (arith, le)), le-ltb k (h.inputs + h.latches) le, lt-ltb k (h.inputs + h.latches + h.outputs) lt) refl
 
-at_gate : (h : Header) (k : ℕ) (line : List ℕ) → h.inputs + h.latches + h.outputs ≤ k → k < due h → is_formed h k line ≡ is_some (gate_of h.most (words_of line))
+pub at_gate : (h : Header) (k : ℕ) (line : List ℕ) → h.inputs + h.latches + h.outputs ≤ k → k < due h → is_formed h k line ≡ is_some (gate_of h.most (words_of line))
 unfolding is_formed
 at_gate h k line le lt = rw (le-ltb k h.inputs (omega (arith, le)), le-ltb k (h.inputs + h.latches) (omega (arith, le)), le-ltb k (h.inputs + h.latches + h.outputs) le, lt-ltb k (due h) lt) refl
 
-at_symbol : (h : Header) (k : ℕ) (line : List ℕ) → due h ≤ k → is_formed h k line ≡ is_symbol h (words_of line)
+pub at_symbol : (h : Header) (k : ℕ) (line : List ℕ) → due h ≤ k → is_formed h k line ≡ is_symbol h (words_of line)
 unfolding is_formed
 at_symbol h k line le = rw (le-ltb k h.inputs (omega (arith, le)), le-ltb k (h.inputs + h.latches) (omega (arith, le)), le-ltb k (h.inputs + h.latches + h.outputs) (omega (arith, le)), le-ltb k (due h) le) refl
 
+-- symbols behind the definitions are of the form that is due
+pub symbols_formed : (h : Header) (k : ℕ) (lines : List (List ℕ)) → due h ≤ k → AreSymbols h lines → AreFormed h k lines
+symbols_formed h k [] le are = tt
+symbols_formed h k (line ∷ lines) le are = (at_symbol h k line le ∙ are.0, symbols_formed h (suc k) lines (omega (arith, le)) are.1)
+
 -- ---- sections
 
-formed_join : (h : Header) (k n : ℕ) (xs ys : List (List ℕ)) → n ≡ k + length xs → AreFormed h k xs → AreFormed h n ys → AreFormed h k (xs ++ ys)
+pub formed_join : (h : Header) (k n : ℕ) (xs ys : List (List ℕ)) → n ≡ k + length xs → AreFormed h k xs → AreFormed h n ys → AreFormed h k (xs ++ ys)
 formed_join h k n [] ys e a b = let same : n ≡ k = omega (arith, e) in subst (λ (m : ℕ). AreFormed h m ys) same b
 formed_join h k n (x ∷ xs) ys e a b = (a.0, formed_join h (suc k) n xs ys (omega (arith, e)) a.1 b)
 
@@ -50,17 +55,17 @@ formed_then h k i n j a b c e one two = record {
 }
 
 module _ {A : Type 0} (form : List (List ℕ) → Option A) where
-  as_long : (section : List (List ℕ)) (items : List A) → AreOf form section items → length section ≡ length items
+  pub as_long : (section : List (List ℕ)) (items : List A) → AreOf form section items → length section ≡ length items
   as_long section items are = sym (length-map section (λ line. form (words_of line))) ∙ (ap length are ∙ length-map items Some)
 
-  head_is : (o : Option A) (x : A) (os ps : List (Option A)) → o ∷ os ≡ Some x ∷ ps → o ≡ Some x
+  pub head_is : (o : Option A) (x : A) (os ps : List (Option A)) → o ∷ os ≡ Some x ∷ ps → o ≡ Some x
   head_is o x os ps e = cc
 
-  tail_is : (o p : Option A) (os ps : List (Option A)) → o ∷ os ≡ p ∷ ps → os ≡ ps
+  pub tail_is : (o p : Option A) (os ps : List (Option A)) → o ∷ os ≡ p ∷ ps → os ≡ ps
   tail_is o p os ps e = cc
 
   -- each line of a section is of the form that is due
-  are_formed : (h : Header) (k : ℕ) (section : List (List ℕ)) (items : List A) → ((j : ℕ) (line : List ℕ) → k ≤ j → j < k + length items → is_formed h j line ≡ is_some (form (words_of line))) → AreOf form section items → AreFormed h k section
+  pub are_formed : (h : Header) (k : ℕ) (section : List (List ℕ)) (items : List A) → ((j : ℕ) (line : List ℕ) → k ≤ j → j < k + length items → is_formed h j line ≡ is_some (form (words_of line))) → AreOf form section items → AreFormed h k section
   are_formed h k [] items is are = tt
   are_formed h k (line ∷ section) [] is are = absurd (cc)
   are_formed h k (line ∷ section) (x ∷ items) is are =
@@ -133,10 +138,6 @@ module _ (bytes : List ℕ) (h : Header) (r0 r1 : Rest) (e : r0 ≡ record { num
           formed_gates : HasFormed h 0 (due h) r1 r5
           formed_gates = formed_then h 0 (h.inputs + h.latches + h.outputs) (h.inputs + h.latches + h.outputs) h.gates r1 r4 r5 (omega arith) formed_outputs (formed_section (gate_of h.most) h (h.inputs + h.latches + h.outputs) h.gates r4 r5 gates (λ j line le lt. at_gate h j line le lt) four)
 
-          are_symbols : (k : ℕ) (lines : List (List ℕ)) → due h ≤ k → AreSymbols h lines → AreFormed h k lines
-          are_symbols k [] le are = tt
-          are_symbols k (line ∷ lines) le are = (at_symbol h k line le ∙ are.0, are_symbols (suc k) lines (omega (arith, le)) are.1)
-
           pub symbols_bad : (fault : GraphFault) → StopsInSymbols h r5 fault → IsLineFault bytes fault
           symbols_bad (Line number) s =
               let first = ap (λ (r : Rest). r.number) e in
@@ -145,7 +146,7 @@ module _ (bytes : List ℕ) (h : Header) (r0 r1 : Rest) (e : r0 ≡ record { num
               BadLine h head.line (so_far.before ++ s.before) (s.line ∷ s.rest)
               (ap (λ (r : Rest). lines_of r.bytes) (sym e) ∙ (head.lines ∙ ap (λ (r : List (List ℕ)). head.line ∷ r) (so_far.lines ∙ (ap (λ (r : List (List ℕ)). so_far.before ++ r) s.lines ∙ sym (append_assoc so_far.before s.before (s.line ∷ s.rest))))))
               head.is
-              (formed_join h 0 (due h) so_far.before s.before (omega (arith, so_far.long)) so_far.are (are_symbols (due h) s.before (omega arith) s.are))
+              (formed_join h 0 (due h) so_far.before s.before (omega (arith, so_far.long)) so_far.are (symbols_formed h (due h) s.before (omega arith) s.are))
               (at_symbol h (length (so_far.before ++ s.before)) s.line (omega (arith, long, so_far.long)) ∙ s.no_symbol, λ le. s.no_comment)
               (omega (arith, s.is, so_far.number, head.number, first, long, so_far.long))
           symbols_bad (Doubled v) s = s

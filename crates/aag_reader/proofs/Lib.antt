@@ -5,3 +5,4 @@ pub mod SymbolLaws
 pub mod FileLaws
 pub mod VariableLaws
 pub mod GraphFaults
+pub mod OneFile

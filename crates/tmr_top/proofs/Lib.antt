@@ -9,6 +9,7 @@ pub mod PairLaws
 pub mod ReplayLaws
 pub mod GuardLaws
 pub mod GraphLaws
+pub mod GraphReadLaws
 pub mod WaveLaws
 pub mod FlatLaws
 pub mod HardenLaws

@@ -6,7 +6,7 @@ use Rattle.std.specs.Str.{bytes_eq}
 use Rattle.flat_net.proofs.Names.{eq_true}
 use Rattle.tmr_top.specs.Words.{Words, has_no_options, words_of}
 use Rattle.tmr_top.specs.Trials.{Trial, trial_of}
-use Rattle.tmr_top.specs.Line.{Command, Pair, Hardening, Flattening, Guarding, Graphing, Validate, Harden, Flatten, Report, Guard, CheckGuard, WriteGraph, TryOut, is_file, said, positive_number, version_number, pair_of, over_pair, over_trial, flattening_of, guarding_of, over_guarding, graphing_of, replay_over, replaying_of, waving_of, hardening_with, hardening_of, of_words, of_plain, line_of}
+use Rattle.tmr_top.specs.Line.{Command, Pair, Hardening, Flattening, Guarding, Graphing, GraphReading, Validate, Harden, Flatten, Report, Guard, CheckGuard, WriteGraph, ReadGraph, TryOut, is_file, said, positive_number, version_number, pair_of, over_pair, over_trial, flattening_of, guarding_of, over_guarding, graphing_of, graph_reading_of, replay_over, replaying_of, waving_of, hardening_with, hardening_of, of_words, of_plain, line_of}
 
 pub all_said : (words : Words) (size version most : ℕ) → said positive_number 64 words.sizes ≡ Some size → said version_number 1 words.versions ≡ Some version → said positive_number 4294967295 words.depths ≡ Some most → hardening_of words ≡ hardening_with size version most words.plain
 unfolding hardening_of
@@ -51,6 +51,16 @@ graphing_has [] = none_has
 graphing_has (a ∷ []) = none_has
 graphing_has (a ∷ b ∷ []) = choice_has (is_file a && is_file b) _ _ (graph_has _) none_has
 graphing_has (a ∷ b ∷ c ∷ words) = none_has
+
+graph_read_has : (g : GraphReading) → HasTwoNames (Some (ReadGraph g))
+graph_read_has g w is = absurd cc
+
+graph_reading_has : (words : List (List ℕ)) → HasTwoNames (graph_reading_of words)
+unfolding graph_reading_of
+graph_reading_has [] = none_has
+graph_reading_has (a ∷ []) = none_has
+graph_reading_has (a ∷ b ∷ []) = choice_has (is_file a && is_file b) _ _ (graph_read_has _) none_has
+graph_reading_has (a ∷ b ∷ c ∷ words) = none_has
 
 guard_has : (words : List (List ℕ)) → HasTwoNames (over_guarding Guard words)
 guard_has words = go (guarding_of words)
@@ -165,4 +175,5 @@ two_names (command ∷ words) =
     (choice_has (bytes_eq command (codes "guard")) _ _ (plain_has (over_guarding Guard) guard_has (words_of words))
     (choice_has (bytes_eq command (codes "guarded")) _ _ (plain_has (over_guarding CheckGuard) guarded_has (words_of words))
     (choice_has (bytes_eq command (codes "to-aag")) _ _ (plain_has graphing_of graphing_has (words_of words))
-    (choice_has (bytes_eq command (codes "wave")) _ _ (plain_has waving_of waving_has (words_of words)) none_has)))))))))
+    (choice_has (bytes_eq command (codes "from-aag")) _ _ (plain_has graph_reading_of graph_reading_has (words_of words))
+    (choice_has (bytes_eq command (codes "wave")) _ _ (plain_has waving_of waving_has (words_of words)) none_has))))))))))

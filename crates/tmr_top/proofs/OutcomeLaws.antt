@@ -4,7 +4,7 @@ use Rattle.std.specs.FinMap.{get}
 use Rattle.tmr_outside.specs.Contents.{Contents}
 use Rattle.tmr_top.specs.declared.decision.Verdict.{Verdict}
 use Rattle.tmr_top.specs.declared.decision.Verdict.TheVariants.{Done, NotAccepted, Refused}
-use Rattle.tmr_top.specs.Line.{Command, Pair, Hardening, Flattening, Replaying, Guarding, Graphing, Validate, Harden, Flatten, Replay, Report, Guard, CheckGuard, WriteGraph, TryOut}
+use Rattle.tmr_top.specs.Line.{Command, Pair, Hardening, Flattening, Replaying, Guarding, Graphing, Validate, Harden, Flatten, Replay, Report, Guard, CheckGuard, WriteGraph, ReadGraph, TryOut}
 use Rattle.tmr_top.specs.Loads.{original_file, hardened_file, schedule_file}
 use Rattle.tmr_top.specs.Pairs.{ReadPair, HoldsPair, Accepts}
 use Rattle.tmr_top.specs.Replayed.{Replayed, ReadFiles, HoldsSchedule, HoldsNoSchedule, IsReplayDenied, IsReplayRefused, is_too_large}
@@ -24,6 +24,7 @@ use Rattle.schedule_replay.specs.declared.fault.ScheduleFault.{ScheduleFault}
 use Rattle.schedule_replay.specs.Document.{Listed, sched_of}
 use Rattle.certificate.specs.Starts.{counted}
 use Rattle.tmr_top.proofs.PairLaws.{one_pair, unread_pair, agrees}
+use Rattle.tmr_top.proofs.GraphReadLaws.{one_graph_read}
 use Rattle.tmr_top.proofs.TrialVerdicts.{one_tried}
 
 one_validated : (p : Pair) (held : Contents) (v w : Verdict) (s t : List (List ℕ)) (x y : List ℕ) → Validated p held v s x → Validated p held w t y → v ≡ w
@@ -178,3 +179,4 @@ one_verdict (Guard g) held v w s t x y one other = one_guarded g held v w s t x 
 one_verdict (CheckGuard g) held v w s t x y one other = one_checked g held v w s t x y one other
 one_verdict (TryOut q) held v w s t x y one other = one_tried q v w s t x y one other
 one_verdict (WriteGraph g) held v w s t x y one other = one_graphed g held v w s t x y one other
+one_verdict (ReadGraph g) held v w s t x y one other = one_graph_read g held v w s t x y one other

@@ -1,6 +1,7 @@
 -- Pieces and greatest numbers, one after the other.
-use Rattle.std.proofs.Common.{◌≡◌, ℕ, ◌+◌, ◌<◌, ◌≤◌, max, List, [], ◌∷◌, ◌++◌, length, drop, get_or, refl, sym, ap, ◌∙◌, append_assoc, add-one, drop-cons, arith}
+use Rattle.std.proofs.Common.{◌≡◌, ℕ, ◌+◌, ◌<◌, ◌≤◌, max, List, [], ◌∷◌, ◌++◌, length, map, drop, get_or, refl, sym, ap, ◌∙◌, append_assoc, add-one, drop-cons, arith}
 use Rattle.std.specs.Borrow.{Bor}
+use Rattle.std.specs.Fmt.{decimal}
 use Rattle.std.proofs.lemmas.List.{nil_from_length, length-drop, append-nil}
 use Rattle.tmr_top.specs.FileWords.{read_words}
 use Rattle.tmr_top.specs.Texts.{joined, greatest}
@@ -49,3 +50,17 @@ all_spaced text names i whole h e =
     sym (append-nil text) ∙ (ap (λ (ns : List (List ℕ)). text ++ spaced ns) (sym none) ∙ e)
 
 pub ruleset names = (name_spaced, all_spaced)
+
+-- one number more
+pub number_spaced : (text : List ℕ) (numbers : List ℕ) (i d : ℕ) (whole : List ℕ) → i < length numbers → text ++ spaced (map decimal (drop i numbers)) ≡ whole → ((text ++ 32 ∷ []) ++ decimal (get_or numbers i d)) ++ spaced (map decimal (drop (i + 1) numbers)) ≡ whole
+number_spaced text numbers i d whole h e =
+    append_assoc (text ++ 32 ∷ []) (decimal (get_or numbers i d)) (spaced (map decimal (drop (i + 1) numbers)))
+    ∙ (append_assoc text (32 ∷ []) (decimal (get_or numbers i d) ++ spaced (map decimal (drop (i + 1) numbers)))
+    ∙ (ap (λ (ns : List ℕ). text ++ spaced (map decimal ns)) (sym (next i numbers d h)) ∙ e))
+
+pub all_numbers_spaced : (text : List ℕ) (numbers : List ℕ) (i : ℕ) (whole : List ℕ) → length numbers ≤ i → text ++ spaced (map decimal (drop i numbers)) ≡ whole → text ≡ whole
+all_numbers_spaced text numbers i whole h e =
+    let none : drop i numbers ≡ [] = nil_from_length (drop i numbers) (omega (arith, length-drop i numbers)) in
+    sym (append-nil text) ∙ (ap (λ (ns : List ℕ). text ++ spaced (map decimal ns)) (sym none) ∙ e)
+
+pub ruleset spaced_numbers = (number_spaced, all_numbers_spaced)

@@ -12,13 +12,14 @@ use Rattle.tmr_top.specs.declared.replay_words.ScheduleFile.{ScheduleFile}
 use Rattle.tmr_top.specs.declared.harden_words.HardenWords.{HardenWords}
 use Rattle.tmr_top.specs.declared.line.GuardWords.{GuardWords}
 use Rattle.tmr_top.specs.declared.line.GraphWords.{GraphWords}
+use Rattle.tmr_top.specs.declared.line.GraphReadWords.{GraphReadWords}
 use Rattle.tmr_top.specs.declared.line.CommandWords.{CommandWords}
 use Rattle.tmr_top.specs.declared.line.CommandWords.TheVariants as words
 use Rattle.tmr_top.specs.declared.pair_task.PairTask.{PairTask}
 use Rattle.tmr_top.specs.declared.pair_task.PairTask.TheVariants as task
 use Rattle.tmr_top.specs.declared.replay_words.FileTask.{FileTask}
 use Rattle.tmr_top.specs.declared.replay_words.FileTask.TheVariants as file_task
-use Rattle.tmr_top.specs.Line.{Pair, Hardening, Flattening, Replaying, Guarding, Graphing, Command, Validate, Harden, Flatten, Replay, Report, Guard, CheckGuard, WriteGraph, TryOut}
+use Rattle.tmr_top.specs.Line.{Pair, Hardening, Flattening, Replaying, Guarding, Graphing, GraphReading, Command, Validate, Harden, Flatten, Replay, Report, Guard, CheckGuard, WriteGraph, ReadGraph, TryOut}
 use Rattle.tmr_top.specs.TrialWords.{trial_in}
 
 abbrev pub pair_in : PairWords → Pair
@@ -43,6 +44,9 @@ guarding_in words = record { original = words.original.now; guarded = words.guar
 abbrev pub graphing_in : GraphWords → Graphing
 graphing_in words = record { original = words.original.now; graph = words.graph.now }
 
+abbrev pub graph_reading_in : GraphReadWords → GraphReading
+graph_reading_in words = record { graph = words.graph.now; flat = words.flat.now }
+
 abbrev pub word_in : Option (Bor (List ℕ)) → Option (List ℕ)
 word_in word = option_map (λ w. w.now) word
 
@@ -58,6 +62,7 @@ command_in (words.Report pair) = Report (pair_in pair)
 command_in (words.Guard guard) = Guard (guarding_in guard)
 command_in (words.CheckGuard guard) = CheckGuard (guarding_in guard)
 command_in (words.WriteGraph graph) = WriteGraph (graphing_in graph)
+command_in (words.ReadGraph graph) = ReadGraph (graph_reading_in graph)
 command_in (words.Trial trial) = TryOut (trial_in trial)
 
 -- the command over a pair that has this task

@@ -25,6 +25,8 @@ pub mod Replaying
 pub mod Reported
 pub mod Guarded
 pub mod Graphed
+pub mod GraphRead
+pub mod GraphCounted
 pub mod Tried
 pub mod Trying
 pub mod Outcomes

@@ -43,6 +43,11 @@ pub record Graphing : Type 0 where
   pub original : List ℕ
   pub graph : List ℕ
 
+-- the two files of `from-aag AAG FLAT`
+pub record GraphReading : Type 0 where
+  pub graph : List ℕ
+  pub flat : List ℕ
+
 -- what the words of a command line can mean
 pub data Command : Type 0 where
   Validate : Pair → Command
@@ -54,6 +59,7 @@ pub data Command : Type 0 where
   Guard : Guarding → Command
   CheckGuard : Guarding → Command
   WriteGraph : Graphing → Command
+  ReadGraph : GraphReading → Command
 
 -- a file word is not empty
 abbrev pub is_file : List ℕ → Bool
@@ -95,6 +101,13 @@ graphing_of (original ∷ graph ∷ []) =
     then Some (WriteGraph (record { original = original; graph = graph }))
     else None
 graphing_of words = None
+
+unfoldable pub graph_reading_of : List (List ℕ) → Option Command
+graph_reading_of (graph ∷ flat ∷ []) =
+    if is_file graph && is_file flat
+    then Some (ReadGraph (record { graph = graph; flat = flat }))
+    else None
+graph_reading_of words = None
 
 -- a replay over a pair, where no file word is empty, and no waves are saved or those under this name
 abbrev pub replay_over : Option Pair → List ℕ → Option (List ℕ) → Option Command
@@ -159,6 +172,7 @@ line_of (command ∷ words) =
     else if bytes_eq command (codes "guard") then of_plain (over_guarding Guard) (words_of words)
     else if bytes_eq command (codes "guarded") then of_plain (over_guarding CheckGuard) (words_of words)
     else if bytes_eq command (codes "to-aag") then of_plain graphing_of (words_of words)
+    else if bytes_eq command (codes "from-aag") then of_plain graph_reading_of (words_of words)
     else if bytes_eq command (codes "wave") then of_plain waving_of (words_of words)
     else None
 

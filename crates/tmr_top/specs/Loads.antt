@@ -2,7 +2,7 @@
 use Rattle.std.specs.Prelude.{ℕ, List, [], ◌∷◌, ◌++◌, map, Option, Some, None}
 use Rattle.tmr_top.specs.declared.file_words.FileKind.{FileKind}
 use Rattle.tmr_top.specs.declared.file_words.FileKind.TheVariants.{Netlist, Bytes}
-use Rattle.tmr_top.specs.Line.{Command, Pair, Replaying, Validate, Harden, Flatten, Replay, Report, Guard, CheckGuard, WriteGraph, TryOut}
+use Rattle.tmr_top.specs.Line.{Command, Pair, Replaying, Validate, Harden, Flatten, Replay, Report, Guard, CheckGuard, WriteGraph, ReadGraph, TryOut}
 
 -- a file to be loaded, and the most bytes that it may have; a netlist is read while it is loaded, and of other files the bytes are kept
 pub record Load : Type 0 where
@@ -25,6 +25,10 @@ certificate_file name = record { name = name; limit = 1073741824; kind = Bytes }
 -- a schedule has at most 16 MiB
 abbrev pub schedule_file : List ℕ → Load
 schedule_file name = record { name = name; limit = 16777216; kind = Bytes }
+
+-- an AIGER file has at most 8 MiB
+abbrev pub graph_file : List ℕ → Load
+graph_file name = record { name = name; limit = 8388608; kind = Bytes }
 
 -- the three files of a pair
 abbrev pub pair_files : Pair → List Load
@@ -49,6 +53,7 @@ loads_of (Report p) = pair_files p
 loads_of (Guard w) = original_file w.original ∷ []
 loads_of (CheckGuard w) = original_file w.original ∷ hardened_file w.guarded ∷ []
 loads_of (WriteGraph w) = original_file w.original ∷ []
+loads_of (ReadGraph w) = graph_file w.graph ∷ []
 loads_of (TryOut t) = []
 
 -- the names that a command saves, in this order
@@ -61,6 +66,7 @@ saves_of (Report p) = []
 saves_of (Guard w) = w.guarded ∷ []
 saves_of (CheckGuard w) = []
 saves_of (WriteGraph w) = w.graph ∷ []
+saves_of (ReadGraph w) = w.flat ∷ []
 saves_of (TryOut t) = []
 
 abbrev pub load_name : Load → List ℕ

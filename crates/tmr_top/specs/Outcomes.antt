@@ -2,7 +2,7 @@
 use Rattle.std.specs.Prelude.{ℕ, List}
 use Rattle.tmr_outside.specs.Contents.{Contents}
 use Rattle.tmr_top.specs.declared.decision.Verdict.{Verdict}
-use Rattle.tmr_top.specs.Line.{Command, Validate, Harden, Flatten, Replay, Report, Guard, CheckGuard, WriteGraph, TryOut}
+use Rattle.tmr_top.specs.Line.{Command, Validate, Harden, Flatten, Replay, Report, Guard, CheckGuard, WriteGraph, ReadGraph, TryOut}
 use Rattle.tmr_top.specs.Validated.{Validated}
 use Rattle.tmr_top.specs.Hardened.{Hardened}
 use Rattle.tmr_top.specs.Flattened.{Flattened}
@@ -10,6 +10,7 @@ use Rattle.tmr_top.specs.Replayed.{Replayed}
 use Rattle.tmr_top.specs.Reported.{Reported}
 use Rattle.tmr_top.specs.Guarded.{Guarded, GuardChecked}
 use Rattle.tmr_top.specs.Graphed.{Graphed}
+use Rattle.tmr_top.specs.GraphRead.{GraphRead}
 use Rattle.tmr_top.specs.Tried.{Tried}
 
 -- The contents at entry, where every file to be loaded is there and is not too long, the status that is decided before the put, the
@@ -23,4 +24,5 @@ Outcome (Report p) held verdict saved text = Reported p held verdict saved text
 Outcome (Guard w) held verdict saved text = Guarded w held verdict saved text
 Outcome (CheckGuard w) held verdict saved text = GuardChecked w held verdict saved text
 Outcome (WriteGraph w) held verdict saved text = Graphed w held verdict saved text
+Outcome (ReadGraph w) held verdict saved text = GraphRead w held verdict saved text
 Outcome (TryOut t) held verdict saved text = Tried t verdict saved text

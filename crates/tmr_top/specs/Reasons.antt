@@ -1,5 +1,6 @@
 -- What is printed of why a file is refused.
-use Rattle.std.specs.Prelude.{ℕ, List, [], ◌∷◌, ◌++◌, codes}
+use Rattle.std.specs.Prelude.{ℕ, List, [], ◌∷◌, ◌++◌, map, codes}
+use Rattle.std.specs.Fmt.{decimal}
 use Rattle.flat_net.specs.declared.fault.NetFault.{NetFault}
 use Rattle.flat_net.specs.declared.fault.NetFault.TheVariants as net
 use Rattle.blif_text.specs.declared.fault.TextKind.{TextKind}
@@ -11,6 +12,8 @@ use Rattle.schedule_replay.specs.declared.fault.ScheduleFault.{ScheduleFault}
 use Rattle.schedule_replay.specs.declared.fault.ScheduleFault.TheVariants as schedule
 use Rattle.hierarchy.specs.declared.flat_fault.FlatFault.{FlatFault}
 use Rattle.hierarchy.specs.declared.flat_fault.FlatFault.TheVariants as flat
+use Rattle.aag_design.specs.declared.fault.AagFault.{AagFault}
+use Rattle.aag_design.specs.declared.fault.AagFault.TheVariants as aag
 use Rattle.tmr_top.specs.Texts.{joined, line_reason, counted_text}
 
 abbrev pub kind_text : TextKind → List ℕ
@@ -78,3 +81,12 @@ flat_reason flat.TooLarge = codes "too large"
 flat_reason (flat.NameClash name) = joined (codes "name clash " ∷ name ∷ [])
 flat_reason (flat.Net fault) = fault_reason fault
 flat_reason flat.Memory = []
+
+-- of the first fault of an AIGER file; a loop is told by the variables of its gates
+abbrev pub aag_reason : AagFault → List ℕ
+aag_reason (aag.Line n) = line_reason n (codes "bad line")
+aag_reason (aag.Doubled v) = counted_text (codes "doubled ") v
+aag_reason (aag.Undefined v) = counted_text (codes "undefined ") v
+aag_reason (aag.Loop variables) = codes "loop" ++ spaced (map decimal variables.items)
+aag_reason aag.TooLarge = codes "too large"
+aag_reason aag.Memory = []

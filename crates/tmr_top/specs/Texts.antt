@@ -3,6 +3,7 @@ use Rattle.std.specs.Prelude.{ℕ, ◌+◌, nat_eq, max, List, [], ◌∷◌, �
 use Rattle.std.specs.Fmt.{decimal}
 use Rattle.flat_net.specs.Net.{Net, name_of, register_count}
 use Rattle.certificate.specs.Cert.{PlainCert}
+use Rattle.aag_design.specs.declared.counts.Counts.{Counts}
 
 -- pieces, one behind the other
 abbrev pub joined : List (List ℕ) → List ℕ
@@ -40,12 +41,17 @@ guard_line n g assumed =
     joined (counted_text (codes "guard nodes ") (length n.nodes) ∷ counted_text (codes " to ") (length g.nodes)
     ∷ counted_text (codes " outputs ") (length n.outputs) ∷ counted_text (codes " assumed ") assumed ∷ codes "\n" ∷ [])
 
--- how many inputs, outputs, latches, gates and free latches a file of a design has
-unfoldable pub graph_line : Net → ℕ → ℕ → List ℕ
+-- how many inputs, outputs, latches, gates and free latches an AIGER file has
+unfoldable pub aag_line : Counts → List ℕ
+aag_line c =
+    joined (counted_text (codes "aag inputs ") c.inputs ∷ counted_text (codes " outputs ") c.outputs
+    ∷ counted_text (codes " latches ") c.latches ∷ counted_text (codes " ands ") c.gates
+    ∷ counted_text (codes " free ") c.free ∷ codes "\n" ∷ [])
+
+-- the same of a file of a design, which has a latch for each register
+abbrev pub graph_line : Net → ℕ → ℕ → List ℕ
 graph_line n gates count =
-    joined (counted_text (codes "aag inputs ") (length n.inputs) ∷ counted_text (codes " outputs ") (length n.outputs)
-    ∷ counted_text (codes " latches ") (register_count n) ∷ counted_text (codes " ands ") gates
-    ∷ counted_text (codes " free ") count ∷ codes "\n" ∷ [])
+    aag_line (record { inputs = length n.inputs; outputs = length n.outputs; latches = register_count n; gates = gates; free = count })
 
 unfoldable pub guarded_line : List ℕ
 guarded_line = codes "guarded\n"
@@ -78,7 +84,7 @@ unfoldable pub save_fault_line : List ℕ → List ℕ
 save_fault_line file = joined (codes "fault: save " ∷ file ∷ codes "\n" ∷ [])
 
 unfoldable pub usage_text : List ℕ
-usage_text = codes "usage: tmr validate ORIG HARD CERT\n       tmr harden ORIG HARD CERT [--size S] [--cert V] [--depth D]\n       tmr flatten ORIG FLAT\n       tmr replay ORIG HARD CERT SCHED\n       tmr report ORIG HARD CERT\n       tmr trial NUMBER NODES\n       tmr guard ORIG GUARDED\n       tmr guarded ORIG GUARDED\n       tmr to-aag ORIG AAG\n       tmr wave ORIG HARD CERT SCHED VCD\n"
+usage_text = codes "usage: tmr validate ORIG HARD CERT\n       tmr harden ORIG HARD CERT [--size S] [--cert V] [--depth D]\n       tmr flatten ORIG FLAT\n       tmr replay ORIG HARD CERT SCHED\n       tmr report ORIG HARD CERT\n       tmr trial NUMBER NODES\n       tmr guard ORIG GUARDED\n       tmr guarded ORIG GUARDED\n       tmr to-aag ORIG AAG\n       tmr from-aag AAG FLAT\n       tmr wave ORIG HARD CERT SCHED VCD\n"
 
 unfoldable pub memory_text : List ℕ
 memory_text = codes "want of memory\n"

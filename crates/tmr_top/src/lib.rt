@@ -7,6 +7,7 @@ mod duplicating;
 mod file_words;
 mod flattening;
 mod form_text;
+mod graph_reading;
 mod graphing;
 mod harden_words;
 mod hardening;

@@ -3,7 +3,7 @@ ghost use Rattle.std.specs.Prelude.{◌≡◌, ◌<◌, ◌∷◌, [], IfOk, IfS
 ghost use Rattle.std.specs.Option.{option_map};
 ghost use Rattle.tmr_top.specs.Words.{texts};
 ghost use Rattle.tmr_top.specs.WordsRead.{words_in};
-ghost use Rattle.tmr_top.specs.Line.{Validate, Report, Guard, CheckGuard, is_file, pair_of, over_pair, over_trial, flattening_of, guarding_of, over_guarding, graphing_of, replay_over, replaying_of, waving_of, positive_number, version_number, said, hardening_with, hardening_of, line_of};
+ghost use Rattle.tmr_top.specs.Line.{Validate, Report, Guard, CheckGuard, is_file, pair_of, over_pair, over_trial, flattening_of, guarding_of, over_guarding, graphing_of, graph_reading_of, replay_over, replaying_of, waving_of, positive_number, version_number, said, hardening_with, hardening_of, line_of};
 ghost use Rattle.tmr_top.specs.FileWords.{pair_in, word_in, guarding_in, command_in, read_words as read_texts};
 
 use crate::harden_words::HardenWords;
@@ -44,6 +44,13 @@ pub struct GraphWords<'a> {
     pub graph: &'a str,
 }
 
+/// The two file words of `from-aag AAG FLAT`.
+#[derive(Clone, Copy, Drop)]
+pub struct GraphReadWords<'a> {
+    pub graph: &'a str,
+    pub flat: &'a str,
+}
+
 /// A command with its files.
 #[derive(Clone, Copy, Drop)]
 pub enum CommandWords<'a> {
@@ -56,6 +63,7 @@ pub enum CommandWords<'a> {
     Guard(GuardWords<'a>),
     CheckGuard(GuardWords<'a>),
     WriteGraph(GraphWords<'a>),
+    ReadGraph(GraphReadWords<'a>),
 }
 
 /// A pair of these files, where none is empty.
@@ -189,6 +197,25 @@ fn read_graphing<'a>(plain: &[&'a str]) -> Option<CommandWords<'a>>
             Some(CommandWords::WriteGraph(GraphWords {
                 original: *original,
                 graph: *graph,
+            }))
+        }
+        _ => None,
+    }
+}
+
+/// `from-aag`, where there are two words and none is empty.
+#[tactic(auto, unfolding(crate::specs::Line::graph_reading_of))]
+fn read_graph_reading<'a>(plain: &[&'a str]) -> Option<CommandWords<'a>>
+    ensures { option_map command_in result ≡ graph_reading_of (read_texts plain.now) }
+{
+    match plain {
+        [graph, flat] => {
+            if graph.is_empty() || flat.is_empty() {
+                return None;
+            }
+            Some(CommandWords::ReadGraph(GraphReadWords {
+                graph: *graph,
+                flat: *flat,
             }))
         }
         _ => None,
@@ -396,6 +423,9 @@ pub fn read_line<'a>(
     }
     if command.as_str() == "to-aag" {
         return Ok(read_graphing(read.plain.as_slice()));
+    }
+    if command.as_str() == "from-aag" {
+        return Ok(read_graph_reading(read.plain.as_slice()));
     }
     if command.as_str() == "wave" {
         return Ok(read_waving(read.plain.as_slice()));

@@ -5,7 +5,7 @@ ghost use Rattle.tmr_outside.specs.Counts.{NoneFell, NoneRose};
 ghost use Rattle.tmr_outside.specs.Pieces.{TakesFile};
 ghost use Rattle.tmr_outside.specs.Seen.{IsTold};
 ghost use Rattle.tmr_top.specs.FileWords.{pair_in, replaying_in, command_in, load_in};
-ghost use Rattle.tmr_top.specs.Loads.{load_name, loads_of, pair_files, replay_files, schedule_file as schedule_load, original_file as original_load, hardened_file as hardened_load, certificate_file as certificate_load};
+ghost use Rattle.tmr_top.specs.Loads.{load_name, loads_of, pair_files, replay_files, schedule_file as schedule_load, original_file as original_load, hardened_file as hardened_load, certificate_file as certificate_load, graph_file as graph_load};
 ghost use Rattle.tmr_top.specs.Changes.{ChangesOnly};
 ghost use Rattle.tmr_top.specs.Loaded.{HoldsText, HoldsBytes, Loads, IsStop, IsSteadyStop};
 
@@ -20,6 +20,9 @@ use tmr_outside::{Files, LoadFault};
 
 /// The most bytes of an original design, and of its flat text.
 pub const ORIGINAL_LIMIT: u64 = 8_388_608;
+
+/// The most bytes of an AIGER file, and of the flat text of its design.
+pub const GRAPH_LIMIT: u64 = 8_388_608;
 
 /// The most bytes of a hardened design, and of its flat text.
 pub const HARDENED_LIMIT: u64 = 1_073_741_824;
@@ -89,6 +92,17 @@ fn schedule_file<'a>(name: &'a str) -> LoadWords<'a>
     }
 }
 
+/// An AIGER file.
+fn graph_file<'a>(name: &'a str) -> LoadWords<'a>
+    ensures { load_in result ≡ graph_load name.now }
+{
+    LoadWords {
+        name,
+        limit: GRAPH_LIMIT,
+        kind: FileKind::Bytes,
+    }
+}
+
 /// The three files of a pair, which come first.
 fn push_pair<'a>(loads: &mut Vec<LoadWords<'a>>, pair: &PairWords<'a>) -> Result<(), OutOfMemory>
     requires { loads.old.items ≡ [] }
@@ -133,6 +147,7 @@ pub fn list_loads<'a>(
             loads.push(hardened_file(guard.guarded))?;
         }
         CommandWords::WriteGraph(graph) => loads.push(original_file(graph.original))?,
+        CommandWords::ReadGraph(graph) => loads.push(graph_file(graph.graph))?,
         CommandWords::Trial(_) => {}
     }
     Ok(loads)

@@ -17,6 +17,7 @@ use crate::Status;
 use crate::decision::{Decision, Verdict, Work, stopped};
 use crate::duplicating::{check_files, guard_file};
 use crate::flattening::flatten;
+use crate::graph_reading::read_graph_file;
 use crate::graphing::graph_file;
 use crate::hardening::harden;
 use crate::line::CommandWords;
@@ -46,6 +47,7 @@ fn work(alloc: Global, words: &CommandWords, loaded: &[Loaded]) -> Result<Work, 
         CommandWords::Guard(words) => guard_file(alloc, words, loaded),
         CommandWords::CheckGuard(words) => check_files(alloc, words, loaded),
         CommandWords::WriteGraph(words) => graph_file(alloc, words, loaded),
+        CommandWords::ReadGraph(words) => read_graph_file(alloc, words, loaded),
         CommandWords::Trial(trial) => try_out(alloc, trial),
     }
 }

@@ -110,8 +110,8 @@ fn decide_and_put<F: Files, S: Sink>(
 /// Five commands save nothing: `validate ORIG HARD CERT`, `report ORIG HARD CERT`,
 /// `replay ORIG HARD CERT SCHED`, `guarded ORIG GUARDED` and `trial NUMBER NODES`. The others save
 /// what they make: `harden ORIG HARD CERT` saves HARD and CERT, `flatten ORIG FLAT` saves FLAT,
-/// `guard ORIG GUARDED` saves GUARDED, `to-aag ORIG AAG` saves AAG, and
-/// `wave ORIG HARD CERT SCHED VCD` saves VCD.
+/// `guard ORIG GUARDED` saves GUARDED, `to-aag ORIG AAG` saves AAG, `from-aag AAG FLAT` saves FLAT,
+/// and `wave ORIG HARD CERT SCHED VCD` saves VCD.
 /// Where memory is short, the answer may be `Memory` in place of any other.
 pub fn run<F: Files, S: Sink>(alloc: Global, words: &[String], files: &mut F, out: &mut S) -> Status
     // The headline. Where contents are told and the words are `validate ORIG HARD CERT`, the answer

@@ -1,11 +1,13 @@
 //! What is printed of why a file is refused.
 ghost use Rattle.std.specs.Prelude.{◌≡◌, IfOk};
 ghost use Rattle.tmr_top.specs.Texts.{line_reason};
-ghost use Rattle.std.specs.Prelude.{◌≢◌, ◌++◌, ◌∷◌, [], codes, OnOk};
+ghost use Rattle.std.specs.Prelude.{◌≢◌, ◌++◌, ◌∷◌, [], map, codes, OnOk};
+ghost use Rattle.std.specs.Fmt.{decimal};
 ghost use Rattle.tmr_top.specs.Texts.{joined};
-ghost use Rattle.tmr_top.specs.Reasons.{kind_text, spaced, fault_reason as reason_of_fault, flat_reason as reason_of_flat, cert_reason as reason_of_cert, schedule_reason as reason_of_schedule};
+ghost use Rattle.tmr_top.specs.Reasons.{kind_text, spaced, fault_reason as reason_of_fault, flat_reason as reason_of_flat, cert_reason as reason_of_cert, schedule_reason as reason_of_schedule, aag_reason as reason_of_aag};
 
 use crate::texts::{at_line, counted, join};
+use aag_design::AagFault;
 use blif_text::TextKind;
 use certificate::CertFault;
 use flat_net::NetFault;
@@ -133,5 +135,42 @@ pub fn flat_reason(alloc: Global, fault: &FlatFault) -> Result<Vec<u8>, OutOfMem
         FlatFault::NameClash(name) => naming(alloc, "name clash ", name),
         FlatFault::Net(fault) => fault_reason(alloc, fault),
         FlatFault::Memory => Err(OutOfMemory),
+    }
+}
+
+/// Puts each number with a blank before it.
+#[tactic(auto, using(crate::proofs::TextLaws::spaced_numbers))]
+fn put_numbers(alloc: Global, text: &mut Vec<u8>, numbers: &[u32]) -> Result<(), OutOfMemory>
+    ensures { OnOk result (text.new.items ≡ text.old.items ++ spaced (map decimal numbers.now)) }
+{
+    for number in numbers {
+        let digits = number.to_string(alloc)?;
+        text.push(b' ')?;
+        text.extend_from_slice(digits.as_bytes())?;
+    }
+    Ok(())
+}
+
+/// The reason of gates that are a loop.
+fn loop_reason(alloc: Global, variables: &[u32]) -> Result<Vec<u8>, OutOfMemory>
+    ensures { IfOk result (λ reason. reason.items ≡ codes "loop" ++ spaced (map decimal variables.now)) }
+{
+    let mut reason = b"loop".to_vec(alloc)?;
+    put_numbers(alloc, &mut reason, variables)?;
+    Ok(reason)
+}
+
+/// The reason of an AIGER file that gives no design.
+pub fn aag_reason(alloc: Global, fault: &AagFault) -> Result<Vec<u8>, OutOfMemory>
+    ensures reason { IfOk result (λ reason. reason.items ≡ reason_of_aag fault.now) }
+    ensures caused { OnOk result (fault.now ≢ AagFault.Memory) }
+{
+    match fault {
+        AagFault::Line(line) => at_line(alloc, *line, "bad line"),
+        AagFault::Doubled(variable) => counted(alloc, b"doubled ", *variable as u64),
+        AagFault::Undefined(variable) => counted(alloc, b"undefined ", *variable as u64),
+        AagFault::Loop(variables) => loop_reason(alloc, variables),
+        AagFault::TooLarge => Ok(b"too large".to_vec(alloc)?),
+        AagFault::Memory => Err(OutOfMemory),
     }
 }

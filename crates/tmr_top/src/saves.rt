@@ -48,6 +48,7 @@ pub fn list_saves<'a>(alloc: Global, words: &CommandWords<'a>) -> Result<Vec<&'a
         CommandWords::Guard(guard) => names.push(guard.guarded)?,
         CommandWords::CheckGuard(_) => {}
         CommandWords::WriteGraph(graph) => names.push(graph.graph)?,
+        CommandWords::ReadGraph(graph) => names.push(graph.flat)?,
         CommandWords::Trial(_) => {}
     }
     Ok(names)

@@ -2,10 +2,11 @@
 ghost use Rattle.std.specs.Prelude.{◌≡◌, ◌+◌, ◌≤◌, ◌<◌, ◌∷◌, [], codes, length, max, IfOk};
 ghost use Rattle.std.specs.Fmt.{decimal};
 ghost use Rattle.tmr_top.specs.FileWords.{read_words as read_pieces};
-ghost use Rattle.tmr_top.specs.Texts.{joined, greatest, open_word, accepted_line, place_text, not_accepted_line, refused_line, load_fault_line, save_fault_line, counted_text, flattened_line, guard_line, graph_line, guarded_line, not_guarded_line, line_reason, usage_text, memory_text};
+ghost use Rattle.tmr_top.specs.Texts.{joined, greatest, open_word, accepted_line, place_text, not_accepted_line, refused_line, load_fault_line, save_fault_line, counted_text, flattened_line, guard_line, aag_line, graph_line, guarded_line, not_guarded_line, line_reason, usage_text, memory_text};
 ghost use Rattle.flat_net.specs.Net.{net_count};
 ghost use Rattle.validator.specs.Place.{IsPlace};
 
+use aag_design::Counts;
 use certificate::Certificate;
 use flat_net::FlatNet;
 use std::alloc::Global;
@@ -17,7 +18,7 @@ use validator::Refusal;
 pub fn usage() -> &'static str
     ensures { result.now ≡ usage_text }
 {
-    "usage: tmr validate ORIG HARD CERT\n       tmr harden ORIG HARD CERT [--size S] [--cert V] [--depth D]\n       tmr flatten ORIG FLAT\n       tmr replay ORIG HARD CERT SCHED\n       tmr report ORIG HARD CERT\n       tmr trial NUMBER NODES\n       tmr guard ORIG GUARDED\n       tmr guarded ORIG GUARDED\n       tmr to-aag ORIG AAG\n       tmr wave ORIG HARD CERT SCHED VCD\n"
+    "usage: tmr validate ORIG HARD CERT\n       tmr harden ORIG HARD CERT [--size S] [--cert V] [--depth D]\n       tmr flatten ORIG FLAT\n       tmr replay ORIG HARD CERT SCHED\n       tmr report ORIG HARD CERT\n       tmr trial NUMBER NODES\n       tmr guard ORIG GUARDED\n       tmr guarded ORIG GUARDED\n       tmr to-aag ORIG AAG\n       tmr from-aag AAG FLAT\n       tmr wave ORIG HARD CERT SCHED VCD\n"
 }
 
 /// What is put where there was no memory.
@@ -280,21 +281,16 @@ pub fn guard_not_found(alloc: Global, rule: u8, at: u32) -> Result<Vec<u8>, OutO
     )
 }
 
-/// The line of a design whose file is saved.
-#[tactic(auto, unfolding(crate::specs::Texts::graph_line))]
-pub fn graph_made(
-    alloc: Global,
-    net: &FlatNet,
-    gates: u64,
-    count: u32,
-) -> Result<Vec<u8>, OutOfMemory>
-    ensures { IfOk result (λ text. text.items ≡ graph_line net.now.net gates count) }
+/// The line of an AIGER file.
+#[tactic(auto, unfolding(crate::specs::Texts::aag_line))]
+pub fn graph_told(alloc: Global, counts: &Counts) -> Result<Vec<u8>, OutOfMemory>
+    ensures { IfOk result (λ text. text.items ≡ aag_line counts.now) }
 {
-    let inputs = counted(alloc, b"aag inputs ", net.input_count() as u64)?;
-    let outputs = counted(alloc, b" outputs ", net.output_count() as u64)?;
-    let latches = counted(alloc, b" latches ", net.register_count() as u64)?;
-    let gates = counted(alloc, b" ands ", gates)?;
-    let free = counted(alloc, b" free ", count as u64)?;
+    let inputs = counted(alloc, b"aag inputs ", counts.inputs)?;
+    let outputs = counted(alloc, b" outputs ", counts.outputs)?;
+    let latches = counted(alloc, b" latches ", counts.latches)?;
+    let gates = counted(alloc, b" ands ", counts.gates)?;
+    let free = counted(alloc, b" free ", counts.free)?;
     join(
         alloc,
         &[
@@ -306,4 +302,23 @@ pub fn graph_made(
             b"\n".as_slice(),
         ],
     )
+}
+
+/// The line of a design whose file is saved.
+pub fn graph_made(
+    alloc: Global,
+    net: &FlatNet,
+    gates: u64,
+    count: u32,
+) -> Result<Vec<u8>, OutOfMemory>
+    ensures { IfOk result (λ text. text.items ≡ graph_line net.now.net gates count) }
+{
+    let counts = Counts {
+        inputs: net.input_count() as u64,
+        outputs: net.output_count() as u64,
+        latches: net.register_count() as u64,
+        gates,
+        free: count as u64,
+    };
+    graph_told(alloc, &counts)
 }

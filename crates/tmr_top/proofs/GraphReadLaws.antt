@@ -1,0 +1,83 @@
+-- What an AIGER file comes to.
+use Rattle.std.proofs.Common.{◌≡◌, ◌≢◌, ℕ, List, [], ◌∷◌, Option, Some, refl, sym, ap, ◌∙◌, subst}
+use Rattle.std.specs.FinMap.{get}
+use Rattle.flat_net.specs.Free.{FreeDesign}
+use Rattle.blif_writer.specs.Text.{free_text}
+use Rattle.aag_design.specs.Read.{IsFaultOf, IsReadAs, IsReadCounted}
+use Rattle.aag_design.specs.declared.file.CountedDesign.{CountedDesign}
+use Rattle.aag_design.specs.declared.fault.AagFault.{AagFault}
+use Rattle.aag_design.specs.declared.fault.AagFault.TheVariants.{Memory}
+use Rattle.aag_design.proofs.OneAnswer.{design_or_fault}
+use Rattle.tmr_outside.specs.Contents.{Contents}
+use Rattle.tmr_top.specs.declared.decision.Work.{Work}
+use Rattle.tmr_top.specs.declared.decision.Verdict.{Verdict}
+use Rattle.tmr_top.specs.declared.decision.Verdict.TheVariants.{Done, NotAccepted, Refused}
+use Rattle.tmr_top.specs.FileWords.{texts_in}
+use Rattle.tmr_top.specs.Line.{GraphReading, ReadGraph}
+use Rattle.tmr_top.specs.Loads.{Load, graph_file}
+use Rattle.tmr_top.specs.Loaded.{HoldsBytes}
+use Rattle.tmr_top.specs.GraphRead.{HoldsGraph, HoldsNoGraph, GraphRead}
+use Rattle.tmr_top.specs.GraphCounted.{HoldsCounted}
+use Rattle.tmr_top.specs.Reasons.{aag_reason}
+use Rattle.tmr_top.specs.Texts.{aag_line, refused_line}
+use Rattle.tmr_top.specs.Works.{IsWork}
+use Rattle.tmr_top.proofs.PairLaws.{outcome_work}
+
+-- ---- works
+
+pub graph_read_work : (held : Contents) (w : GraphReading) (read : CountedDesign) (r : Work) → HoldsCounted held (graph_file w.graph) read → r.verdict ≡ Done → texts_in r.saves.items ≡ free_text read.net.design.net read.net.free ∷ [] → r.text.items ≡ aag_line read.counts → IsWork (ReadGraph w) held r
+graph_read_work held w read r holds done saves says =
+    outcome_work (ReadGraph w) held r Done done (record {
+      design = read.net;
+      holds = record { bytes = holds.bytes; there = holds.there; short = holds.short; fact = holds.fact.read };
+      saves = saves;
+      says = says ∙ ap aag_line holds.fact.counts;
+    }) (λ p is. cc)
+
+pub graph_unread_work : (held : Contents) (w : GraphReading) (fault : AagFault) (r : Work) → HoldsNoGraph held (graph_file w.graph) fault → fault ≢ Memory → r.verdict ≡ Refused → r.text.items ≡ refused_line w.graph (aag_reason fault) → IsWork (ReadGraph w) held r
+graph_unread_work held w fault r first caused refused says =
+    outcome_work (ReadGraph w) held r Refused refused (record { fault = fault; caused = caused; first = first; says = says }) (λ p is. cc)
+
+-- ---- what the bytes of a file give
+
+pub holds_counted : (held : Contents) (load : Load) (bytes : List ℕ) (read : CountedDesign) → HoldsBytes held load bytes → IsReadCounted bytes load.limit read → HoldsCounted held load read
+holds_counted held load bytes read holds is = record {
+  bytes = holds.bytes;
+  there = holds.there;
+  short = holds.short;
+  fact = subst (λ (b : List ℕ). IsReadCounted b load.limit read) (sym holds.fact) is;
+}
+
+pub holds_no_graph : (held : Contents) (load : Load) (bytes : List ℕ) (fault : AagFault) → HoldsBytes held load bytes → IsFaultOf bytes load.limit fault → HoldsNoGraph held load fault
+holds_no_graph held load bytes fault holds is = record {
+  bytes = holds.bytes;
+  there = holds.there;
+  short = holds.short;
+  fact = subst (λ (b : List ℕ). IsFaultOf b load.limit fault) (sym holds.fact) is;
+}
+
+pub ruleset making = (graph_read_work)
+
+pub ruleset refusing = (graph_unread_work)
+
+pub ruleset reading = (holds_counted, holds_no_graph)
+
+-- ---- one verdict
+
+same_bytes : (o : Option (List ℕ)) (one other : List ℕ) → o ≡ Some one → o ≡ Some other → one ≡ other
+same_bytes o one other e f = cc
+
+-- a name that holds a graph is not refused
+graph_or_none : (held : Contents) (load : Load) (n : FreeDesign) (fault : AagFault) → HoldsGraph held load n → fault ≢ Memory → HoldsNoGraph held load fault → ⊥
+graph_or_none held load n fault one caused none =
+    let same = same_bytes (get held load.name) one.bytes none.bytes one.there none.there in
+    design_or_fault none.bytes load.limit n (subst (λ (b : List ℕ). IsReadAs b load.limit n) same one.fact) fault caused none.fact
+
+pub one_graph_read : (w : GraphReading) (held : Contents) (u v : Verdict) (s t : List (List ℕ)) (x y : List ℕ) → GraphRead w held u s x → GraphRead w held v t y → u ≡ v
+one_graph_read w held Done Done s t x y one other = refl
+one_graph_read w held Refused Refused s t x y one other = refl
+one_graph_read w held Done Refused s t x y one other = absurd (graph_or_none held (graph_file w.graph) one.design other.fault one.holds other.caused other.first)
+one_graph_read w held Refused Done s t x y one other = absurd (graph_or_none held (graph_file w.graph) other.design one.fault other.holds one.caused one.first)
+one_graph_read w held NotAccepted v s t x y one other = absurd one
+one_graph_read w held Done NotAccepted s t x y one other = absurd other
+one_graph_read w held Refused NotAccepted s t x y one other = absurd other
