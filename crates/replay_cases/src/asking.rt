@@ -8,6 +8,7 @@ use crate::designs::design_of;
 use crate::files::{Files, lines_of};
 use crate::list::{read_list, wide_text};
 use crate::printing::{allowed_text, fault_text, replay_text, schedule_text, wave_text};
+use crate::stepping::stepping_text;
 use certificate::{Certificate, read_cert};
 use flat_net::{FlatNet, FreeNet};
 use schedule_replay::{
@@ -205,6 +206,9 @@ fn of_designs(
 
 /// What a case answers.
 pub fn answer(alloc: Global, files: &Files, verb: &str, text: &str) -> Result<String, OutOfMemory> {
+    if verb == "chain" || verb == "words" {
+        return stepping_text(alloc, files.orig.as_str(), verb, text);
+    }
     let file = file_of(alloc, verb, text)?;
     match (
         design_of(alloc, files.orig.as_str()),

@@ -12,6 +12,7 @@ mod designs;
 mod files;
 mod list;
 mod printing;
+mod stepping;
 
 use crate::asking::answer;
 use crate::files::Files;
