@@ -1,5 +1,5 @@
 -- What the file of a design comes to.
-use Rattle.std.proofs.Common.{◌≡◌, ℕ, Bool, List, [], ◌∷◌}
+use Rattle.std.proofs.Common.{◌≡◌, ℕ, List, [], ◌∷◌}
 use Rattle.std.specs.Prelude.{count_by}
 use Rattle.aag_text.specs.Written.{IsCountedFile}
 use Rattle.flat_net.specs.Free.{FreeDesign}

@@ -5,9 +5,9 @@ use Rattle.tmr_outside.specs.Contents.{Contents}
 use Rattle.tmr_top.specs.declared.decision.Verdict.{Verdict}
 use Rattle.tmr_top.specs.declared.decision.Verdict.TheVariants.{Done, NotAccepted, Refused}
 use Rattle.tmr_top.specs.Line.{Command, Pair, Hardening, Flattening, Replaying, Guarding, Graphing, Validate, Harden, Flatten, Replay, Report, Guard, CheckGuard, WriteGraph, ReadGraph, TryOut}
-use Rattle.tmr_top.specs.Loads.{original_file, hardened_file, schedule_file}
-use Rattle.tmr_top.specs.Pairs.{ReadPair, HoldsPair, Accepts}
-use Rattle.tmr_top.specs.Replayed.{Replayed, ReadFiles, HoldsSchedule, HoldsNoSchedule, IsReplayDenied, IsReplayRefused, is_too_large}
+use Rattle.tmr_top.specs.Loads.{original_file, hardened_file}
+use Rattle.tmr_top.specs.Pairs.{ReadPair, Accepts}
+use Rattle.tmr_top.specs.Replayed.{Replayed, ReadFiles, IsReplayDenied, IsReplayRefused, is_too_large}
 use Rattle.tmr_top.specs.Validated.{Validated}
 use Rattle.tmr_top.specs.Hardened.{Hardened}
 use Rattle.tmr_top.specs.Flattened.{Flattened}
@@ -16,7 +16,6 @@ use Rattle.tmr_top.specs.Guarded.{Guarded, GuardChecked, IsUnguarded, IsGuardUnr
 use Rattle.tmr_top.specs.Graphed.{Graphed}
 use Rattle.dwc.specs.Answer.{FailsFirst}
 use Rattle.dwc.specs.Guard.{guard_net}
-use Rattle.flat_net.specs.Net.{Net}
 use Rattle.tmr_top.specs.Outcomes.{Outcome}
 use Rattle.tmr_top.proofs.GuardLaws.{no_failure}
 use Rattle.tmr_top.proofs.DesignLaws.{one_design, design_or_none}

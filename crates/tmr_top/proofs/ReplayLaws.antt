@@ -1,14 +1,13 @@
 -- What a replay comes to.
-use Rattle.std.proofs.Common.{◌≡◌, ◌≢◌, ℕ, zero, suc, ◌+◌, ◌*◌, ◌<◌, ◌≤◌, ◌⊎◌, inl, inr, Bool, true, false, List, [], ◌∷◌, ◌++◌, length, take, drop, get_or, filter, All, Option, Some, None, Result, Ok, Err, refl, sym, ap, ◌∙◌, subst, append_assoc, add-one, drop-cons, arith}
-use Rattle.std.specs.Prelude.{IfOk, IsTrue, nat_eq, nat_lt, slice_get, slice_index, codes, if◌then◌else◌}
+use Rattle.std.proofs.Common.{◌≡◌, ◌≢◌, ℕ, zero, suc, ◌+◌, ◌*◌, ◌<◌, ◌≤◌, ◌⊎◌, inl, inr, Bool, true, false, List, [], ◌∷◌, ◌++◌, length, drop, get_or, filter, All, Option, Some, None, Result, Ok, Err, refl, sym, ap, ◌∙◌, subst, append_assoc, add-one, drop-cons, arith}
+use Rattle.std.specs.Prelude.{IfOk, IsTrue, slice_get, codes, if◌then◌else◌}
 use Rattle.std.specs.Option.{unwrap_or}
 use Rattle.std.proofs.lemmas.Bool.{eq-eqb, ne_eqb}
-use Rattle.std.proofs.lemmas.Bool.Decides.{nat_tests}
 use Rattle.std.proofs.lemmas.List.{nil_from_length, length-drop, append-nil}
 use Rattle.std.proofs.lemmas.List.Elements.{All-append, All-filter, All-take, All-weaker}
 use Rattle.std.proofs.lemmas.Option.{get_or_from_slice_get}
 use Rattle.tmr_base.specs.declared.ids.Upset.{Upset}
-use Rattle.flat_net.specs.Net.{Net, Design, name_of, node_of, net_count}
+use Rattle.flat_net.specs.Net.{Net, Design, name_of, node_of}
 use Rattle.flat_net.specs.Free.{node_bit}
 use Rattle.net_meaning.specs.Meaning.{upset_at, start_at, net_value, row_at, row_before, spread, IsFreeFaultTrace, HasOneTrace}
 use Rattle.certificate.specs.Cert.{PlainCert, IsCert}
@@ -19,7 +18,6 @@ use Rattle.schedule_replay.specs.declared.fault.ScheduleFault.{ScheduleFault}
 use Rattle.schedule_replay.specs.declared.fault.ScheduleFault.TheVariants as fault
 use Rattle.schedule_replay.specs.declared.outcome.Difference.{Difference}
 use Rattle.schedule_replay.specs.Document.{Listed, sched_of}
-use Rattle.schedule_replay.specs.Entries.{HasWhatIsListed}
 use Rattle.schedule_replay.specs.Gives.{Fails}
 use Rattle.schedule_replay.specs.Outcome.{PlainOutcome, IsReplayOf, IsFreeReplay, outputs_in, outputs_until, output_at, differs}
 use Rattle.schedule_replay.specs.Reading.{IsReadAs}
@@ -28,18 +26,16 @@ use Rattle.schedule_replay.specs.Starts.{placed_starts, given_starts}
 use Rattle.schedule_replay.proofs.Quiet.{three_outputs}
 use Rattle.tmr_outside.specs.Contents.{Contents}
 use Rattle.tmr_top.specs.declared.decision.Work.{Work}
-use Rattle.tmr_top.specs.declared.decision.Verdict.{Verdict}
 use Rattle.tmr_top.specs.declared.decision.Verdict.TheVariants.{Done, NotAccepted, Refused}
 use Rattle.tmr_top.specs.FileWords.{texts_in}
-use Rattle.tmr_top.specs.Files.{Holds}
 use Rattle.tmr_top.specs.Line.{Replaying, Pair, Replay, Validate}
 use Rattle.tmr_top.specs.Loads.{Load, original_file, hardened_file, certificate_file, schedule_file}
 use Rattle.tmr_top.specs.Loaded.{HoldsBytes}
 use Rattle.tmr_top.specs.Designs.{HoldsDesign}
-use Rattle.tmr_top.specs.Pairs.{ReadPair, HoldsPair, HoldsCertificate, Accepts, Masked}
+use Rattle.tmr_top.specs.Pairs.{ReadPair, HoldsPair, HoldsCertificate, Masked}
 use Rattle.tmr_top.specs.Reasons.{schedule_reason}
 use Rattle.tmr_top.specs.ReplayText.{output_name, difference_line, difference_lines, replay_lines}
-use Rattle.tmr_top.specs.Replayed.{HoldsSchedule, HoldsNoSchedule, ReadFiles, SavesWaves, is_too_large}
+use Rattle.tmr_top.specs.Replayed.{HoldsNoSchedule, ReadFiles, SavesWaves, is_too_large}
 use Rattle.tmr_top.specs.Replaying.{ReadsSchedule, IsTold}
 use Rattle.tmr_top.specs.Texts.{not_accepted_line, refused_line}
 use Rattle.tmr_top.specs.Works.{IsWork}

@@ -1,5 +1,5 @@
 -- `to-aag ORIG AAG`: what it comes to.
-use Rattle.std.specs.Prelude.{◌≡◌, ℕ, Bool, List, [], ◌∷◌, count_by}
+use Rattle.std.specs.Prelude.{◌≡◌, ℕ, List, [], ◌∷◌, count_by}
 use Rattle.aag_text.specs.Written.{IsCountedFile}
 use Rattle.flat_net.specs.Free.{FreeDesign}
 use Rattle.tmr_outside.specs.Contents.{Contents}

@@ -1,5 +1,5 @@
 -- `guard ORIG GUARDED` and `guarded ORIG GUARDED`: what they come to.
-use Rattle.std.specs.Prelude.{◌≡◌, ◌⊎◌, ℕ, Bool, List, [], ◌∷◌, codes, count_by}
+use Rattle.std.specs.Prelude.{◌≡◌, ◌⊎◌, ℕ, Bool, List, [], ◌∷◌, count_by}
 use Rattle.flat_net.specs.Net.{Net}
 use Rattle.blif_writer.specs.Text.{flat_text}
 use Rattle.dwc.specs.Answer.{FailsFirst}

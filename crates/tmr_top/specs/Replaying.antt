@@ -1,6 +1,5 @@
 -- Steps of a replay. Private functions alone cite it.
-use Rattle.std.specs.Prelude.{◌≡◌, ℕ, List, length, Option, Ok, IsTrue}
-use Rattle.certificate.specs.Starts.{counted}
+use Rattle.std.specs.Prelude.{◌≡◌, ℕ, List, length, Option, IsTrue}
 use Rattle.schedule_replay.specs.Document.{Listed}
 use Rattle.schedule_replay.specs.Entries.{HasWhatIsListed}
 use Rattle.schedule_replay.specs.Outcome.{PlainOutcome, IsFreeReplay}

@@ -1,5 +1,5 @@
-use Rattle.std.proofs.Common.{◌≡◌, ℕ, [], refl, sym, ap, subst, ◌∙◌}
-use Rattle.flat_net.specs.Net.{Net, Design}
+use Rattle.std.proofs.Common.{◌≡◌, refl, sym, ap, subst, ◌∙◌}
+use Rattle.flat_net.specs.Net.{Design}
 use Rattle.dwc.specs.declared.check.GuardAnswer.{GuardAnswer}
 use Rattle.dwc.specs.Answer.{FailsFirst, IsAnswer}
 use Rattle.dwc.specs.Guard.{guard_net}

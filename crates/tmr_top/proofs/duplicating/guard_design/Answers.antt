@@ -1,7 +1,7 @@
-use Rattle.std.proofs.Common.{◌≡◌, ℕ, Bool, List, [], ◌∷◌, ◌++◌, refl, ap, subst, ◌∙◌}
-use Rattle.std.specs.Prelude.{Vec, count_by}
+use Rattle.std.proofs.Common.{◌≡◌, ℕ, List, [], ◌∷◌, ◌++◌, refl, ap, subst, ◌∙◌}
+use Rattle.std.specs.Prelude.{Vec}
 use Rattle.std.specs.declared.alloc.Global.{Global}
-use Rattle.flat_net.specs.Net.{Net, Design}
+use Rattle.flat_net.specs.Net.{Design}
 use Rattle.dwc.specs.Guard.{guard_net}
 use Rattle.dwc.specs.Tells.{Guards}
 use Rattle.tmr_top.specs.FileWords.{guarding_in, texts_in}

@@ -1,12 +1,8 @@
-use Rattle.std.proofs.Common.{◌≡◌, ℕ, Bool, true, false, List, length, refl, sym, ap, ◌∙◌}
-use Rattle.std.specs.Prelude.{IfOk}
-use Rattle.flat_net.specs.Net.{Net, Design}
-use Rattle.tmr_top.specs.declared.decision.Work.{Work}
-use Rattle.tmr_top.specs.declared.decision.Verdict.TheVariants.{Done, Refused}
-use Rattle.tmr_top.specs.FileWords.{pair_in, replaying_over, texts_in, word_in}
+use Rattle.std.proofs.Common.{ℕ, length, refl, sym, ap, ◌∙◌}
+use Rattle.flat_net.specs.Net.{Design}
+use Rattle.tmr_top.specs.FileWords.{pair_in, replaying_over, word_in}
 use Rattle.tmr_top.specs.Line.{Replay}
 use Rattle.tmr_top.specs.Replayed.{is_too_large}
-use Rattle.tmr_top.specs.Replaying.{IsTold}
 use Rattle.tmr_top.specs.Texts.{not_accepted_line}
 use Rattle.tmr_top.specs.Works.{IsWork}
 use Rattle.tmr_top.proofs.ReplayLaws.{both_ok, replayed_work, denied_work, large_work}

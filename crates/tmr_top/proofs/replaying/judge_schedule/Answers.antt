@@ -1,4 +1,4 @@
-use Rattle.std.proofs.Common.{◌≡◌, ℕ, List, sym, ap, ◌∙◌}
+use Rattle.std.proofs.Common.{ap, ◌∙◌}
 use Rattle.tmr_top.specs.FileWords.{pair_in, replaying_over}
 use Rattle.tmr_top.specs.Line.{Replay}
 use Rattle.tmr_top.specs.Loads.{schedule_file}

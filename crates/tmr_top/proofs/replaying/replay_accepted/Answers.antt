@@ -1,4 +1,4 @@
-use Rattle.std.proofs.Common.{◌≡◌, ℕ, ◌<◌, List, length, All, sym, ap, ◌∙◌, subst}
+use Rattle.std.proofs.Common.{◌<◌, length, All, sym, ap, ◌∙◌, subst}
 use Rattle.flat_net.specs.Net.{Design}
 use Rattle.certificate.specs.Starts.{counted, spread_start}
 use Rattle.schedule_replay.specs.declared.outcome.Difference.{Difference}

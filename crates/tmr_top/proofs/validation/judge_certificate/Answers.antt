@@ -1,4 +1,4 @@
-use Rattle.std.proofs.Common.{◌≡◌, ℕ, List, sym, ap, ◌∙◌}
+use Rattle.std.proofs.Common.{sym, ap, ◌∙◌}
 use Rattle.flat_net.specs.Net.{Design}
 use Rattle.certificate.specs.Reading.{cert_of_text}
 use Rattle.tmr_top.specs.FileWords.{pair_in, files_over}

@@ -1,4 +1,4 @@
-use Rattle.std.proofs.Common.{◌≡◌, ℕ, ◌*◌, Bool, List, length, sym, ap, ◌∙◌}
+use Rattle.std.proofs.Common.{ℕ, ◌*◌, length, sym, ap, ◌∙◌}
 use Rattle.flat_net.specs.Net.{Design}
 use Rattle.tmr_top.specs.ReplayText.{output_waves}
 use Rattle.tmr_top.proofs.WaveLaws.{values_long}
