@@ -18,7 +18,8 @@ map_from f k [] = []
 map_from f k (x ∷ xs) = f k x ∷ map_from f (k + 1) xs
 
 -- one entry for each node, in the order of the nodes: `f`, the latches, the gates, the next literals of the latches, and the outputs
-abbrev pub each_node : {B : Type 0} → PlainAig → B → (ℕ → Latch → B) → (Gate → B) → (ℕ → Literal → B) → (ℕ → Literal → B) → List B
+abbrev pub each_node : {B : Type 0} → PlainAig → B
+    → (ℕ → Latch → B) → (Gate → B) → (ℕ → Literal → B) → (ℕ → Literal → B) → List B
 each_node a zero latch gate next output =
     zero ∷
     (map_from latch 0 a.latches ++
