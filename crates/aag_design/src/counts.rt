@@ -3,7 +3,8 @@ ghost use Rattle.std.specs.Prelude.{◌≡◌, count_by};
 ghost use Rattle.aag_text.specs.Nets.{plain_aig};
 ghost use Rattle.aag_design.specs.Counts.{is_free, counts_of};
 
-use aag_text::{Aig, Latch, Start};
+use crate::marks::starts_free;
+use aag_text::{Aig, Latch};
 
 /// The numbers of a file's header, and how many of its latches are free in cycle 0.
 #[derive(Clone, Copy, Debug, PartialEq, Eq, Drop)]
@@ -18,7 +19,7 @@ pub struct Counts {
 fn is_free(latch: &Latch) -> bool
     ensures { result ≡ is_free latch.now }
 {
-    latch.start == Start::Free
+    starts_free(latch.start)
 }
 
 fn free_count(latches: &[Latch]) -> u64

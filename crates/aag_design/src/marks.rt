@@ -7,7 +7,8 @@ use aag_text::{Aig, Latch, Start};
 use std::alloc::{AllocError, Global};
 use tmr_base::OutOfMemory;
 
-fn starts_free(start: Start) -> bool
+/// Whether the value in cycle 0 is free.
+pub fn starts_free(start: Start) -> bool
     ensures { result ≡ starts_free start }
 {
     match start {
