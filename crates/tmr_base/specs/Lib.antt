@@ -2,3 +2,4 @@ pub mod Copies
 pub mod Names
 pub mod Numbers
 pub mod Parts
+pub mod Bytes

@@ -10,6 +10,7 @@ mod hardened_name;
 mod ids;
 mod memory;
 mod name;
+mod name_bytes;
 mod number;
 mod parts;
 

@@ -11,20 +11,17 @@ ghost use Rattle.std.specs.Str.{bytes_eq};
 ghost use Rattle.tmr_base.specs.Names.{is_name, is_name_byte};
 
 use crate::OutOfMemory;
-use smallvec::SmallVec;
+use crate::name_bytes::NameBytes;
 use std::alloc::Global;
 use std::cmp::Ordering;
 use std::hash::{Hash, Hasher};
 use std::marker::Model;
 
-/// How many bytes a name may have that takes no memory of its own.
-const INLINE: usize = 24;
-
 /// One or more bytes above 0x20, none of them 0x7F or `#`, of which the last is no backslash.
-/// Names are equal, ordered and hashed as their bytes. Up to 24 bytes stand in the value itself; only a longer name takes memory of its own.
+/// Names are equal, ordered and hashed as their bytes. Up to 23 bytes stand in the value itself; only a longer name takes memory of its own.
 #[derive(Debug, Drop)]
 pub struct Name {
-    bytes: SmallVec<u8, INLINE>,
+    bytes: NameBytes,
 }
 
 impl Model for Name {
@@ -33,9 +30,9 @@ impl Model for Name {
 
     ghost Value = { List ℕ };
 
-    ghost view = { λ name. name.bytes.items };
+    ghost view = { λ name. name.bytes };
 
-    ghost invariant = { λ name. is_name name.bytes.items ≡ true };
+    ghost invariant = { λ name. is_name name.bytes ≡ true };
 }
 
 /// Why bytes are not made a name.
@@ -79,7 +76,7 @@ impl Name {
         if !is_legal(bytes) {
             return Err(NameFault::Bad);
         }
-        match SmallVec::from_slice(alloc, bytes) {
+        match NameBytes::join(alloc, bytes, &[]) {
             Ok(bytes) => Ok(Name { bytes }),
             Err(_) => Err(NameFault::Memory),
         }
@@ -97,7 +94,7 @@ impl Name {
     pub fn copy(&self, alloc: Global) -> Result<Name, OutOfMemory>
         ensures { IfOk result (λ name. name ≡ self.now) }
     {
-        let bytes = SmallVec::from_slice(alloc, self.bytes.as_slice())?;
+        let bytes = self.bytes.copy(alloc)?;
         Ok(Name { bytes })
     }
 }
@@ -108,10 +105,7 @@ pub fn with_suffix(alloc: Global, x: &Name, suffix: &[u8]) -> Result<Name, OutOf
     requires { is_name suffix.now ≡ true }
     ensures { IfOk result (λ name. name ≡ x.now ++ suffix.now) }
 {
-    let start = x.bytes.as_slice();
-    let mut bytes = SmallVec::with_capacity(alloc, start.len().saturating_add(suffix.len()))?;
-    bytes.extend_from_slice(start)?;
-    bytes.extend_from_slice(suffix)?;
+    let bytes = NameBytes::join(alloc, x.bytes(), suffix)?;
     Ok(Name { bytes })
 }
 
@@ -121,7 +115,7 @@ impl PartialEq for Name {
     ghost laws = { Prim.search (comparing, rules) };
 
     fn eq(&self, other: &Name) -> bool {
-        self.bytes == other.bytes
+        self.bytes() == other.bytes()
     }
 }
 
@@ -135,7 +129,7 @@ impl Hash for Name {
     ghost respects_eq = { Prim.search (hashing, rules) };
 
     fn hash<H: Hasher>(&self, state: &mut H) {
-        self.bytes.hash(state);
+        self.bytes().hash(state);
     }
 }
 
@@ -149,7 +143,7 @@ impl Ord for Name {
     ghost matches_eq = { Prim.search (comparing, rules) };
 
     fn cmp(&self, other: &Name) -> Ordering {
-        self.bytes.cmp(&other.bytes)
+        self.bytes().cmp(other.bytes())
     }
 }
 
