@@ -5,8 +5,11 @@
 #![tactic(auto)]
 
 mod cover;
+mod cover_rows;
+mod covers;
 mod rows;
 mod vote;
 
 pub use cover::{Cover, RowFault};
+pub use covers::Covers;
 pub use vote::majority;

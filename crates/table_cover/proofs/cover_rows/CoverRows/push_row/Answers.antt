@@ -4,7 +4,7 @@ use Rattle.table_cover.specs.Rows.{cut_rows}
 use Rattle.table_cover.specs.Pushing.{row_fault, with_row}
 use Rattle.table_cover.proofs.RowLaws.{length-cut_rows}
 use Rattle.table_cover.proofs.CoverLaws.{fits, new_view, new_long, new_is_cover}
-use Rattle.table_cover.proofs.cover.Cover.push_row.Goals as goal
+use Rattle.table_cover.proofs.cover_rows.CoverRows.push_row.Goals as goal
 
 pub overflow_add-self : goal.overflow_add-self
 overflow_add-self c =
