@@ -91,4 +91,13 @@ impl Library {
     {
         &self.models
     }
+
+    /// The models, for one who takes them apart.
+    pub fn into_models(self) -> Vec<BlifModel>
+        ensures models { map plain_model result.items ≡ self }
+        ensures kept { IsLibrary self }
+    {
+        let Library { models } = self;
+        models
+    }
 }

@@ -19,6 +19,7 @@ use indexmap::IndexSet;
 use std::alloc::{AllocError, Global};
 use std::marker::Model;
 use std::mem::replace;
+use table_cover::Covers;
 use tmr_base::Name;
 
 #[derive(Drop)]
@@ -30,6 +31,7 @@ pub(crate) struct OpenModel {
     outputs: IndexSet<Name>,
     elements: Vec<Element>,
     table: Option<OpenTable>,
+    covers: Covers,
 }
 
 impl Model for OpenModel {
@@ -51,12 +53,16 @@ impl Model for OpenModel {
     } };
 }
 
-/// Ends the table, if there is one.
-fn end_table(elements: &mut Vec<Element>, table: Option<OpenTable>) -> Result<(), AllocError>
+/// Ends the table, if there is one. Its cover takes the rows of one that was met, where that is the same.
+fn end_table(
+    elements: &mut Vec<Element>,
+    table: Option<OpenTable>,
+    covers: &mut Covers,
+) -> Result<(), AllocError>
     ensures { OnOk result (map plain_element elements.new.items ≡ with_table (map plain_element elements.old.items) table) }
 {
     match table {
-        Some(table) => Ok(elements.push(table.ended())?),
+        Some(table) => Ok(elements.push(table.ended(covers))?),
         None => Ok(()),
     }
 }
@@ -73,6 +79,7 @@ impl OpenModel {
             outputs: IndexSet::new(alloc),
             elements: Vec::new(alloc),
             table: None,
+            covers: Covers::new(alloc),
         }
     }
 
@@ -89,7 +96,7 @@ impl OpenModel {
         }) }
     {
         let table = self.table.take();
-        end_table(&mut self.elements, table)
+        end_table(&mut self.elements, table, &mut self.covers)
     }
 
     /// Takes the tokens after `.inputs`.

@@ -12,7 +12,7 @@ use crate::name_lists::read_names;
 use crate::row::put_row;
 use std::alloc::Global;
 use std::marker::Model;
-use table_cover::Cover;
+use table_cover::{Cover, Covers};
 use tmr_base::Name;
 
 #[derive(Drop)]
@@ -71,15 +71,15 @@ impl OpenTable {
         put_row(&mut self.cover, width, first, arguments)
     }
 
-    /// The table, where no more rows come.
-    pub fn ended(self) -> Element
+    /// The table, where no more rows come. Its cover takes the rows of one that was met, where that is the same.
+    pub fn ended(self, covers: &mut Covers) -> Element
         ensures { plain_element result ≡ table self.tokens self.rows }
     {
         let _width = self.cover.width();
         Element::Table {
             pins: self.pins,
             out: self.out,
-            cover: self.cover,
+            cover: covers.share(self.cover),
         }
     }
 }
