@@ -1,0 +1,12 @@
+pub mod RowLaws
+pub mod EndLaws
+pub mod PackedLaws
+pub mod Places
+pub mod Decisions
+pub mod Keeping
+pub mod Moves
+pub mod CycleLaws
+pub mod Walking
+pub mod Noting
+pub mod Orders
+pub mod ReaderLaws

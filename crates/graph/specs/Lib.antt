@@ -1,0 +1,8 @@
+pub mod Rows
+pub mod Lists
+pub mod Search
+pub mod Orders
+pub mod Sorted
+pub mod Readers
+pub mod Packed
+pub mod Turned

@@ -1,0 +1,51 @@
+-- Rows that stand side by side in one list. For the rows of this crate alone.
+use Rattle.std.specs.Prelude.{◌≡◌, ℕ, zero, suc, ◌+◌, ◌-◌, ◌<◌, ◌≤◌, Bool, List, [], ◌∷◌, length, slice_index, slice_range}
+use Rattle.graph.specs.declared.spans.Span.{Span}
+
+-- the rows that end there, of which the first begins at `from`
+abbrev pub rows_from : ℕ → List ℕ → List ℕ → List (List ℕ)
+rows_from from [] items = []
+rows_from from (end ∷ ends) items = slice_range items from end ∷ rows_from end ends items
+
+-- the ends never fall, and the last is `count`
+abbrev pub AreEnds : ℕ → List ℕ → ℕ → Type 0
+AreEnds from [] count = from ≡ count
+AreEnds from (end ∷ ends) count = (from ≤ end) × AreEnds end ends count
+
+-- rows that end there, so few that 32 bits count them and what stands in them
+pub record AreRows (ends items : List ℕ) : Type 0 where
+  pub ends_are : AreEnds 0 ends (length items)
+  pub few : length ends < 4294967296
+  pub few_items : length items < 4294967296
+
+-- where row x begins
+abbrev pub start_of : ℕ → List ℕ → ℕ → ℕ
+start_of from ends zero = from
+start_of from ends (suc x) = slice_index ends x
+
+-- empty rows in the places of these
+abbrev pub emptied_from : ℕ → List ℕ → List Span
+emptied_from from [] = []
+emptied_from from (end ∷ ends) = record { from = from; to = from; limit = end } ∷ emptied_from end ends
+
+-- the row that stands in the list from `from` to `to`
+abbrev pub span_in : {A : Type 0} → List A → Span → List A
+span_in items s = slice_range items s.from s.to
+
+-- a row that is one longer
+abbrev pub grown : Span → Span
+grown s = record { from = s.from; to = s.to + 1; limit = s.limit }
+
+-- how long the row may get
+abbrev pub room_in : Span → ℕ
+room_in s = s.limit - s.from
+
+-- each row stands behind the limit of the one before, and all of them within the first `count` places
+abbrev pub ArePacked : ℕ → List Span → ℕ → Type 0
+ArePacked start [] count = start ≤ count
+ArePacked start (s ∷ spans) count = (start ≤ s.from) × (s.from ≤ s.to) × (s.to ≤ s.limit) × ArePacked s.limit spans count
+
+-- rows of bits that grow, and how long each may get
+pub record PlainDecisions : Type 0 where
+  pub rows : List (List Bool)
+  pub room : List ℕ

@@ -1,0 +1,129 @@
+//! Which vertex reads which.
+ghost use Rattle.std.specs.Prelude.{◌≡◌, ◌<◌, ◌≤◌, ◌++◌, ◌∷◌, [], ℕ, List, length, map, replicate, slice_index, slice_range, IfOk, OnOk};
+ghost use Rattle.graph.specs.Rows.{row};
+ghost use Rattle.graph.specs.Packed.{rows_from, emptied_from, start_of, AreEnds};
+
+use crate::deciding::Decisions;
+use crate::spans::Span;
+use std::alloc::Global;
+use std::marker::Model;
+use tmr_base::OutOfMemory;
+
+/// For each vertex, the numbers of the vertices that it reads, in order. A number past all vertices
+/// stands for something else that is read. All rows stand in one list, which is cut at their ends.
+#[derive(Drop)]
+pub struct Graph {
+    ends: Vec<u32>,
+    reads: Vec<u32>,
+}
+
+impl Model for Graph {
+    ghost use Rattle.std.specs.Prelude.{ℕ, List};
+
+    ghost Value = { List (List ℕ) };
+
+    ghost use Rattle.graph.specs.Packed.{rows_from, AreRows};
+
+    ghost view = { λ g. rows_from 0 g.ends.items g.reads.items };
+
+    ghost invariant = { λ g. AreRows g.ends.items g.reads.items };
+}
+
+/// Where row x begins.
+fn start_at(ends: &[u32], x: usize) -> usize
+    requires { x < length ends.now }
+    ensures { result ≡ start_of 0 ends.now x }
+{
+    if x == 0 { 0 } else { ends[x - 1] as usize }
+}
+
+/// The part of the list that stands there.
+fn part(reads: &[u32], from: usize, to: usize) -> &[u32]
+    requires order { from ≤ to }
+    requires end { to ≤ length reads.now }
+    ensures { result.now ≡ slice_range reads.now from to }
+{
+    &reads[from..to]
+}
+
+/// Row x.
+fn row_at<'a>(ends: &[u32], reads: &'a [u32], x: usize) -> &'a [u32]
+    requires ends { AreEnds 0 ends.now (length reads.now) }
+    requires within { x < length ends.now }
+    ensures { result.now ≡ row (rows_from 0 ends.now reads.now) x }
+{
+    part(reads, start_at(ends, x), ends[x] as usize)
+}
+
+/// Empty rows in the places of these.
+fn empty_spans(alloc: Global, ends: &[u32]) -> Result<Vec<Span>, OutOfMemory>
+    ensures { IfOk result (λ empty. empty.items ≡ emptied_from 0 ends.now) }
+{
+    let mut empty = Vec::with_capacity(alloc, ends.len())?;
+    let mut from = 0;
+    for end in ends {
+        empty.push(Span {
+            from,
+            to: from,
+            limit: *end,
+        })?;
+        from = *end;
+    }
+    Ok(empty)
+}
+
+impl Graph {
+    /// No vertices.
+    pub fn new(alloc: Global) -> Graph
+        ensures { result ≡ [] }
+    {
+        Graph {
+            ends: Vec::new(alloc),
+            reads: Vec::new(alloc),
+        }
+    }
+
+    /// How many vertices there are.
+    pub fn count(&self) -> u32
+        ensures { result ≡ length self.now }
+    {
+        self.ends.len() as u32
+    }
+
+    /// One more vertex, which reads these. There is room for fewer than 2^32 vertices, which read fewer
+    /// than 2^32 together.
+    pub fn push(&mut self, row: &[u32]) -> Result<(), OutOfMemory>
+        ensures { OnOk result (self.new ≡ self.old ++ row.now ∷ []) }
+    {
+        let from = self.reads.len();
+        if self.ends.len() >= 4294967295 || row.len() >= 4294967296 - from {
+            return Err(OutOfMemory);
+        }
+        self.ends.push((from + row.len()) as u32)?;
+        match self.reads.extend_from_slice(row) {
+            Ok(()) => Ok(()),
+            Err(_) => {
+                let _ = self.ends.pop();
+                Err(OutOfMemory)
+            }
+        }
+    }
+
+    /// What vertex x reads.
+    pub fn row(&self, x: u32) -> &[u32]
+        requires { x < length self.now }
+        ensures { result.now ≡ row self.now x }
+    {
+        row_at(&self.ends, &self.reads, x as usize)
+    }
+
+    /// Nothing is decided of any read, and there is a place for each.
+    pub(crate) fn undecided(&self, alloc: Global) -> Result<Decisions, OutOfMemory>
+        ensures rows { IfOk result (λ d. d.rows ≡ replicate (length self.now) []) }
+        ensures room { IfOk result (λ d. d.room ≡ map length self.now) }
+    {
+        let spans = empty_spans(alloc, &self.ends)?;
+        let bits = vec![in alloc; false; self.reads.len()]?;
+        Ok(Decisions::new(spans, bits))
+    }
+}
