@@ -8,7 +8,7 @@ use Rattle.tmr_base.specs.Numbers.{number_of}
 use Rattle.tmr_base.proofs.NumberLaws.{number_again}
 use Rattle.flat_net.specs.Net.{Net, node_of, name_of, table_pins}
 use Rattle.flat_net.specs.Loop.{ReadsTable, IsLoop as IsTableLoop}
-use Rattle.flat_net.specs.Turned.{IsTurned}
+use Rattle.graph.specs.Turned.{IsTurned}
 use Rattle.flat_net.specs.Draft.{Element, out_of, AreDistinct}
 use Rattle.flat_net.specs.Faults.{is_among, draft_names, net_of_draft, IsDrivenOnce, IsCombLoop}
 use Rattle.flat_net.proofs.Going.{taken_split}

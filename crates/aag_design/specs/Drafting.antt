@@ -2,7 +2,7 @@
 use Rattle.std.specs.Prelude.{◌≡◌, ℕ, ◌+◌, ◌^◌, ◌<◌, ◌≤◌, Bool, false, codes, List, [], ◌∷◌, Option, Some, None, map, length, slice_get, slice_index}
 use Rattle.tmr_base.specs.Numbers.{number_of}
 use Rattle.flat_net.specs.Draft.{PlainDraft}
-use Rattle.flat_net.specs.Turned.{IsTurned}
+use Rattle.graph.specs.Turned.{IsTurned}
 use Rattle.aag_text.specs.Aig.{PlainAig}
 use Rattle.aag_text.specs.Nets.{plain_aig}
 use Rattle.aag_reader.specs.declared.file.Graph.{Graph}

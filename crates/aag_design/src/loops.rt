@@ -1,6 +1,6 @@
 //! The variables of gates that are a loop.
 ghost use Rattle.std.specs.Prelude.{◌≡◌, ℕ, Some, ◌+◌, ◌<◌, ◌≤◌, map, length, slice_index, IfOk};
-ghost use Rattle.flat_net.specs.Turned.{IsTurned};
+ghost use Rattle.graph.specs.Turned.{IsTurned};
 ghost use Rattle.aag_design.specs.Drafting.{number_behind, IsTurnedFrom};
 
 use std::alloc::{AllocError, Global};

@@ -1,5 +1,5 @@
 -- What the body of a node tells of it.
-use Rattle.std.proofs.Common.{◌≡◌, ℕ, ◌<◌, ◌≤◌, Bool, Option, Some, None, refl, length}
+use Rattle.std.proofs.Common.{◌≡◌, ℕ, ◌<◌, ◌≤◌, Bool, Option, Some, None, refl, length, arith}
 use Rattle.table_cover.specs.Cover.{PlainCover}
 use Rattle.flat_net.specs.declared.kind.Kind.TheVariants as kind
 use Rattle.flat_net.specs.declared.nodes.Body.TheVariants.{TableBody, RegisterBody}
@@ -7,7 +7,7 @@ use Rattle.flat_net.specs.Kinds.{kind_of}
 use Rattle.flat_net.specs.Net.{Net, Node, Table, Register, node_of, IsTable, IsRegister, IsCoverOf, IsInitOf, table_pins, pins_at}
 use Rattle.flat_net.specs.Packed.{IsBodyOf}
 use Rattle.flat_net.proofs.Slots.{slot_below}
-use Rattle.flat_net.proofs.Ranges.{table_within, register_within}
+use Rattle.flat_net.proofs.Ranges.{some_node_within, table_within, register_within}
 
 pub input_kind : (n : Net) (x : ℕ) → x < length n.inputs → kind.Input ≡ kind_of (node_of n x)
 input_kind n x h = rw (slot_below (length n.inputs) n.nodes x h) refl
@@ -80,3 +80,15 @@ pub node_from_register : (n : Net) (x : ℕ) → kind_of (node_of n x) ≡ kind.
 node_from_register n x e = (register_within n x (register_from_kind (node_of n x) e)).0
 
 pub ruleset from_kind = (table_from_kind, register_from_kind, node_from_table, node_from_register)
+
+-- what has a pin is a node
+pub node_from_pins : (n : Net) (x j : ℕ) → j < length (pins_at (node_of n x)) → length n.inputs ≤ x
+node_from_pins n x j h = go (node_of n x) refl h
+  where
+    go : (o : Option Node) → node_of n x ≡ o → j < length (pins_at o) → length n.inputs ≤ x
+    go None e h = absurd (omega arith)
+    go (Some node) e h = (some_node_within n x node e).0
+
+-- an input has no pins
+pub no_pins : (n : Net) (x : ℕ) → x < length n.inputs → length (pins_at (node_of n x)) ≡ 0
+no_pins n x h = rw (slot_below (length n.inputs) n.nodes x h) refl

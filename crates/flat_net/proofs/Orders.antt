@@ -1,12 +1,12 @@
 -- An order has each node once.
-use Rattle.std.proofs.Common.{◌≡◌, ◌≢◌, ℕ, ◌+◌, ◌-◌, ◌<◌, ◌≤◌, Bool, true, false, List, length, map, get_or, Any, refl, sym, ap, ◌∙◌, arith, eqb}
-use Rattle.std.specs.List.{list_any, IsDistinct}
+use Rattle.std.proofs.Common.{◌≡◌, ℕ, ◌+◌, ◌-◌, ◌<◌, true, false, List, length, map, get_or, Any, refl, sym, ◌∙◌, arith, eqb}
+use Rattle.std.specs.List.{list_any}
 use Rattle.std.proofs.lemmas.List.{length-map, get_or-map, get_or_default}
 use Rattle.std.proofs.lemmas.List.Folds.{Any-from_list_any, list_any-from_Any}
 use Rattle.std.proofs.lemmas.Map.Keys.{IsDistinct-from_apart}
 use Rattle.std.proofs.lemmas.Map.Steps.{length-le_from_distinct_below, le-length_from_below}
 use Rattle.std.proofs.lemmas.Bool.{ne_eqb, eqb-true, eq-eqb}
-use Rattle.flat_net.specs.Net.{Net, net_count, IsOrder}
+use Rattle.flat_net.specs.Net.{Net, IsOrder}
 
 module _ (n : Net) (order : List ℕ) (is : IsOrder n order) where
   place_at : (k : ℕ) → k < length order → get_or (map (λ x. x - length n.inputs) order) k 0 ≡ get_or order k 0 - length n.inputs

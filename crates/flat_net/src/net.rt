@@ -107,19 +107,22 @@ impl FlatNet {
         self.wiring.kind(x)
     }
 
-    /// How many pins node x has.
+    /// How many pins net x has. An input has none.
+    #[tactic(auto, using(crate::proofs::Bodies::no_pins))]
     pub fn pin_count(&self, x: NetId) -> u32
-        requires range { x.0 < net_count self.now.net }
-        requires node { length self.now.net.inputs ≤ x.0 }
+        requires { x.0 < net_count self.now.net }
         ensures { result ≡ length (pins_at (node_of self.now.net x.0)) }
     {
+        if x.0 < self.input_count() {
+            return 0;
+        }
         self.wiring.pins_of(x).len() as u32
     }
 
-    /// Pin j of node x.
+    /// Pin j of net x.
+    #[tactic(auto, using(crate::proofs::Bodies::node_from_pins))]
     pub fn pin(&self, x: NetId, j: u32) -> NetId
         requires range { x.0 < net_count self.now.net }
-        requires node { length self.now.net.inputs ≤ x.0 }
         requires pin { j < length (pins_at (node_of self.now.net x.0)) }
         ensures value { result.0 ≡ slice_index (pins_at (node_of self.now.net x.0)) j }
         ensures range { result.0 < net_count self.now.net }
@@ -130,7 +133,6 @@ impl FlatNet {
     /// The cover of table x.
     pub fn cover(&self, x: NetId) -> &Cover
         requires range { x.0 < net_count self.now.net }
-        requires node { length self.now.net.inputs ≤ x.0 }
         requires table { IsTable (node_of self.now.net x.0) }
         ensures cover { IsCoverOf (node_of self.now.net x.0) result.now }
         ensures width { length (pins_at (node_of self.now.net x.0)) ≡ result.now.width }
@@ -141,7 +143,6 @@ impl FlatNet {
     /// The initial value of register x.
     pub fn init(&self, x: NetId) -> bool
         requires range { x.0 < net_count self.now.net }
-        requires node { length self.now.net.inputs ≤ x.0 }
         requires register { IsRegister (node_of self.now.net x.0) }
         ensures { IsInitOf (node_of self.now.net x.0) result }
     {
@@ -182,6 +183,7 @@ impl FlatNet {
         ensures ordered { slice_get self.now.order i ≡ Some result.0 }
         ensures low { length self.now.net.inputs ≤ result.0 }
         ensures high { result.0 < net_count self.now.net }
+        ensures order { IsOrder self.now.net self.now.order }
     {
         id_at(&self.order, i as usize)
     }

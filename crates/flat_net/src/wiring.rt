@@ -169,10 +169,9 @@ impl Wiring {
     }
 
     /// The cover of table x.
-    #[tactic(auto, using(crate::proofs::Bodies::covers))]
+    #[tactic(auto, using(crate::proofs::Bodies::covers, crate::proofs::Ranges::table_within))]
     pub fn cover(&self, x: NetId) -> &Cover
         requires range { x.0 < net_count self.now }
-        requires node { length self.now.inputs ≤ x.0 }
         requires table { IsTable (node_of self.now x.0) }
         ensures { IsCoverOf (node_of self.now x.0) result.now }
     {
@@ -183,10 +182,9 @@ impl Wiring {
     }
 
     /// The initial value of register x.
-    #[tactic(auto, using(crate::proofs::Bodies::inits))]
+    #[tactic(auto, using(crate::proofs::Bodies::inits, crate::proofs::Ranges::register_within))]
     pub fn init(&self, x: NetId) -> bool
         requires range { x.0 < net_count self.now }
-        requires node { length self.now.inputs ≤ x.0 }
         requires register { IsRegister (node_of self.now x.0) }
         ensures { IsInitOf (node_of self.now x.0) result }
     {

@@ -3,7 +3,7 @@
 ghost use Rattle.std.specs.Prelude.{◌≡◌, ◌<◌, length, IfOk};
 ghost use Rattle.feedback_cut.specs.Components.{AreComponents};
 ghost use Rattle.feedback_cut.specs.Cut.{CutMeets};
-ghost use Rattle.feedback_cut.specs.Rows.{row};
+ghost use Rattle.graph.specs.Rows.{row};
 
 use crate::designs::{design_of, node_id};
 use crate::keeping::Texts;

@@ -1,4 +1,4 @@
-use Rattle.std.proofs.Common.{rules, ◌≡◌, refl, [], ◌∷◌}
+use Rattle.std.proofs.Common.{rules, refl, [], ◌∷◌}
 use Rattle.flat_net.specs.declared.nodes.Body.TheVariants.{RegisterBody}
 use Rattle.flat_net.proofs.PacksLaws.{packs_more}
 use Rattle.flat_net.proofs.nodes.push_register.Goals as goal
