@@ -2,13 +2,13 @@
 use Rattle.std.proofs.Common.{◌≡◌, ℕ, ◌<◌, ◌≤◌, Bool, true, false, List, length, get_or, sym, ◌∙◌, subst, arith}
 use Rattle.tmr_base.specs.Parts.{PlainParts}
 use Rattle.flat_net.specs.Net.{Net, IsValid}
-use Rattle.feedback_cut.specs.Rows.{Follows}
-use Rattle.feedback_cut.specs.Lists.{Leads, alone, longer}
+use Rattle.graph.specs.Rows.{Follows}
+use Rattle.graph.specs.Lists.{Leads, alone, longer}
 use Rattle.feedback_cut.specs.Inner.{ReadsInside, inner_rows}
 use Rattle.feedback_cut.specs.Numbering.{IsNumbered}
 use Rattle.feedback_cut.specs.Loops.{ReadsOwn, AreLooped}
 use Rattle.feedback_cut.specs.Components.{ReadsNode, ReadsWithin, AreComponents}
-use Rattle.feedback_cut.proofs.Places.{leads_map, reader_within}
+use Rattle.graph.proofs.Places.{leads_map, reader_within}
 use Rattle.feedback_cut.proofs.InnerLaws.{inner_long, read_from, read_to}
 
 -- numbers rise along lists of reads

@@ -4,14 +4,14 @@ use Rattle.std.proofs.lemmas.Bool.{cases_lt}
 use Rattle.std.proofs.lemmas.List.{get_or_past}
 use Rattle.tmr_base.specs.Parts.{PlainParts}
 use Rattle.flat_net.specs.Net.{Net, IsValid}
-use Rattle.feedback_cut.specs.Rows.{row}
+use Rattle.graph.specs.Rows.{row}
 use Rattle.feedback_cut.specs.Inner.{ReadsInside, inner_rows}
 use Rattle.feedback_cut.specs.Cut.{is_cut, ReadsUncut, LeadsUncut, CutMeets}
-use Rattle.feedback_cut.specs.Search.{Kept, IsSearched}
-use Rattle.feedback_cut.proofs.Places.{leads_map}
-use Rattle.feedback_cut.proofs.Decisions.{no_absurd}
+use Rattle.graph.specs.Search.{Kept, IsSearched}
+use Rattle.graph.proofs.Places.{leads_map}
+use Rattle.graph.proofs.Decisions.{no_absurd}
 use Rattle.feedback_cut.proofs.InnerLaws.{inner_long, inner_pins, read_from, read_to}
-use Rattle.feedback_cut.proofs.Orders.{open_ended}
+use Rattle.graph.proofs.Orders.{open_ended}
 
 -- what is cut is decided
 pub cut_within : (cut : List (List Bool)) (y j : ℕ) → is_cut cut y j ≡ true → j < length (row cut y)

@@ -2,15 +2,15 @@
 use Rattle.std.proofs.Common.{◌≡◌, ◌≢◌, ℕ, ◌+◌, ◌<◌, ◌≤◌, ◌⊎◌, Bool, true, false, List, length, get_or, replicate, refl, sym, ◌∙◌, ap, subst, inl, inr, arith, map, ◌-◌}
 use Rattle.std.proofs.lemmas.Bool.{cases_eq, cases_lt}
 use Rattle.std.proofs.lemmas.List.{get_or_past, get_or-replicate, get_or_default, length-replicate, get_or-map, length-map}
-use Rattle.feedback_cut.specs.Rows.{row, Stands, Follows}
-use Rattle.feedback_cut.specs.Lists.{Leads, alone, longer}
+use Rattle.graph.specs.Rows.{row, Stands, Follows}
+use Rattle.graph.specs.Lists.{Leads, alone, longer}
 use Rattle.feedback_cut.specs.Cut.{is_cut}
-use Rattle.feedback_cut.specs.Search.{Kept, IsSearched}
-use Rattle.feedback_cut.specs.Readers.{AreReaders}
+use Rattle.graph.specs.Search.{Kept, IsSearched}
+use Rattle.graph.specs.Readers.{AreReaders}
 use Rattle.feedback_cut.specs.Gathering.{number_at, Reached, the_root, reader, IsGathered}
 use Rattle.feedback_cut.specs.Numbering.{IsNumbered}
-use Rattle.feedback_cut.proofs.Places.{leads_map, leads_join, reader_within}
-use Rattle.feedback_cut.proofs.Orders.{same_place}
+use Rattle.graph.proofs.Places.{leads_map, leads_join, reader_within}
+use Rattle.graph.proofs.Orders.{same_place}
 
 -- the vertices behind place k of the order have numbers, and the first `groups` numbers are right
 pub record IsGrouped (rows : List (List ℕ)) (order : List ℕ) (none : ℕ) (numbers : List ℕ) (groups k : ℕ) : Type 0 where

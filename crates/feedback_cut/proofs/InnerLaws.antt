@@ -8,7 +8,7 @@ use Rattle.std.specs.Prelude.{Option, Some, None}
 use Rattle.std.proofs.lemmas.Bool.Decides.{nat_tests}
 use Rattle.flat_net.specs.Net.{Net, Node, node_of, pins_at, IsValid}
 use Rattle.flat_net.proofs.Ranges.{some_node_within, pin_in_range}
-use Rattle.feedback_cut.specs.Rows.{row}
+use Rattle.graph.specs.Rows.{row}
 use Rattle.feedback_cut.specs.Inner.{node_pins, ReadsInside, inner, inner_row, inner_rows}
 
 module _ (n : Net) (parts : PlainParts) where

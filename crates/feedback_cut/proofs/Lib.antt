@@ -1,15 +1,6 @@
-pub mod RowLaws
-pub mod PackedLaws
-pub mod Places
-pub mod Decisions
-pub mod Keeping
-pub mod Moves
-pub mod Walking
 pub mod InnerLaws
-pub mod Orders
 pub mod CutLaws
 pub mod GatherLaws
 pub mod GroupLaws
-pub mod ReaderLaws
 pub mod LoopLaws
 pub mod ComponentLaws

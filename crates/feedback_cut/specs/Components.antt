@@ -3,7 +3,7 @@ use Rattle.std.specs.Prelude.{◌≡◌, ◌↔◌, ℕ, ◌<◌, Bool, true, fa
 use Rattle.tmr_base.specs.Parts.{PlainParts}
 use Rattle.flat_net.specs.Net.{Net}
 use Rattle.feedback_cut.specs.Inner.{ReadsInside}
-use Rattle.feedback_cut.specs.Lists.{Leads}
+use Rattle.graph.specs.Lists.{Leads}
 
 -- node y reads node x, of its own partition
 pub record ReadsNode (n : Net) (parts : PlainParts) (x y : ℕ) : Type 0 where

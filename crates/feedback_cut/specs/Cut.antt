@@ -1,14 +1,12 @@
 -- What a cut of a design's loops is.
-use Rattle.std.specs.Prelude.{◌≡◌, ℕ, ◌<◌, Bool, true, false, List, length, slice_index_or}
+use Rattle.std.specs.Prelude.{◌≡◌, ℕ, ◌<◌, Bool, true, false, List, length}
 use Rattle.tmr_base.specs.Parts.{PlainParts}
 use Rattle.flat_net.specs.Net.{Net}
-use Rattle.feedback_cut.specs.Rows.{row}
-use Rattle.feedback_cut.specs.Lists.{Leads}
+use Rattle.graph.specs.Rows.{row}
+use Rattle.graph.specs.Lists.{Leads}
+-- `is_cut cut y j` says that pin j of node y is cut
+pub use Rattle.graph.specs.Search.{is_cut}
 use Rattle.feedback_cut.specs.Inner.{node_pins, ReadsInside}
-
--- pin j of node y is cut
-abbrev pub is_cut : List (List Bool) → ℕ → ℕ → Bool
-is_cut cut y j = slice_index_or (row cut y) j false
 
 -- node y reads node x, of its own partition, through a pin that is not voted; `voted y j` says that pin j of node y is
 pub record ReadsUnvoted (n : Net) (parts : PlainParts) (voted : ℕ → ℕ → Bool) (x y : ℕ) : Type 0 where

@@ -1,6 +1,6 @@
 -- Vertices that lead to a root through vertices without a number.
 use Rattle.std.specs.Prelude.{◌≡◌, ◌≢◌, ℕ, List, length, slice_index_or}
-use Rattle.feedback_cut.specs.Rows.{row, Stands}
+use Rattle.graph.specs.Rows.{row, Stands}
 
 -- the number of x, or none
 abbrev pub number_at : ℕ → List ℕ → ℕ → ℕ

@@ -1,10 +1,5 @@
-pub mod Rows
-pub mod Lists
 pub mod Inner
 pub mod Cut
-pub mod Packed
-pub mod Search
-pub mod Readers
 pub mod Gathering
 pub mod Numbering
 pub mod Loops

@@ -1,6 +1,6 @@
 -- Groups with a loop.
 use Rattle.std.specs.Prelude.{◌≡◌, ℕ, ◌<◌, Bool, true, false, List, length, slice_index, slice_index_or}
-use Rattle.feedback_cut.specs.Rows.{Follows}
+use Rattle.graph.specs.Rows.{Follows}
 
 -- y reads a vertex of its own number
 pub record ReadsOwn (rows : List (List ℕ)) (numbers : List ℕ) (y : ℕ) : Type 0 where

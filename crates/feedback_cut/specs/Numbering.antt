@@ -1,7 +1,7 @@
 -- One number for the vertices that lead to each other.
 use Rattle.std.specs.Prelude.{◌≡◌, ℕ, ◌<◌, ◌≤◌, List, length, slice_index}
-use Rattle.feedback_cut.specs.Rows.{Follows}
-use Rattle.feedback_cut.specs.Lists.{Leads}
+use Rattle.graph.specs.Rows.{Follows}
+use Rattle.graph.specs.Lists.{Leads}
 
 -- each vertex has a number below `groups`, and each of these is used; vertices of one number lead to each other; and what
 -- reads a vertex has no lower number than that one

@@ -1,13 +1,12 @@
 //! Cut pins.
 ghost use Rattle.std.specs.Prelude.{◌≡◌, ◌<◌, length, IfOk};
-ghost use Rattle.feedback_cut.specs.Rows.{row};
+ghost use Rattle.graph.specs.Rows.{row};
 ghost use Rattle.feedback_cut.specs.Cut.{is_cut, CutMeets};
 
-use crate::deciding::Decisions;
 use crate::inner::inner_reads;
 use crate::nodes::nodes_of;
-use crate::searching::search;
 use flat_net::FlatNet;
+use graph::{CutReads, search};
 use std::alloc::Global;
 use std::marker::Model;
 use tmr_base::{OutOfMemory, Parts};
@@ -15,7 +14,7 @@ use tmr_base::{OutOfMemory, Parts};
 /// For each node and each of its pins, whether the pin is cut.
 #[derive(Drop)]
 pub struct CutPins {
-    decisions: Decisions,
+    reads: CutReads,
 }
 
 impl Model for CutPins {
@@ -23,24 +22,17 @@ impl Model for CutPins {
 
     ghost Value = { List (List Bool) };
 
-    ghost view = { λ c. c.decisions.rows };
+    ghost view = { λ c. c.reads };
 }
 
 impl CutPins {
-    /// The cut that was decided.
-    pub(crate) fn new(decisions: Decisions) -> CutPins
-        ensures { result ≡ decisions.rows }
-    {
-        CutPins { decisions }
-    }
-
     /// Pin j of node i is cut.
     pub fn is_cut(&self, i: u32, j: u32) -> bool
         requires node { i < length self.now }
         requires pin { j < length (row self.now i) }
         ensures { result ≡ is_cut self.now i j }
     {
-        self.decisions.bit(i, j)
+        self.reads.is_cut(i, j)
     }
 }
 
@@ -52,7 +44,10 @@ pub fn cut(alloc: Global, n: &FlatNet, parts: &Parts) -> Result<CutPins, OutOfMe
     requires { length parts.now.of ≡ length n.now.net.nodes }
     ensures { IfOk result (λ cut. CutMeets n.now.net parts.now cut) }
 {
+    let _nodes = nodes_of(n);
     let graph = inner_reads(alloc, n, parts)?;
-    let searched = search(alloc, &graph, nodes_of(n))?;
-    Ok(searched.cut)
+    let searched = search(alloc, &graph)?;
+    Ok(CutPins {
+        reads: searched.cut,
+    })
 }

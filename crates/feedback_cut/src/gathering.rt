@@ -1,9 +1,9 @@
 //! The vertices without a number that lead to a vertex.
 ghost use Rattle.std.specs.Prelude.{◌≡◌, ◌≢◌, ◌<◌, ℕ, length, OnOk, slice_index, slice_index_or};
-ghost use Rattle.feedback_cut.specs.Rows.{row};
+ghost use Rattle.graph.specs.Rows.{row};
 ghost use Rattle.feedback_cut.specs.Gathering.{IsGathered};
 
-use crate::readers::Readers;
+use graph::Readers;
 use std::alloc::Global;
 use tmr_base::OutOfMemory;
 

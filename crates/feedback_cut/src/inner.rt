@@ -3,9 +3,9 @@ ghost use Rattle.std.specs.Prelude.{◌≡◌, ◌<◌, ◌+◌, ◌-◌, ◌==�
 ghost use Rattle.std.specs.List.{range_with_len};
 ghost use Rattle.feedback_cut.specs.Inner.{node_pins, inner, inner_row, inner_rows};
 
-use crate::Graph;
 use crate::nodes::nodes_of;
 use flat_net::FlatNet;
+use graph::Graph;
 use std::alloc::Global;
 use tmr_base::{NetId, OutOfMemory, Parts};
 

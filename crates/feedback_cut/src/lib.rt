@@ -3,25 +3,17 @@
 //! The layers above may rely on this: `components` gives two nodes one number exactly where reads inside
 //! one partition lead each way. `cut` leaves no loop of uncut pins inside a partition, and a cut pin
 //! closes a loop of which it is the only cut pin. Both follow what each node reads inside its
-//! partition, a `Graph`, by one depth-first search, `search`.
+//! partition, a `Graph`, by one depth-first search.
 #![tactic(auto)]
 
 mod cutting;
-mod deciding;
 mod gathering;
-mod graph;
 mod inner;
 mod loop_groups;
 mod loops;
 mod nodes;
 mod numbering;
-mod readers;
-mod reversing;
-mod searching;
-mod spans;
 
 pub use cutting::{CutPins, cut};
-pub use graph::Graph;
 pub use inner::inner_reads;
 pub use loop_groups::{LoopGroups, components};
-pub use searching::{Searched, search};

@@ -2,7 +2,7 @@
 ghost use Rattle.std.specs.Prelude.{◌≡◌, ◌↔◌, ◌<◌, ℕ, Bool, true, length, IfOk, IsTrue, slice_index, slice_index_or};
 ghost use Rattle.feedback_cut.specs.Loops.{ReadsOwn, AreLooped};
 
-use crate::Graph;
+use graph::Graph;
 use std::alloc::Global;
 use tmr_base::OutOfMemory;
 

@@ -2,10 +2,8 @@
 ghost use Rattle.std.specs.Prelude.{◌≡◌, ◌<◌, ◌≤◌, ◌-◌, ℕ, length, map, slice_index, IfOk};
 ghost use Rattle.feedback_cut.specs.Numbering.{IsNumbered};
 
-use crate::Graph;
 use crate::gathering::{gather, number_of};
-use crate::reversing::readers_of;
-use crate::searching::search;
+use graph::{Graph, readers_of, search};
 use std::alloc::Global;
 use tmr_base::OutOfMemory;
 
@@ -42,7 +40,7 @@ pub(crate) fn number_vertices(
     requires { count ≡ length graph.now }
     ensures { IfOk result (λ n. IsNumbered graph.now n.numbers.items n.groups) }
 {
-    let searched = search(alloc, graph, count)?;
+    let searched = search(alloc, graph)?;
     let readers = readers_of(alloc, graph, count)?;
     let mut numbers = vec![in alloc; count; count as usize]?;
     let mut groups = 0;

@@ -11,8 +11,8 @@ use Rattle.certificate.specs.declared.role.Role.{Role}
 use Rattle.certificate.specs.declared.role.Role.TheVariants.{Copy, Voter}
 use Rattle.certificate.specs.Cert.{PlainCert, role_of, role_count, count_of, Fits}
 use Rattle.certificate.specs.Rules.{Rule6, LabelReaches}
-use Rattle.feedback_cut.specs.Rows.{row, Follows}
-use Rattle.feedback_cut.proofs.Decisions.{no_absurd}
+use Rattle.graph.specs.Rows.{row, Follows}
+use Rattle.graph.proofs.Decisions.{no_absurd}
 use Rattle.recovery_depth.specs.Walks.{is_marked, marked}
 use Rattle.recovery_depth.specs.Depths.{is_some_register}
 use Rattle.recovery_depth.specs.Hardened.{role_at, node_at, is_copy, ReadsCopy, original_of, own_original, is_register_copy, copied, copied_row, copied_rows}

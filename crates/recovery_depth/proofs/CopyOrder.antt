@@ -7,10 +7,10 @@ use Rattle.certificate.specs.declared.role.Role.{Role}
 use Rattle.certificate.specs.declared.role.Role.TheVariants.{Copy, Voter}
 use Rattle.certificate.specs.Cert.{PlainCert, Fits}
 use Rattle.certificate.specs.Rules.{Rule6}
-use Rattle.feedback_cut.specs.Rows.{Follows}
-use Rattle.feedback_cut.specs.Lists.{Leads, alone, longer}
-use Rattle.feedback_cut.proofs.Places.{leads_map}
-use Rattle.feedback_cut.proofs.Decisions.{no_absurd}
+use Rattle.graph.specs.Rows.{Follows}
+use Rattle.graph.specs.Lists.{Leads, alone, longer}
+use Rattle.graph.proofs.Places.{leads_map}
+use Rattle.graph.proofs.Decisions.{no_absurd}
 use Rattle.recovery_depth.specs.Walks.{HasNoLoop}
 use Rattle.recovery_depth.specs.Depths.{is_some_register}
 use Rattle.recovery_depth.specs.Hardened.{role_at, node_at, is_copy, ReadsCopy, original_of, own_original, copied_rows}

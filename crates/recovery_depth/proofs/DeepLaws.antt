@@ -16,10 +16,10 @@ use Rattle.certificate.specs.Cert.{PlainCert, IsCert, role_of, role_count, part_
 use Rattle.flat_net.specs.Free.{node_bit}
 use Rattle.certificate.specs.Reads.{Reads, RoleReads}
 use Rattle.certificate.specs.Rules.{AllHold, CopiesTable, CopiesRegister, PinsRead}
-use Rattle.feedback_cut.specs.Rows.{Follows}
-use Rattle.feedback_cut.specs.Lists.{Leads, alone, longer}
-use Rattle.feedback_cut.proofs.Places.{leads_map}
-use Rattle.feedback_cut.proofs.Decisions.{no_absurd}
+use Rattle.graph.specs.Rows.{Follows}
+use Rattle.graph.specs.Lists.{Leads, alone, longer}
+use Rattle.graph.proofs.Places.{leads_map}
+use Rattle.graph.proofs.Decisions.{no_absurd}
 use Rattle.recovery_depth.specs.declared.deep.Deep.{Deep}
 use Rattle.recovery_depth.specs.Walks.{Walk, starts, goes_on, IsReach, IsReachIn, is_marked, marked}
 use Rattle.recovery_depth.specs.Depths.{is_some_register, IsDepth}

@@ -7,11 +7,11 @@ use Rattle.std.proofs.lemmas.Bool.Decides.{eqb_tells}
 use Rattle.std.proofs.lemmas.List.{get_or_past}
 use Rattle.tmr_base.specs.Parts.{PlainParts}
 use Rattle.flat_net.specs.Net.{Net, Node, Table, Register, node_of, pins_at, IsValid}
-use Rattle.feedback_cut.specs.Rows.{row, Follows}
+use Rattle.graph.specs.Rows.{row, Follows}
 use Rattle.feedback_cut.specs.Inner.{node_pins, ReadsInside, inner_rows}
 use Rattle.feedback_cut.specs.Cut.{is_cut, ReadsUnvoted, CutMeets}
 use Rattle.feedback_cut.proofs.InnerLaws.{inner_long, inner_pins}
-use Rattle.feedback_cut.proofs.Decisions.{no_absurd}
+use Rattle.graph.proofs.Decisions.{no_absurd}
 use Rattle.recovery_depth.specs.Walks.{IsOrdered, IsReach, is_marked, marked}
 use Rattle.recovery_depth.specs.Reaching.{IsGreatestOf}
 use Rattle.recovery_depth.specs.Uncut.{uncut_rows}

@@ -1,11 +1,11 @@
 -- Where no reads make a loop, the search cuts nothing.
 use Rattle.std.proofs.Common.{◌≡◌, ℕ, Bool, true, false, List, get_or, refl, arith}
-use Rattle.feedback_cut.specs.Rows.{row}
+use Rattle.graph.specs.Rows.{row}
 use Rattle.feedback_cut.specs.Cut.{is_cut}
-use Rattle.feedback_cut.specs.Search.{Kept, IsSearched}
-use Rattle.feedback_cut.proofs.Places.{leads_map}
+use Rattle.graph.specs.Search.{Kept, IsSearched}
+use Rattle.graph.proofs.Places.{leads_map}
 use Rattle.feedback_cut.proofs.CutLaws.{cut_within}
-use Rattle.feedback_cut.specs.Rows.{Follows}
+use Rattle.graph.specs.Rows.{Follows}
 use Rattle.recovery_depth.specs.Walks.{HasNoLoop, IsOrdered}
 
 module _ (rows : List (List ℕ)) (order : List ℕ) (cut : List (List Bool)) (s : IsSearched rows order cut) where

@@ -3,8 +3,8 @@ use Rattle.std.proofs.Common.{◌≡◌, ◌≢◌, ℕ, suc, ◌+◌, ◌<◌, 
 use Rattle.std.specs.Prelude.{cond}
 use Rattle.std.proofs.lemmas.Bool.{cases_eq, cases_lt}
 use Rattle.std.proofs.lemmas.List.{get_or_past, get_or-set_same, get_or-set_other, length-set, length-replicate}
-use Rattle.feedback_cut.specs.Rows.{row, Stands}
-use Rattle.feedback_cut.specs.Rows.{Follows}
+use Rattle.graph.specs.Rows.{row, Stands}
+use Rattle.graph.specs.Rows.{Follows}
 use Rattle.recovery_depth.specs.Walks.{Walk, starts, goes_on, IsOrdered, IsReachIn, is_marked, one_if, marked}
 use Rattle.recovery_depth.specs.Reaching.{IsGreatestOf}
 

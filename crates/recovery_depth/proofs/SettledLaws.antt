@@ -6,7 +6,7 @@ use Rattle.std.proofs.lemmas.Bool.{cases_eq, cases_lt}
 use Rattle.std.proofs.lemmas.Bool.Decides.{nat_tests, eqb_tells}
 use Rattle.std.proofs.lemmas.List.{get_or_past, get_or-set_same, get_or-set_other, length-set, length-replicate}
 use Rattle.std.proofs.lemmas.List.FromFn.{get_or-map-range_with_len, length-map-range_with_len}
-use Rattle.feedback_cut.specs.Rows.{row, Stands, Follows}
+use Rattle.graph.specs.Rows.{row, Stands, Follows}
 use Rattle.recovery_depth.specs.Walks.{IsOrdered, IsReachIn, is_marked, one_if}
 use Rattle.recovery_depth.specs.Reaching.{IsGreatestOf}
 use Rattle.recovery_depth.specs.Settled.{IsSettled, AreSettled}

@@ -9,14 +9,14 @@ use Rattle.tmr_base.specs.Parts.{PlainParts}
 use Rattle.flat_net.specs.Net.{Net, Node, node_of, IsValid, pins_at}
 use Rattle.flat_net.proofs.Slots.{slot_there, slot_within}
 use Rattle.flat_net.proofs.Ranges.{pins_few}
-use Rattle.feedback_cut.specs.Rows.{row}
+use Rattle.graph.specs.Rows.{row}
 use Rattle.feedback_cut.specs.Inner.{ReadsInside, inner_rows}
 use Rattle.feedback_cut.specs.Cut.{is_cut, ReadsUncut, CutMeets}
-use Rattle.feedback_cut.specs.Search.{Kept}
-use Rattle.feedback_cut.proofs.Places.{leads_map}
+use Rattle.graph.specs.Search.{Kept}
+use Rattle.graph.proofs.Places.{leads_map}
 use Rattle.feedback_cut.proofs.InnerLaws.{inner_long, inner_pins, read_from, read_to}
 use Rattle.feedback_cut.proofs.CutLaws.{uncut_of_kept, kept_of_uncut}
-use Rattle.feedback_cut.specs.Rows.{Follows}
+use Rattle.graph.specs.Rows.{Follows}
 use Rattle.recovery_depth.specs.Walks.{HasNoLoop, IsReach, IsReachIn, marked, is_marked}
 use Rattle.recovery_depth.specs.Uncut.{uncut_entry, uncut_row, uncut_rows}
 use Rattle.recovery_depth.specs.Depths.{is_some_register, is_register_at, own_register}

@@ -5,7 +5,7 @@ use Rattle.std.proofs.lemmas.List.{map-append, reverse-append}
 use Rattle.flat_net.specs.Nodes.{number_of}
 use Rattle.tmr_base.specs.declared.ids.NetId.{NetId}
 use Rattle.certificate.proofs.Validity.{push_read}
-use Rattle.feedback_cut.specs.Rows.{Follows}
+use Rattle.graph.specs.Rows.{Follows}
 use Rattle.recovery_depth.specs.declared.deep.Deep.{Deep}
 use Rattle.recovery_depth.specs.Walks.{Walk, starts, is_marked, one_if, marked}
 use Rattle.recovery_depth.specs.Before.{number_at, IsBefore, AreBefore}

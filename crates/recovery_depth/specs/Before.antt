@@ -1,7 +1,7 @@
 -- The last register before a vertex on a walk with the most registers.
 use Rattle.std.specs.Prelude.{◌≡◌, ◌≢◌, ℕ, ◌+◌, ◌<◌, ◌⊎◌, Bool, true, List, length, slice_index, slice_index_or, ◌++◌, if◌then◌else◌}
-use Rattle.feedback_cut.specs.Rows.{Follows}
-use Rattle.feedback_cut.specs.Lists.{Leads}
+use Rattle.graph.specs.Rows.{Follows}
+use Rattle.graph.specs.Lists.{Leads}
 use Rattle.recovery_depth.specs.Walks.{Walk, is_marked, one_if, marked}
 
 abbrev pub number_at : List ℕ → ℕ → ℕ

@@ -1,6 +1,6 @@
 -- Only private functions cite this: labels and marks of vertices, each from those of the vertices that it reads.
 use Rattle.std.specs.Prelude.{◌≡◌, ℕ, ◌+◌, ◌<◌, ◌≤◌, ◌==◌, ◌&&◌, Bool, List, length, slice_index_or, if◌then◌else◌}
-use Rattle.feedback_cut.specs.Rows.{row}
+use Rattle.graph.specs.Rows.{row}
 use Rattle.recovery_depth.specs.Walks.{is_marked, one_if}
 use Rattle.recovery_depth.specs.Reaching.{IsGreatestOf}
 

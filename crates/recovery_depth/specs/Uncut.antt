@@ -1,7 +1,7 @@
 -- Rows without what is cut.
 use Rattle.std.specs.Prelude.{ℕ, Bool, List, length, map, slice_index, if◌then◌else◌}
 use Rattle.std.specs.List.{range_with_len}
-use Rattle.feedback_cut.specs.Rows.{row}
+use Rattle.graph.specs.Rows.{row}
 use Rattle.feedback_cut.specs.Cut.{is_cut}
 
 -- what y reads at a place, or a number past all vertices where that is cut

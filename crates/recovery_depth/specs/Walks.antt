@@ -1,7 +1,7 @@
 -- Walks, and the most registers on them.
 use Rattle.std.specs.Prelude.{◌≡◌, ℕ, ◌<◌, ◌≤◌, Bool, false, List, [], ◌∷◌, ◌++◌, length, slice_index, slice_index_or, cond}
-use Rattle.feedback_cut.specs.Rows.{Stands, IsOnce, Follows}
-use Rattle.feedback_cut.specs.Lists.{Leads}
+use Rattle.graph.specs.Rows.{Stands, IsOnce, Follows}
+use Rattle.graph.specs.Lists.{Leads}
 
 -- a walk that ends in x, and the registers on it, first to last; `Next x y` says that y reads x, and `own x` is x if it is a register, else nothing
 pub data Walk (Next : ℕ → ℕ → Type 0) (own : ℕ → List ℕ) : ℕ → List ℕ → Type 0 where

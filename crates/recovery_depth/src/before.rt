@@ -1,13 +1,13 @@
 //! The last register before each vertex, on a walk with the most registers.
 ghost use Rattle.std.specs.Prelude.{◌≡◌, ◌≢◌, ◌<◌, ◌≤◌, ◌+◌, ◌-◌, ◌⊎◌, ℕ, length, slice_index, slice_index_or, IfOk, if◌then◌else◌};
-ghost use Rattle.feedback_cut.specs.Rows.{row};
+ghost use Rattle.graph.specs.Rows.{row};
 ghost use Rattle.recovery_depth.specs.Walks.{IsOrdered, IsReachIn};
 ghost use Rattle.recovery_depth.specs.Ranks.{is_before};
 ghost use Rattle.recovery_depth.specs.Before.{last_of, number_at, AreBefore, IsChosen, IsOneOf};
 
 use crate::ranks::Ranks;
 use crate::reaching::{own_count, reach_at};
-use feedback_cut::Graph;
+use graph::Graph;
 use std::alloc::Global;
 use tmr_base::OutOfMemory;
 

@@ -4,7 +4,7 @@ ghost use Rattle.recovery_depth.specs.Walks.{is_marked, IsOrdered};
 ghost use Rattle.recovery_depth.specs.Settled.{AreSettled};
 
 use crate::reaching::{greatest_of, own_count};
-use feedback_cut::Graph;
+use graph::Graph;
 use std::alloc::Global;
 use tmr_base::OutOfMemory;
 

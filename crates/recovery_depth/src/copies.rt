@@ -10,8 +10,8 @@ ghost use Rattle.recovery_depth.specs.Tops.{place_at, places_of, original_at, or
 use crate::ranks::Ranks;
 use crate::registers::{is_register, nodes_of};
 use certificate::{Certificate, Role};
-use feedback_cut::Graph;
 use flat_net::FlatNet;
+use graph::Graph;
 use std::alloc::Global;
 use tmr_base::{NetId, OutOfMemory, Parts};
 

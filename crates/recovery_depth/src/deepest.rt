@@ -45,7 +45,7 @@ pub fn least(
     let count = nodes_of(h);
     let graph = copy_reads(alloc, n, h, c)?;
     let is_register = register_copies(alloc, n, h, c)?;
-    let order = ordered(alloc, &graph, count)?;
+    let order = ordered(alloc, &graph)?;
     let reaches = reaches_in(alloc, &graph, &is_register, &order, count)?;
     let ranks = ranks(alloc, n, h, c)?;
     let before = registers_before(alloc, &graph, &is_register, &reaches, &order, &ranks, count)?;

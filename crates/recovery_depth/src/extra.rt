@@ -78,7 +78,7 @@ pub fn bound(
     let count = nodes_of(n);
     let rest = uncut_inner(alloc, n, parts, cut)?;
     let is_register = registers(alloc, n)?;
-    let order = ordered(alloc, &rest, count)?;
+    let order = ordered(alloc, &rest)?;
     let found = bounded_labels(alloc, &rest, &is_register, &order, most, count)?;
     let depths = greatest_labels(alloc, parts, &found.labels)?;
     let table = DepthTable::new(found.labels, depths);

@@ -1,12 +1,12 @@
 //! The most registers of a walk that ends in each vertex.
 ghost use Rattle.std.specs.Prelude.{◌≡◌, ◌<◌, ◌≤◌, ◌+◌, ◌⊎◌, ℕ, length, slice_index_or, slice_set, replicate, IfOk};
-ghost use Rattle.feedback_cut.specs.Rows.{row};
+ghost use Rattle.graph.specs.Rows.{row};
 ghost use Rattle.recovery_depth.specs.Walks.{HasNoLoop, IsOrdered, IsReachIn, one_if, is_marked};
 ghost use Rattle.recovery_depth.specs.Reaching.{IsGreatestOf};
 
 use crate::greatest::greater;
 use crate::ordering::ordered;
-use feedback_cut::Graph;
+use graph::Graph;
 use std::alloc::Global;
 use tmr_base::OutOfMemory;
 
@@ -75,6 +75,6 @@ pub fn reaches(
     ensures long { IfOk result (λ reaches. length reaches.items ≡ count) }
     ensures each { IfOk result (λ reaches. (x : ℕ) → x < count → IsReachIn graph.now is_register.now x (slice_index_or reaches.items x 0)) }
 {
-    let order = ordered(alloc, graph, count)?;
+    let order = ordered(alloc, graph)?;
     reaches_in(alloc, graph, is_register, order.as_slice(), count)
 }

@@ -1,15 +1,16 @@
 //! What each node reads inside its partition through pins that are not cut.
 ghost use Rattle.std.specs.Prelude.{◌≡◌, ◌<◌, ℕ, length, map, IfOk, OnOk, slice_index};
 ghost use Rattle.std.specs.List.{range_with_len};
-ghost use Rattle.feedback_cut.specs.Rows.{row};
+ghost use Rattle.graph.specs.Rows.{row};
 ghost use Rattle.feedback_cut.specs.Inner.{inner_rows};
 ghost use Rattle.feedback_cut.specs.Cut.{CutMeets};
 ghost use Rattle.recovery_depth.specs.Walks.{HasNoLoop};
 ghost use Rattle.recovery_depth.specs.Uncut.{uncut_entry, uncut_row, uncut_rows};
 
 use crate::registers::nodes_of;
-use feedback_cut::{CutPins, Graph, inner_reads};
+use feedback_cut::{CutPins, inner_reads};
 use flat_net::FlatNet;
+use graph::Graph;
 use std::alloc::Global;
 use tmr_base::{OutOfMemory, Parts};
 

@@ -1,7 +1,7 @@
 //! Which pins are voted.
 ghost use Rattle.std.specs.Prelude.{◌≡◌, ◌+◌, ◌<◌, ℕ, length};
 ghost use Rattle.flat_net.specs.Net.{IsDesign};
-ghost use Rattle.feedback_cut.specs.Rows.{row};
+ghost use Rattle.graph.specs.Rows.{row};
 ghost use Rattle.feedback_cut.specs.Inner.{node_pins};
 ghost use Rattle.feedback_cut.specs.Cut.{CutMeets};
 ghost use Rattle.recovery_depth.specs.Extra.{is_cut_or_extra};

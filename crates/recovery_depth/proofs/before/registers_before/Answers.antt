@@ -1,5 +1,5 @@
 use Rattle.std.proofs.Common.{◌≡◌, ◌<◌, ◌-◌, ℕ, length, get_or, ◌∙◌, ap, refl, arith}
-use Rattle.feedback_cut.specs.Rows.{row}
+use Rattle.graph.specs.Rows.{row}
 use Rattle.recovery_depth.specs.Walks.{one_if, is_marked, IsReachIn}
 use Rattle.recovery_depth.specs.Before.{number_at}
 use Rattle.recovery_depth.proofs.BeforeLaws.{chosen_as, one_before, all_before}

@@ -1,5 +1,5 @@
 use Rattle.std.proofs.Common.{◌+◌, ℕ, get_or, set, refl, ap, subst, arith}
-use Rattle.feedback_cut.specs.Rows.{row}
+use Rattle.graph.specs.Rows.{row}
 use Rattle.recovery_depth.specs.Walks.{is_marked}
 use Rattle.recovery_depth.specs.Reaching.{IsGreatestOf}
 use Rattle.recovery_depth.proofs.ReachLaws.{small_reach, one_more, all_known, little}

@@ -1,5 +1,5 @@
 use Rattle.std.proofs.Common.{◌<◌, length, sym, ◌∙◌, ap, subst, arith}
-use Rattle.feedback_cut.specs.Rows.{row}
+use Rattle.graph.specs.Rows.{row}
 use Rattle.feedback_cut.proofs.InnerLaws.{inner_long}
 use Rattle.recovery_depth.specs.Walks.{HasNoLoop}
 use Rattle.recovery_depth.specs.Uncut.{uncut_rows}

@@ -1,7 +1,0 @@
-use Rattle.std.proofs.Common.{vec_items}
-use Rattle.feedback_cut.proofs.RowLaws.{row_added}
-use Rattle.feedback_cut.proofs.readers.empty_rows.Goals as goal
-
-pub loop-made-preserved : goal.loop-made-preserved
-loop-made-preserved c =
-    row_added vec_items c.loop-made.rows.items c.push.new.self.items c.new.result c.loop-made.made c.loop-made.invariant c.new.ensures.items c.in_ok-push.ensures.items

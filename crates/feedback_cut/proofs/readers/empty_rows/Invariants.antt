@@ -1,5 +1,0 @@
-use Rattle.std.proofs.Common.{◌≡◌, [], replicate, map, vec_items}
-use Rattle.feedback_cut.proofs.readers.empty_rows.Given as goal
-
-abbrev pub invariant-loop-made : goal.invariant-loop-made
-invariant-loop-made l = map vec_items l.rows.items ≡ replicate l.made []

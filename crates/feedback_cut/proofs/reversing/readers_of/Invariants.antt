@@ -1,5 +1,0 @@
-use Rattle.feedback_cut.specs.Readers.{ListsTo}
-use Rattle.feedback_cut.proofs.reversing.readers_of.Given as goal
-
-abbrev pub invariant-loop-y : goal.invariant-loop-y
-invariant-loop-y l = ListsTo l.graph l.y 0 l.readers
