@@ -1,16 +1,13 @@
 -- What a graph of models keeps.
-use Rattle.std.proofs.Common.{◌≡◌, ℕ, ◌<◌, List, [], ◌∷◌, length, map, drop, ◌++◌, ◌≤◌, append-nil, sym, refl, ◌∙◌, subst, arith, Option, Some, None, cond, Bool, true, false, nat_lt}
+use Rattle.std.proofs.Common.{◌≡◌, ℕ, ◌<◌, List, [], ◌∷◌, length, refl, arith, Option, Some, None, cond, Bool, true, false, nat_lt}
 use Rattle.std.specs.Prelude.{All, option_to_list}
 use Rattle.std.specs.Str.{bytes_eq}
 use Rattle.std.specs.List.{position_or_len}
 use Rattle.std.proofs.lemmas.Grind.{common_steps}
-use Rattle.std.proofs.Math.ListN.{drop_of_length-le}
 use Rattle.std.proofs.lemmas.List.{length-map}
 use Rattle.std.proofs.lemmas.List.Elements.{All-append, All-cons, All-nil}
 use Rattle.blif_text.specs.Models.{PlainElement, Table, Register, Instance, PlainModel}
 use Rattle.blif_text.specs.Library.{name_of}
-use Rattle.blif_text.specs.declared.library.BlifModel.{BlifModel}
-use Rattle.blif_text.specs.Views.{plain_model}
 use Rattle.hierarchy.specs.Graph.{names_of, number_named, placed_by, placed_in, placed_of, graph}
 use Rattle.hierarchy.specs.Rows.{AreWithin}
 use Rattle.hierarchy.proofs.Items.{all_map}
@@ -44,13 +41,3 @@ graph_within library = all_map (λ row. All (λ x. x < length (graph library)) r
     row_within m k d below =
         let inner = in_within (names_of library) m.elements k d below in
         omega (arith, length-map library name_of, length-map library (placed_of (names_of library)))
-
--- all rows are there
-pub graph_whole : (rows : List (List ℕ)) (models : List BlifModel) (names : List (List ℕ)) (i : ℕ) → names ≡ names_of (map plain_model models) → length models ≤ i → rows ++ map (placed_of names) (map plain_model (drop i models)) ≡ map (placed_of names) (map plain_model models) → AreWithin rows
-graph_whole rows models names i is all so_far = subst AreWithin (sym whole) (graph_within (map plain_model models))
-  where
-    none : drop i models ≡ []
-    none = drop_of_length-le models all
-
-    whole : rows ≡ graph (map plain_model models)
-    whole = sym (append-nil rows) ∙ (rw (none, is) at so_far)

@@ -3,10 +3,16 @@ use Rattle.std.proofs.Common.{◌≡◌, ℕ, ◌<◌, ◌+◌, List, [], ◌∷
 use Rattle.std.specs.Prelude.{All, flat_map}
 use Rattle.std.proofs.Math.Seq.{drop-cons}
 use Rattle.std.proofs.lemmas.List.{get_or-map, length-map}
-use Rattle.std.proofs.lemmas.List.Elements.{All-cons, All-nil}
+use Rattle.std.proofs.lemmas.List.Elements.{All-cons, All-nil, All-head, All-tail}
 
 pub item_has : {A B : Type 0} (P : B → Type 0) (f : A → B) (xs : List A) (i : ℕ) (x : A) → All P (map f xs) → i < length xs → x ≡ get_or xs i x → P (f x)
 item_has P f xs i x all below is = subst P (get_or-map f xs i x (f x) below ∙ ap f (sym is)) (all i (f x) (omega (arith, length-map xs f)))
+
+pub first_has : {A B : Type 0} (P : B → Type 0) (f : A → B) (xs : List A) (x : A) (rest : List A) → All P (map f xs) → xs ≡ x ∷ rest → P (f x)
+first_has P f xs x rest all is = All-head P (f x) (map f rest) (subst (λ ys. All P (map f ys)) is all)
+
+pub rest_has : {A B : Type 0} (P : B → Type 0) (f : A → B) (xs : List A) (x : A) (rest : List A) → All P (map f xs) → xs ≡ x ∷ rest → All P (map f rest)
+rest_has P f xs x rest all is = All-tail P (f x) (map f rest) (subst (λ ys. All P (map f ys)) is all)
 
 pub all_map : {A B : Type 0} (P : B → Type 0) (f : A → B) (xs : List A) → ((x : A) → P (f x)) → All P (map f xs)
 all_map P f [] h = All-nil P

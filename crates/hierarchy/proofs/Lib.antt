@@ -2,10 +2,7 @@ pub mod NameSets
 pub mod Items
 pub mod GraphLaws
 pub mod Reaching
-pub mod Searching
-pub mod Moves
-pub mod Turning
-pub mod Walking
+pub mod ModelOrders
 pub mod FirstFaults
 pub mod Loops
 pub mod Capped
@@ -46,3 +43,4 @@ pub mod OneDraftFault
 pub mod OneAnswer
 pub mod Sizing
 pub mod Marks
+pub mod FlatModels

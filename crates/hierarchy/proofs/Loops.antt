@@ -7,7 +7,7 @@ use Rattle.blif_text.specs.Models.{PlainModel}
 use Rattle.hierarchy.specs.Graph.{graph, names_of, placed_of}
 use Rattle.hierarchy.specs.Library.{IsLoop, picked}
 use Rattle.hierarchy.proofs.GraphLaws.{graph_within}
-use Rattle.hierarchy.proofs.Walking.{reached_within}
+use Rattle.hierarchy.proofs.ModelOrders.{reached_within}
 
 pub picked_one : (names : List (List ℕ)) (found : List (List ℕ)) (models : List ℕ) (i x : ℕ) (item name : List ℕ) → i < length models → x ≡ get_or models i 0 → x < length names → item ≡ get_or names x item → name ≡ item → found ≡ picked names (take i models) → found ++ name ∷ [] ≡ picked names (take (i + 1) models)
 unfolding picked

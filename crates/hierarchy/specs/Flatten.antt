@@ -1,6 +1,7 @@
 -- The flat design of a library, and why it has none.
 use Rattle.std.specs.Prelude.{◌≡◌, ◌≢◌, ◌≤◌, ◌<◌, ℕ, Bool, List, Some, None, Vec, count_by}
 use Rattle.std.specs.declared.alloc.Global.{Global}
+use Rattle.blif_text.specs.Library.{IsLibrary}
 use Rattle.blif_text.specs.Models.{PlainModel}
 use Rattle.flat_net.specs.Net.{Net}
 use Rattle.flat_net.specs.Faults.{net_of_draft, IsFaultless, IsFaultOf}
@@ -79,6 +80,14 @@ pub data IsSameFault : FlatFault → FlatFault → Type 0 where
   same : (fault : FlatFault) → IsSameFault fault fault
   of_models : (names others : Vec (List ℕ) Global) → IsSameFault (Recursive names) (Recursive others)
   of_tables : (names others : Vec (List ℕ) Global) → IsSameFault (NetOf (net.CombLoop names)) (NetOf (net.CombLoop others))
+
+-- a library without faults of its own or of its flat text, and its flat model. Private functions alone speak of this.
+pub record IsFlatModel (library : List PlainModel) (limit : ℕ) (m : PlainModel) : Type 0 where
+  pub kept : IsLibrary library
+  pub sound : IsSound library
+  pub fits : Fits library limit
+  pub clear : name_clash library ≡ None
+  pub is : m ≡ flat_model library
 
 -- the library has no fault, and its flat design is this one, with that many assumed initial values
 pub record IsFlat (library : List PlainModel) (limit : ℕ) (design : Net) (open_values : ℕ) : Type 0 where

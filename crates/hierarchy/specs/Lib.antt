@@ -4,7 +4,6 @@ pub mod Faults
 pub mod Library
 pub mod Rows
 pub mod Growth
-pub mod Turned
 pub mod Found
 pub mod Survey
 pub mod FlatText

@@ -13,91 +13,13 @@ ghost use Rattle.blif_text.specs.Library.{IsLibrary};
 
 use crate::bare::filled_models;
 use crate::chains::{Way, all_ways, way_at};
+use crate::copies::{copy_bindings, copy_elements, model_with};
 use crate::count::Count;
-use crate::drafted::{copy_control, copy_names};
 use crate::heads::{end_models, head_models};
 use blif_text::{BlifModel, Element};
 use indexmap::IndexSet;
 use std::alloc::Global;
 use tmr_base::{Name, OutOfMemory};
-
-/// The same bindings once more.
-fn copy_bindings(alloc: Global, bindings: &[(Name, Name)]) -> Result<Vec<(Name, Name)>, OutOfMemory>
-    ensures { IfOk result (λ copies. copies.items ≡ bindings.now) }
-{
-    let mut copies = Vec::with_capacity(alloc, bindings.len())?;
-    for (formal, actual) in bindings {
-        let formal = formal.copy(alloc)?;
-        let actual = actual.copy(alloc)?;
-        copies.push((formal, actual))?;
-    }
-    Ok(copies)
-}
-
-/// The same element once more.
-fn copy_element(alloc: Global, element: &Element) -> Result<Element, OutOfMemory>
-    ensures { IfOk result (λ copy. plain_element copy ≡ plain_element element.now) }
-{
-    match element {
-        Element::Table { pins, out, cover } => {
-            let pins = copy_names(alloc, pins)?;
-            let out = out.copy(alloc)?;
-            let cover = cover.copy(alloc)?;
-            Ok(Element::Table { pins, out, cover })
-        }
-        Element::Latch {
-            pin,
-            out,
-            control,
-            init,
-        } => {
-            let pin = pin.copy(alloc)?;
-            let out = out.copy(alloc)?;
-            let control = copy_control(alloc, control)?;
-            Ok(Element::Latch {
-                pin,
-                out,
-                control,
-                init: *init,
-            })
-        }
-        Element::Instance { model, bindings } => {
-            let model = model.copy(alloc)?;
-            let bindings = copy_bindings(alloc, bindings)?;
-            Ok(Element::Instance { model, bindings })
-        }
-    }
-}
-
-/// The same elements once more.
-fn copy_elements(alloc: Global, elements: &[Element]) -> Result<Vec<Element>, OutOfMemory>
-    ensures { IfOk result (λ copies. map plain_element copies.items ≡ map plain_element elements.now) }
-{
-    let mut copies = Vec::with_capacity(alloc, elements.len())?;
-    for element in elements {
-        copies.push(copy_element(alloc, element)?)?;
-    }
-    Ok(copies)
-}
-
-/// The model with other elements.
-fn model_with(
-    alloc: Global,
-    model: &BlifModel,
-    elements: Vec<Element>,
-) -> Result<BlifModel, OutOfMemory>
-    ensures { IfOk result (λ copy. plain_model copy ≡ record (plain_model model.now) { elements = map plain_element elements.items }) }
-{
-    let name = model.name.copy(alloc)?;
-    let inputs = copy_names(alloc, &model.inputs)?;
-    let outputs = copy_names(alloc, &model.outputs)?;
-    Ok(BlifModel {
-        name,
-        inputs,
-        outputs,
-        elements,
-    })
-}
 
 /// One statement, which places the model of this name.
 fn lone_statement(

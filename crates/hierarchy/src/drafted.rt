@@ -5,34 +5,11 @@ ghost use Rattle.blif_text.specs.Library.{FitsPins};
 ghost use Rattle.blif_text.specs.Views.{plain_model, plain_element};
 ghost use Rattle.hierarchy.specs.Drafted.{draft_of as draft_of_model, drafted, starts_with, is_open as is_open_init, open_mark, open_marks};
 
+use crate::copies::copy_model;
 use blif_text::{BlifModel, Element, Init};
 use flat_net::Draft;
 use std::alloc::Global;
-use tmr_base::{Edge, Name, OutOfMemory};
-
-/// The same names once more.
-pub(crate) fn copy_names(alloc: Global, names: &[Name]) -> Result<Vec<Name>, OutOfMemory>
-    ensures { IfOk result (λ copies. copies.items ≡ names.now) }
-{
-    let mut copies = Vec::with_capacity(alloc, names.len())?;
-    for name in names {
-        copies.push(name.copy(alloc)?)?;
-    }
-    Ok(copies)
-}
-
-/// The same control once more.
-pub(crate) fn copy_control(
-    alloc: Global,
-    control: &Option<(Edge, Name)>,
-) -> Result<Option<(Edge, Name)>, OutOfMemory>
-    ensures { IfOk result (λ copy. copy ≡ control.now) }
-{
-    match control {
-        Some((edge, clock)) => Ok(Some((*edge, clock.copy(alloc)?))),
-        None => Ok(None),
-    }
-}
+use tmr_base::{Name, OutOfMemory};
 
 /// The value in cycle 0. One that is left open is 0.
 fn start(init: Init) -> bool
@@ -54,67 +31,76 @@ fn is_left_open(init: Init) -> bool
 }
 
 /// Adds the element behind the others.
-fn push_element(alloc: Global, draft: &mut Draft, element: &Element) -> Result<(), OutOfMemory>
-    requires { FitsPins (plain_element element.now) }
-    ensures { OnOk result (draft.new ≡ record draft.old { elements = draft.old.elements ++ drafted (plain_element element.now) }) }
+fn push_element(draft: &mut Draft, element: Element) -> Result<(), OutOfMemory>
+    requires { FitsPins (plain_element element) }
+    ensures { OnOk result (draft.new ≡ record draft.old { elements = draft.old.elements ++ drafted (plain_element element) }) }
 {
     match element {
-        Element::Table { pins, out, cover } => {
-            let pins = copy_names(alloc, pins)?;
-            draft.push_table(pins, out.copy(alloc)?, cover.copy(alloc)?)
-        }
+        Element::Table { pins, out, cover } => draft.push_table(pins, out, cover),
         Element::Latch {
             pin,
             out,
             control,
             init,
-        } => {
-            let control = copy_control(alloc, control)?;
-            draft.push_latch(pin.copy(alloc)?, out.copy(alloc)?, control, start(*init))
-        }
+        } => draft.push_latch(pin, out, control, start(init)),
         Element::Instance { .. } => Ok(()),
     }
 }
 
-fn push_elements(alloc: Global, draft: &mut Draft, elements: &[Element]) -> Result<(), OutOfMemory>
-    requires { All FitsPins (map plain_element elements.now) }
-    ensures { OnOk result (draft.new ≡ record draft.old { elements = draft.old.elements ++ flat_map drafted (map plain_element elements.now) }) }
+fn push_elements(draft: &mut Draft, elements: Vec<Element>) -> Result<(), OutOfMemory>
+    requires { All FitsPins (map plain_element elements.items) }
+    ensures { OnOk result (draft.new ≡ record draft.old { elements = draft.old.elements ++ flat_map drafted (map plain_element elements.items) }) }
 {
     for element in elements {
-        push_element(alloc, draft, element)?;
+        push_element(draft, element)?;
     }
     Ok(())
 }
 
-fn push_inputs(alloc: Global, draft: &mut Draft, names: &[Name]) -> Result<(), OutOfMemory>
-    ensures { OnOk result (draft.new ≡ record draft.old { inputs = draft.old.inputs ++ names.now }) }
+fn push_inputs(draft: &mut Draft, names: Vec<Name>) -> Result<(), OutOfMemory>
+    ensures { OnOk result (draft.new ≡ record draft.old { inputs = draft.old.inputs ++ names.items }) }
 {
     for name in names {
-        draft.push_input(name.copy(alloc)?)?;
+        draft.push_input(name)?;
     }
     Ok(())
 }
 
-fn push_outputs(alloc: Global, draft: &mut Draft, names: &[Name]) -> Result<(), OutOfMemory>
-    ensures { OnOk result (draft.new ≡ record draft.old { outputs = draft.old.outputs ++ names.now }) }
+fn push_outputs(draft: &mut Draft, names: Vec<Name>) -> Result<(), OutOfMemory>
+    ensures { OnOk result (draft.new ≡ record draft.old { outputs = draft.old.outputs ++ names.items }) }
 {
     for name in names {
-        draft.push_output(name.copy(alloc)?)?;
+        draft.push_output(name)?;
     }
     Ok(())
+}
+
+/// The draft of a model that places no models, whose names and covers are moved into it.
+#[tactic(auto, unfolding(crate::specs::Drafted::draft_of))]
+pub(crate) fn into_draft(alloc: Global, model: BlifModel) -> Result<Draft, OutOfMemory>
+    requires { All FitsPins (plain_model model).elements }
+    ensures { IfOk result (λ draft. draft ≡ draft_of_model (plain_model model)) }
+{
+    let BlifModel {
+        name,
+        inputs,
+        outputs,
+        elements,
+    } = model;
+    let mut draft = Draft::new(alloc, name);
+    push_inputs(&mut draft, inputs)?;
+    push_outputs(&mut draft, outputs)?;
+    push_elements(&mut draft, elements)?;
+    Ok(draft)
 }
 
 /// The draft of a model that places no models: its ports, and an element for each table and latch.
-#[tactic(auto, unfolding(crate::specs::Drafted::draft_of))]
 pub fn draft_of(alloc: Global, model: &BlifModel) -> Result<Draft, OutOfMemory>
     requires { All FitsPins (plain_model model.now).elements }
     ensures { IfOk result (λ draft. draft ≡ draft_of_model (plain_model model.now)) }
 {
-    let mut draft = Draft::new(alloc, model.name.copy(alloc)?);
-    push_inputs(alloc, &mut draft, &model.inputs)?;
-    push_outputs(alloc, &mut draft, &model.outputs)?;
-    push_elements(alloc, &mut draft, &model.elements)?;
-    Ok(draft)
+    let model = copy_model(alloc, model)?;
+    into_draft(alloc, model)
 }
 
 /// Adds the element's mark behind the others: whether it is a latch whose value in cycle 0 is left open.
@@ -135,7 +121,7 @@ fn push_mark(marks: &mut Vec<bool>, element: &Element) -> Result<(), OutOfMemory
 pub fn open_marks(alloc: Global, model: &BlifModel) -> Result<Vec<bool>, OutOfMemory>
     ensures { IfOk result (λ marks. marks.items ≡ open_marks (plain_model model.now)) }
 {
-    let mut marks = Vec::new(alloc);
+    let mut marks = Vec::with_capacity(alloc, model.elements.len())?;
     for element in &model.elements {
         push_mark(&mut marks, element)?;
     }

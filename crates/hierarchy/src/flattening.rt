@@ -1,18 +1,19 @@
 //! The flat design of a library.
-ghost use Rattle.std.specs.Prelude.{◌≡◌, ◌≢◌, ◌≤◌, ◌<◌, ◌+◌, ◌*◌, ◌⊎◌, ℕ, Bool, List, map, length, All, count_by, IfOk, OnOk, IfErr, IsErrAnd, IfSome, IsSome, MatchResult, None};
+ghost use Rattle.std.specs.Prelude.{◌≡◌, ◌≢◌, ◌≤◌, ◌<◌, ◌+◌, ◌*◌, ◌⊎◌, ℕ, Bool, true, List, map, length, All, count_by, IfOk, OnOk, IfErr, IsErrAnd, MatchOption, MatchResult, None};
 ghost use Rattle.blif_text.specs.Library.{IsLibrary, FitsPins, Differ};
+ghost use Rattle.blif_text.specs.Models.{PlainModel};
 ghost use Rattle.blif_text.specs.Views.{plain_model, plain_element};
 ghost use Rattle.hierarchy.specs.Graph.{graph, names_of};
 ghost use Rattle.hierarchy.specs.Library.{IsPlaceable};
 ghost use Rattle.hierarchy.specs.Found.{IsOrder};
-ghost use Rattle.hierarchy.specs.Flat.{flat_model};
+ghost use Rattle.hierarchy.specs.Flat.{flat_model, main_of};
 ghost use Rattle.hierarchy.specs.FlatText.{text_length};
 ghost use Rattle.hierarchy.specs.Clash.{name_clash};
 ghost use Rattle.hierarchy.specs.Alone.{is_placing, places_nothing};
 ghost use Rattle.hierarchy.specs.Walk.{IsReady};
 ghost use Rattle.hierarchy.specs.Counts.{ArePlaces, AreCounts};
 ghost use Rattle.hierarchy.specs.Naming.{IsClash};
-ghost use Rattle.hierarchy.specs.Flatten.{IsSound, IsSoundFault, IsTextFault, IsFlatFault, IsSameFault, IsFlat, IsFreeFlat, Fits, flat_fault_of};
+ghost use Rattle.hierarchy.specs.Flatten.{IsSound, IsSoundFault, IsTextFault, IsFlatFault, IsSameFault, IsFlat, IsFreeFlat, IsFlatModel, Fits, flat_fault_of};
 ghost use Rattle.hierarchy.specs.Sizes.{row_total};
 ghost use Rattle.hierarchy.specs.declared.flat_fault.FlatFault.{FlatFault};
 ghost use Rattle.hierarchy.specs.declared.flat_fault.FlatFault.TheVariants.{Memory};
@@ -21,6 +22,7 @@ ghost use Rattle.flat_net.specs.Net.{Net, net_count, pin_total};
 ghost use Rattle.flat_net.specs.Faults.{net_of_draft, IsFaultless, IsFaultOf};
 
 use crate::bare::{branching_models, filled_models};
+use crate::copies::copy_model;
 use crate::count::Count;
 use crate::counting::{count_models, places_of};
 use crate::cut_short::cut_short;
@@ -30,7 +32,7 @@ use crate::links::{Row, all_links};
 use crate::named_model::named_model;
 use crate::naming::NamingFault;
 use crate::placed_text::fits;
-use crate::{PlacingFault, draft_of, open_marks};
+use crate::{PlacingFault, into_draft, open_marks};
 use blif_text::{BlifModel, Element, Library};
 use flat_net::{FlatNet, FreeNet, NetFault, build};
 use indexmap::IndexSet;
@@ -227,31 +229,110 @@ fn places_nothing(elements: &[Element]) -> bool
     true
 }
 
-/// The main model, where it is its own flat model since it places no models.
-fn lone_main(models: &[BlifModel]) -> Option<&BlifModel>
+/// The main model places no models: it is its own flat model then, and no two of its nets share a text.
+fn is_alone(models: &[BlifModel]) -> bool
     requires { 0 < length models.now }
-    ensures model { IfSome result (λ main. plain_model main.now ≡ flat_model (map plain_model models.now)) }
-    ensures clear { IsSome result → name_clash (map plain_model models.now) ≡ None }
+    ensures model { result ≡ true → flat_model (map plain_model models.now) ≡ main_of (map plain_model models.now) }
+    ensures clear { result ≡ true → name_clash (map plain_model models.now) ≡ None }
 {
     let main = &models[0];
-    match places_nothing(&main.elements) {
-        true => Some(main),
-        false => None,
+    places_nothing(&main.elements)
+}
+
+/// The flat model of a library without faults of its own. None where it is the main model.
+#[tactic(auto, using(crate::proofs::FlatModels::flat_models))]
+fn counted_model(
+    alloc: Global,
+    lib: &Library,
+    found: &Ordered,
+    counted: &Counted,
+    limit: u64,
+) -> Result<Option<BlifModel>, FlatFault>
+    requires kept { IsLibrary lib.now }
+    requires names { found.now.names.keys ≡ names_of lib.now }
+    requires placeable { IsPlaceable lib.now }
+    requires ordered { IsOrder (graph lib.now) found.now.order.items }
+    requires places { ArePlaces found.now.order.items counted.now.positions.items }
+    requires counts { AreCounts lib.now found.now.order.items counted.now.counts.items }
+    requires sound { IsSound lib.now }
+    requires fits { Fits lib.now limit }
+    ensures model { IfOk result (λ made. MatchOption made (IsFlatModel lib.now limit (main_of lib.now)) (λ flat. IsFlatModel lib.now limit (plain_model flat))) }
+    ensures fault { IfErr result (λ fault. IsFlatFault lib.now limit fault) }
+{
+    let models = lib.models();
+    if is_alone(models) {
+        return Ok(None);
+    }
+    let flat = flat_model(alloc, models, &found.names, &found.order, counted, limit)?;
+    Ok(Some(flat))
+}
+
+/// The flat model of a library, or the first fault of the library or of the flat text. None where it is the main
+/// model.
+fn made_model(alloc: Global, lib: &Library, limit: u64) -> Result<Option<BlifModel>, FlatFault>
+    requires { limit ≤ 1073741824 }
+    ensures model { IfOk result (λ made. MatchOption made (IsFlatModel lib.now limit (main_of lib.now)) (λ flat. IsFlatModel lib.now limit (plain_model flat))) }
+    ensures fault { IfErr result (λ fault. IsFlatFault lib.now limit fault) }
+{
+    let models = lib.models();
+    let found = sound_order(alloc, models)?;
+    let counted = counted_within(alloc, models, &found.names, &found.order, limit)?;
+    counted_model(alloc, lib, &found, &counted, limit)
+}
+
+/// The main model of a library once more.
+fn copied_main(alloc: Global, lib: &Library) -> Result<BlifModel, OutOfMemory>
+    ensures { IfOk result (λ main. plain_model main ≡ main_of lib.now) }
+{
+    copy_model(alloc, &lib.models()[0])
+}
+
+/// The main model of a library, of which nothing else is kept.
+fn into_main(lib: Library) -> BlifModel
+    ensures { plain_model result ≡ main_of lib }
+{
+    let mut models = lib.into_models();
+    models.swap_remove(0)
+}
+
+/// The flat model of a library that stays as it is.
+#[tactic(auto, using(crate::proofs::FlatModels::flat_models))]
+fn copied_model(alloc: Global, lib: &Library, limit: u64) -> Result<BlifModel, FlatFault>
+    requires { limit ≤ 1073741824 }
+    ensures model { IfOk result (λ flat. IsFlatModel lib.now limit (plain_model flat)) }
+    ensures fault { IfErr result (λ fault. IsFlatFault lib.now limit fault) }
+{
+    match made_model(alloc, lib, limit)? {
+        Some(flat) => Ok(flat),
+        None => Ok(copied_main(alloc, lib)?),
     }
 }
 
-/// The design of a flat model.
-#[tactic(auto, using(crate::proofs::FlatKeeps::draft_laws))]
-fn built(alloc: Global, flat: &BlifModel) -> Result<FlatNet, NetFault>
-    requires pins { All FitsPins (plain_model flat.now).elements }
-    requires inputs { Differ (plain_model flat.now).inputs }
-    requires outputs { Differ (plain_model flat.now).outputs }
-    requires short { text_length (plain_model flat.now) ≤ 1073741824 }
-    ensures ok { IfOk result (λ net. net.net ≡ net_of_draft (draft_of_model (plain_model flat.now))) }
-    ensures faultless { OnOk result (IsFaultless (draft_of_model (plain_model flat.now))) }
-    ensures fault { IfErr result (λ fault. IsFaultOf (draft_of_model (plain_model flat.now)) fault) }
+/// The flat model of a library that is taken apart: the main model itself, where it places no models.
+#[tactic(auto, using(crate::proofs::FlatModels::flat_models))]
+fn taken_model(alloc: Global, lib: Library, limit: u64) -> Result<BlifModel, FlatFault>
+    requires { limit ≤ 1073741824 }
+    ensures model { IfOk result (λ flat. IsFlatModel lib limit (plain_model flat)) }
+    ensures fault { IfErr result (λ fault. IsFlatFault lib limit fault) }
 {
-    match draft_of(alloc, flat) {
+    match made_model(alloc, &lib, limit)? {
+        Some(flat) => Ok(flat),
+        None => Ok(into_main(lib)),
+    }
+}
+
+/// The design of a flat model, whose names and covers are moved into it.
+#[tactic(auto, using(crate::proofs::FlatKeeps::draft_laws))]
+fn built(alloc: Global, flat: BlifModel) -> Result<FlatNet, NetFault>
+    requires pins { All FitsPins (plain_model flat).elements }
+    requires inputs { Differ (plain_model flat).inputs }
+    requires outputs { Differ (plain_model flat).outputs }
+    requires short { text_length (plain_model flat) ≤ 1073741824 }
+    ensures ok { IfOk result (λ net. net.net ≡ net_of_draft (draft_of_model (plain_model flat))) }
+    ensures faultless { OnOk result (IsFaultless (draft_of_model (plain_model flat))) }
+    ensures fault { IfErr result (λ fault. IsFaultOf (draft_of_model (plain_model flat)) fault) }
+{
+    match into_draft(alloc, flat) {
         Ok(draft) => build(alloc, draft),
         Err(_) => Err(NetFault::Memory),
     }
@@ -259,16 +340,16 @@ fn built(alloc: Global, flat: &BlifModel) -> Result<FlatNet, NetFault>
 
 /// The design of a flat model, which is no larger than the model's text.
 #[tactic(auto, using(crate::proofs::Sizing::sizes))]
-fn design_of(alloc: Global, flat: &BlifModel) -> Result<FlatNet, NetFault>
-    requires pins { All FitsPins (plain_model flat.now).elements }
-    requires inputs { Differ (plain_model flat.now).inputs }
-    requires outputs { Differ (plain_model flat.now).outputs }
-    requires short { text_length (plain_model flat.now) ≤ 1073741824 }
-    ensures ok { IfOk result (λ net. net.net ≡ net_of_draft (draft_of_model (plain_model flat.now))) }
-    ensures faultless { OnOk result (IsFaultless (draft_of_model (plain_model flat.now))) }
-    ensures fault { IfErr result (λ fault. IsFaultOf (draft_of_model (plain_model flat.now)) fault) }
-    ensures nets { IfOk result (λ net. 2 * (net_count net.net + pin_total net.net) ≤ text_length (plain_model flat.now)) }
-    ensures rows { IfOk result (λ net. row_total net.net ≤ text_length (plain_model flat.now)) }
+fn design_of(alloc: Global, flat: BlifModel) -> Result<FlatNet, NetFault>
+    requires pins { All FitsPins (plain_model flat).elements }
+    requires inputs { Differ (plain_model flat).inputs }
+    requires outputs { Differ (plain_model flat).outputs }
+    requires short { text_length (plain_model flat) ≤ 1073741824 }
+    ensures ok { IfOk result (λ net. net.net ≡ net_of_draft (draft_of_model (plain_model flat))) }
+    ensures faultless { OnOk result (IsFaultless (draft_of_model (plain_model flat))) }
+    ensures fault { IfErr result (λ fault. IsFaultOf (draft_of_model (plain_model flat)) fault) }
+    ensures nets { IfOk result (λ net. 2 * (net_count net.net + pin_total net.net) ≤ text_length (plain_model flat)) }
+    ensures rows { IfOk result (λ net. row_total net.net ≤ text_length (plain_model flat)) }
 {
     let net = built(alloc, flat)?;
     // What an accessor says of each design is needed here: no name is empty.
@@ -276,25 +357,23 @@ fn design_of(alloc: Global, flat: &BlifModel) -> Result<FlatNet, NetFault>
     Ok(net)
 }
 
-/// The design of a library's flat model, with a mark at each open initial value.
-fn flat_design(
-    alloc: Global,
-    lib: &Library,
-    flat: &BlifModel,
-    limit: u64,
-) -> Result<FreeNet, FlatFault>
-    requires model { plain_model flat.now ≡ flat_model lib.now }
-    requires kept { IsLibrary lib.now }
-    requires sound { IsSound lib.now }
-    requires fits { Fits lib.now limit }
-    requires clear { name_clash lib.now ≡ None }
+/// The design of a flat model, with a mark at each open initial value, for each library of which it is the flat
+/// model.
+#[tactic(auto, using(crate::proofs::FlatModels::flat_designs))]
+fn flat_design(alloc: Global, flat: BlifModel, limit: u64) -> Result<FreeNet, FlatFault>
+    requires pins { All FitsPins (plain_model flat).elements }
+    requires inputs { Differ (plain_model flat).inputs }
+    requires outputs { Differ (plain_model flat).outputs }
+    requires short { text_length (plain_model flat) ≤ limit }
     requires limit { limit ≤ 1073741824 }
-    ensures ok { IfOk result (λ flat. IsFreeFlat lib.now limit flat.design.net flat.free) }
-    ensures fault { IfErr result (λ fault. IsFlatFault lib.now limit fault) }
-    ensures nets { IfOk result (λ flat. 2 * (net_count flat.design.net + pin_total flat.design.net) ≤ limit) }
-    ensures rows { IfOk result (λ flat. row_total flat.design.net ≤ limit) }
+    ensures ok { (library : List PlainModel) → IsFlatModel library limit (plain_model flat)
+        → IfOk result (λ made. IsFreeFlat library limit made.design.net made.free) }
+    ensures fault { (library : List PlainModel) → IsFlatModel library limit (plain_model flat)
+        → IfErr result (λ fault. IsFlatFault library limit fault) }
+    ensures nets { IfOk result (λ made. 2 * (net_count made.design.net + pin_total made.design.net) ≤ limit) }
+    ensures rows { IfOk result (λ made. row_total made.design.net ≤ limit) }
 {
-    let marks = open_marks(alloc, flat)?;
+    let marks = open_marks(alloc, &flat)?;
     match design_of(alloc, flat) {
         Ok(net) => Ok(FreeNet::make(net, marks)),
         Err(NetFault::Memory) => Err(FlatFault::Memory),
@@ -302,38 +381,8 @@ fn flat_design(
     }
 }
 
-/// The flat design of a library without faults of its own. A main model that places no models is its own flat
-/// model, and nothing of it is copied but into the design.
-fn flat_counted_design(
-    alloc: Global,
-    lib: &Library,
-    found: &Ordered,
-    counted: &Counted,
-    limit: u64,
-) -> Result<FreeNet, FlatFault>
-    requires kept { IsLibrary lib.now }
-    requires names { found.now.names.keys ≡ names_of lib.now }
-    requires placeable { IsPlaceable lib.now }
-    requires ordered { IsOrder (graph lib.now) found.now.order.items }
-    requires sound { IsSound lib.now }
-    requires places { ArePlaces found.now.order.items counted.now.positions.items }
-    requires counts { AreCounts lib.now found.now.order.items counted.now.counts.items }
-    requires fits { Fits lib.now limit }
-    requires limit { limit ≤ 1073741824 }
-    ensures ok { IfOk result (λ flat. IsFreeFlat lib.now limit flat.design.net flat.free) }
-    ensures fault { IfErr result (λ fault. IsFlatFault lib.now limit fault) }
-    ensures nets { IfOk result (λ flat. 2 * (net_count flat.design.net + pin_total flat.design.net) ≤ limit) }
-    ensures rows { IfOk result (λ flat. row_total flat.design.net ≤ limit) }
-{
-    let models = lib.models();
-    if let Some(main) = lone_main(models) {
-        return flat_design(alloc, lib, main, limit);
-    }
-    let flat = flat_model(alloc, models, &found.names, &found.order, counted, limit)?;
-    flat_design(alloc, lib, &flat, limit)
-}
-
 /// The flat design of the library, or its first fault.
+#[tactic(auto, using(crate::proofs::FlatModels::flat_kept))]
 fn flat_of(alloc: Global, lib: &Library, limit: u64) -> Result<FreeNet, FlatFault>
     requires { limit ≤ 1073741824 }
     ensures ok { IfOk result (λ flat. IsFreeFlat lib.now limit flat.design.net flat.free) }
@@ -341,10 +390,21 @@ fn flat_of(alloc: Global, lib: &Library, limit: u64) -> Result<FreeNet, FlatFaul
     ensures nets { IfOk result (λ flat. 2 * (net_count flat.design.net + pin_total flat.design.net) ≤ limit) }
     ensures rows { IfOk result (λ flat. row_total flat.design.net ≤ limit) }
 {
-    let models = lib.models();
-    let found = sound_order(alloc, models)?;
-    let counted = counted_within(alloc, models, &found.names, &found.order, limit)?;
-    flat_counted_design(alloc, lib, &found, &counted, limit)
+    let flat = copied_model(alloc, lib, limit)?;
+    flat_design(alloc, flat, limit)
+}
+
+/// The same, where the library is taken apart.
+#[tactic(auto, using(crate::proofs::FlatModels::flat_kept))]
+fn taken_flat(alloc: Global, lib: Library, limit: u64) -> Result<FreeNet, FlatFault>
+    requires { limit ≤ 1073741824 }
+    ensures ok { IfOk result (λ flat. IsFreeFlat lib limit flat.design.net flat.free) }
+    ensures fault { IfErr result (λ fault. IsFlatFault lib limit fault) }
+    ensures nets { IfOk result (λ flat. 2 * (net_count flat.design.net + pin_total flat.design.net) ≤ limit) }
+    ensures rows { IfOk result (λ flat. row_total flat.design.net ≤ limit) }
+{
+    let flat = taken_model(alloc, lib, limit)?;
+    flat_design(alloc, flat, limit)
 }
 
 /// The flat design of the library, where its flat text has at most `limit` bytes, with a mark at each
@@ -366,6 +426,23 @@ pub fn flatten_free(alloc: Global, lib: &Library, limit: u64) -> Result<FreeNet,
     ensures rows { IfOk result (λ flat. row_total flat.design.net ≤ limit) }
 {
     flat_of(alloc, lib, limit)
+}
+
+/// The same design, or the same fault, of a library that is not used again: a main model that places no models is
+/// moved into the design, and nothing of it is copied. Of what the library holds nothing is left when the design
+/// is made.
+pub fn flatten_owned(alloc: Global, lib: Library, limit: u64) -> Result<FreeNet, FlatFault>
+    requires { limit ≤ 1073741824 }
+    ensures ok { IfOk result (λ flat. IsFreeFlat lib limit flat.design.net flat.free) }
+    ensures ok_only { (n : Net) (free : List Bool) → IsFreeFlat lib limit n free
+        → MatchResult result (λ flat. (flat.design.net ≡ n) × (flat.free ≡ free)) (λ fault. fault ≡ Memory) }
+    ensures fault { IfErr result (λ fault. IsFlatFault lib limit fault) }
+    ensures fault_only { (fault : FlatFault) → fault ≢ Memory → IsFlatFault lib limit fault
+        → IsErrAnd result (λ answered. (answered ≡ Memory) ⊎ IsSameFault answered fault) }
+    ensures nets { IfOk result (λ flat. 2 * (net_count flat.design.net + pin_total flat.design.net) ≤ limit) }
+    ensures rows { IfOk result (λ flat. row_total flat.design.net ≤ limit) }
+{
+    taken_flat(alloc, lib, limit)
 }
 
 /// The design alone, and how many marks it has.

@@ -8,6 +8,7 @@
 
 mod bare;
 mod chains;
+mod copies;
 mod count;
 mod counting;
 mod cut_short;
@@ -16,7 +17,6 @@ mod fault;
 mod flat_fault;
 mod flat_text;
 mod flattening;
-mod graph;
 mod heads;
 mod library;
 mod links;
@@ -27,16 +27,16 @@ mod naming;
 mod order;
 mod placed_text;
 mod placing;
+mod placings;
 mod ports;
 mod reach;
 mod resolve;
 mod walk;
 
 pub use drafted::draft_of;
-use drafted::open_marks;
+use drafted::{into_draft, open_marks};
 use fault::PlacingFault;
 pub use flat_fault::FlatFault;
 pub use flat_text::text_length;
-pub use flattening::{Flat, flatten, flatten_free};
-use graph::Graph;
+pub use flattening::{Flat, flatten, flatten_free, flatten_owned};
 use ports::Ports;

@@ -9,14 +9,15 @@ ghost use Rattle.hierarchy.specs.Found.{IsOrder};
 ghost use Rattle.hierarchy.specs.Survey.{IsSurvey};
 ghost use Rattle.std.specs.List.{list_any};
 
-use crate::graph::{Graph, graph_of};
 use crate::model_names::model_names;
 use crate::order::{Found, order_models};
 use crate::placing::statement_fault;
+use crate::placings::graph_of;
 use crate::ports::all_ports;
 use crate::reach::reached_models;
 use crate::{PlacingFault, Ports};
 use blif_text::BlifModel;
+use graph::Graph;
 use indexmap::IndexSet;
 use std::alloc::Global;
 use tmr_base::{Name, OutOfMemory};

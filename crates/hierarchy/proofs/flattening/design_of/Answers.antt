@@ -3,4 +3,4 @@ use Rattle.hierarchy.proofs.Sizing.{rows_within}
 use Rattle.hierarchy.proofs.flattening.design_of.Goals as goal
 
 pub returns-clause-rows : goal.returns-clause-rows
-returns-clause-rows c = rows_within (plain_model c.args.flat.now) c.in_ok-net.net.net c.in_ok-net.ensures.ok
+returns-clause-rows c = rows_within (plain_model c.args.flat) c.in_ok-net.net.net c.in_ok-net.ensures.ok

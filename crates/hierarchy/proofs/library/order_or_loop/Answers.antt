@@ -1,9 +1,14 @@
 use Rattle.std.proofs.Common.{rules, map, sym, subst, ◌<◌, length}
 use Rattle.std.specs.Prelude.{All}
 use Rattle.blif_text.specs.Views.{plain_model}
+use Rattle.hierarchy.specs.Rows.{AreWithin}
 use Rattle.hierarchy.specs.Library.{IsLoop}
+use Rattle.hierarchy.proofs.GraphLaws.{graph_within}
 use Rattle.hierarchy.proofs.Loops.{loop_at}
 use Rattle.hierarchy.proofs.library.order_or_loop.Goals as goal
+
+pub order_models-requires-clause-within : goal.order_models-requires-clause-within
+order_models-requires-clause-within c = subst AreWithin (sym c.requires.graph) (graph_within (map plain_model c.args.models.now))
 
 pub names_at-requires : goal.names_at-requires
 names_at-requires c =

@@ -5,16 +5,16 @@ use Rattle.hierarchy.specs.Alone.{places_nothing}
 use Rattle.hierarchy.proofs.Alone.{alone_flat, alone_clear}
 use Rattle.hierarchy.proofs.Moved.{at_model}
 use Rattle.hierarchy.proofs.Totals.{first_model}
-use Rattle.hierarchy.proofs.flattening.lone_main.Goals as goal
+use Rattle.hierarchy.proofs.flattening.is_alone.Goals as goal
 
-pub returns-in-true-clause-model : goal.returns-in-true-clause-model
-returns-in-true-clause-model c = main_is ∙ sym (alone_flat (map plain_model c.args.models.now) (ap (λ m. places_nothing m.elements) (sym main_is) ∙ (ap (λ es. places_nothing (map plain_element es)) (sym c.deref.ensures.value) ∙ sym (c.in-true.ensures))))
+pub returns-clause-model : goal.returns-clause-model
+returns-clause-model c = λ alone. alone_flat (map plain_model c.args.models.now) (ap (λ m. places_nothing m.elements) (sym main_is) ∙ (ap (λ es. places_nothing (map plain_element es)) (sym c.deref.ensures.value) ∙ (sym c.places_nothing.ensures ∙ alone)))
   where
     main_is : plain_model c.index-models-0.result ≡ main_of (map plain_model c.args.models.now)
     main_is = sym (at_model c.args.models.now 0 c.index-models-0.result c.requires c.index-models-0.is) ∙ first_model (map plain_model c.args.models.now)
 
-pub returns-in-true-clause-clear : goal.returns-in-true-clause-clear
-returns-in-true-clause-clear c = λ some. alone_clear (map plain_model c.args.models.now) (ap (λ m. places_nothing m.elements) (sym main_is) ∙ (ap (λ es. places_nothing (map plain_element es)) (sym c.deref.ensures.value) ∙ sym (c.in-true.ensures)))
+pub returns-clause-clear : goal.returns-clause-clear
+returns-clause-clear c = λ alone. alone_clear (map plain_model c.args.models.now) (ap (λ m. places_nothing m.elements) (sym main_is) ∙ (ap (λ es. places_nothing (map plain_element es)) (sym c.deref.ensures.value) ∙ (sym c.places_nothing.ensures ∙ alone)))
   where
     main_is : plain_model c.index-models-0.result ≡ main_of (map plain_model c.args.models.now)
     main_is = sym (at_model c.args.models.now 0 c.index-models-0.result c.requires c.index-models-0.is) ∙ first_model (map plain_model c.args.models.now)
