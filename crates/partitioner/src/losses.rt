@@ -10,7 +10,7 @@ ghost use Rattle.partitioner.specs.Tracking.{Tracks, reader_count};
 use crate::counting::count_at;
 use crate::gains::{Gains, missed_in};
 use crate::partitioning::Partitioning;
-use crate::wide::is_wide;
+use crate::wide::is_long;
 use flat_net::FlatNet;
 
 /// How many nodes of a row stand in partition q.
@@ -33,10 +33,11 @@ fn readers_in(n: &FlatNet, p: &Partitioning, x: u32, q: u32) -> u32
     requires partition { q < p.now.count }
     ensures { result ≡ reader_count n.now.net p.now.of.items x q }
 {
-    if is_wide(n, &p.readers, x) {
+    let row = p.readers.row(x);
+    if is_long(row) {
         count_at(&p.counts, x, q)
     } else {
-        count_in(p.of.as_slice(), p.readers.row(x), q)
+        count_in(p.of.as_slice(), row, q)
     }
 }
 
@@ -54,30 +55,42 @@ fn is_fresh(n: &FlatNet, p: &Partitioning, i: u32, x: u32, q: u32, mine: u32) ->
     p.of[x as usize] != q && readers_in(n, p, x, q) == mine
 }
 
-/// Some other node reads node i from partition q.
+/// Some other node reads node i from partition q. Where this is known, nothing is counted.
 #[tactic(auto, using(crate::proofs::CountLaws::wanted_by_count))]
-fn is_wanted(n: &FlatNet, p: &Partitioning, i: u32, q: u32) -> bool
+fn is_wanted(n: &FlatNet, p: &Partitioning, i: u32, q: u32, known: bool) -> bool
     requires tracks { Tracks n.now.net p.now }
     requires node { i < length n.now.net.nodes }
     requires partition { q < p.now.count }
+    requires known { known ≡ true → is_wanted n.now.net p.now.of.items i q ≡ true }
     ensures { result ≡ is_wanted n.now.net p.now.of.items i q }
 {
-    0 < readers_in(n, p, i, q)
+    known || 0 < readers_in(n, p, i, q)
 }
 
-/// The loss of node i in partition q, or where it is above `most`, some number above `most`.
-pub fn loss_up_to(n: &FlatNet, p: &Partitioning, gains: &Gains, i: u32, q: u32, most: u64) -> u64
+/// The loss of node i in partition q, or where it is above `most`, some number above `most`. `wanted` says
+/// that the node is known to be read there by another.
+pub fn loss_up_to(
+    n: &FlatNet,
+    p: &Partitioning,
+    gains: &Gains,
+    i: u32,
+    q: u32,
+    wanted: bool,
+    most: u64,
+) -> u64
     requires tracks { Tracks n.now.net p.now }
     requires kept { AreKept p.now.count gains.now }
     requires gains { AreGains n.now.net p.now i gains.now }
     requires node { i < length n.now.net.nodes }
     requires partition { q < p.now.count }
+    requires wanted { wanted ≡ true → is_wanted n.now.net p.now.of.items i q ≡ true }
     ensures exact { result ≤ most → result ≡ loss n.now.net p.now.of.items i q }
     ensures above { most < result → most < loss n.now.net p.now.of.items i q }
 {
     let mine = u32::from(p.of[i as usize] == q);
     let row = p.sources.row(i);
-    let mut loss = u64::from(!is_wanted(n, p, i, q)) + u64::from(missed_in(n, p, gains, i, q));
+    let mut loss = u64::from(!is_wanted(n, p, i, q, wanted))
+        + u64::from(missed_in(n, p, gains, i, q));
     for j in gains.counted as usize..row.len() {
         if most < loss {
             return loss;

@@ -2,6 +2,7 @@
 ghost use Rattle.std.specs.Prelude.{◌≡◌, ◌<◌, ◌≤◌, ◌==◌, ℕ, Bool, true, false, length, slice_index};
 ghost use Rattle.flat_net.specs.Net.{Net};
 ghost use Rattle.partitioner.specs.Reading.{is_wide};
+ghost use Rattle.partitioner.specs.Loss.{is_wanted};
 ghost use Rattle.partitioner.specs.Refining.{has_room, place};
 ghost use Rattle.partitioner.specs.Tracking.{Tracks, parts_of};
 ghost use Rattle.partitioner.specs.Spotting.{AreSpots};
@@ -55,7 +56,7 @@ fn is_settled(lead: Lead, start: u32, tried: u64) -> bool
     lead.loss < tried || (lead.loss == tried && lead.place == start)
 }
 
-/// The lead after partition q is tried for node i.
+/// The lead after partition q is tried for node i. `wanted` says that the node is known to be read there by another.
 fn consider(
     n: &FlatNet,
     p: &Partitioning,
@@ -64,12 +65,14 @@ fn consider(
     i: u32,
     lead: Lead,
     q: u32,
+    wanted: bool,
 ) -> Lead
     requires tracks { Tracks n.now.net p.now }
     requires kept { AreKept p.now.count gains.now }
     requires gains { AreGains n.now.net p.now i gains.now }
     requires node { i < length n.now.net.nodes }
     requires partition { q < p.now.count }
+    requires wanted { wanted ≡ true → is_wanted n.now.net p.now.of.items i q ≡ true }
     requires lead { IsLead n.now.net size p.now i lead }
     ensures lead { IsLead n.now.net size p.now i result }
     ensures kept { (c : ℕ) → Leads n.now.net p.now i lead.place c → Leads n.now.net p.now i result.place c }
@@ -79,7 +82,7 @@ fn consider(
     if q == start || q == lead.place || !has_room(n, p, size, q) {
         return lead;
     }
-    let found = loss_up_to(n, p, gains, i, q, lead.loss);
+    let found = loss_up_to(n, p, gains, i, q, wanted, lead.loss);
     if is_better(lead, start, found, q) {
         Lead {
             place: q,
@@ -112,7 +115,7 @@ fn consider_readers(
 {
     let mut lead = lead;
     for y in p.readers.row(x) {
-        lead = consider(n, p, gains, size, i, lead, part_of(n, p, *y));
+        lead = consider(n, p, gains, size, i, lead, part_of(n, p, *y), x == i);
     }
     lead
 }
@@ -159,7 +162,7 @@ fn consider_spots(
     let mut lead = lead;
     for q in spots.free.set(x).iter() {
         if *q < p.count {
-            lead = consider(n, p, gains, size, i, lead, *q);
+            lead = consider(n, p, gains, size, i, lead, *q, false);
             if lead.loss <= tried && lead.place <= *q {
                 return lead;
             }
@@ -214,7 +217,7 @@ fn consider_source(
     ensures own { LeadsOpen n.now.net size p.now i result.place (start_of p.now x) }
     ensures tried { LeadsReaders n.now.net size p.now i result.place x }
 {
-    let lead = consider(n, p, gains, size, i, lead, part_of(n, p, x));
+    let lead = consider(n, p, gains, size, i, lead, part_of(n, p, x), false);
     if is_wide(n, &p.readers, x) {
         consider_spots(n, p, spots, gains, size, i, lead, x, tried)
     } else {
@@ -279,7 +282,7 @@ pub fn place_of(
     begin(gains, p.count);
     let lead = Lead {
         place: start,
-        loss: loss_up_to(n, p, gains, i, start, u64::MAX),
+        loss: loss_up_to(n, p, gains, i, start, false, u64::MAX),
     };
     if is_settled(lead, start, 0) {
         return start;

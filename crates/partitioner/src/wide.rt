@@ -1,5 +1,5 @@
 //! Nodes that many nodes read, whose readers are counted in a table.
-ghost use Rattle.std.specs.Prelude.{◌≡◌, ◌<◌, ℕ, Bool, [], length, All, filter, slice_index_or, IfOk};
+ghost use Rattle.std.specs.Prelude.{◌≡◌, ◌<◌, ℕ, Bool, [], nat_lt, length, All, filter, slice_index_or, IfOk};
 ghost use Rattle.flat_net.specs.Net.{Net};
 ghost use Rattle.partitioner.specs.Noting.{Lists};
 ghost use Rattle.partitioner.specs.Reading.{reads_other, is_source, is_wide, wide_sources};
@@ -11,6 +11,13 @@ use flat_net::FlatNet;
 use std::alloc::Global;
 use tmr_base::OutOfMemory;
 
+/// A row lists more than 16 nodes.
+pub fn is_long(row: &[u32]) -> bool
+    ensures { result ≡ nat_lt 16 (length row.now) }
+{
+    row.len() > 16
+}
+
 /// More than 16 other nodes read node x.
 pub fn is_wide(n: &FlatNet, readers: &Packed, x: u32) -> bool
     requires readers { Lists (reads_other n.now.net) (length n.now.net.nodes) (length n.now.net.nodes) readers.now }
@@ -18,7 +25,7 @@ pub fn is_wide(n: &FlatNet, readers: &Packed, x: u32) -> bool
     ensures { result ≡ is_wide n.now.net x }
 {
     let _nodes = nodes_of(n);
-    readers.row(x).len() > 16
+    is_long(readers.row(x))
 }
 
 /// The wide nodes of a row.
@@ -53,8 +60,9 @@ pub fn wide_sources_of(
     ensures long { IfOk result (λ wide. length wide ≡ length n.now.net.nodes) }
     ensures each { IfOk result (λ wide. (i : ℕ) → i < length n.now.net.nodes → slice_index_or wide i [] ≡ wide_sources n.now.net i) }
 {
-    let mut rows = Packed::new(alloc);
-    for i in 0..nodes_of(n) {
+    let count = nodes_of(n);
+    let mut rows = Packed::with_room(alloc, count as usize, 0)?;
+    for i in 0..count {
         let wide = wide_among(alloc, n, readers, sources.row(i))?;
         rows.push(wide.as_slice())?;
     }
