@@ -14,8 +14,9 @@ ghost use Rattle.tmr_top.specs.Unread.{OnRefused};
 use crate::reasons::{bad_line, flat_reason};
 use blif_text::{Library, TextFault};
 use flat_net::{FlatNet, FreeNet};
-use hierarchy::{FlatFault, flatten_free};
+use hierarchy::{FlatFault, flatten_owned};
 use std::alloc::Global;
+use std::mem::replace;
 use tmr_base::OutOfMemory;
 
 /// Why no design was read.
@@ -55,15 +56,15 @@ pub fn checked_nodes(n: &FreeNet) -> u32
 
 /// The design of a library, where its flat text keeps the limit.
 #[tactic(auto, using(crate::proofs::DesignLaws::libraries))]
-fn design_of(alloc: Global, library: &Library, limit: u64) -> Result<FreeNet, Unread>
+fn design_of(alloc: Global, library: Library, limit: u64) -> Result<FreeNet, Unread>
     requires { limit ≤ 1073741824 }
-    ensures read { (bytes : List ℕ) → reading bytes ≡ Ok library.now → IfOk result (λ flat. IsFreeNetOf bytes limit flat.design.net flat.free) }
+    ensures read { (bytes : List ℕ) → reading bytes ≡ Ok library → IfOk result (λ flat. IsFreeNetOf bytes limit flat.design.net flat.free) }
     ensures few { IfOk result (λ flat. 2 * (net_count flat.design.net + pin_total flat.design.net) ≤ limit) }
     ensures rows { IfOk result (λ flat. row_total flat.design.net ≤ limit) }
     ensures flat { IfOk result (λ flat. IsFlatWithin limit flat.design.net flat.free) }
-    ensures unread { (bytes : List ℕ) → reading bytes ≡ Ok library.now → IfErr result (OnRefused (IsUnread limit bytes)) }
+    ensures unread { (bytes : List ℕ) → reading bytes ≡ Ok library → IfErr result (OnRefused (IsUnread limit bytes)) }
 {
-    match flatten_free(alloc, library, limit) {
+    match flatten_owned(alloc, library, limit) {
         Ok(flat) => Ok(flat),
         Err(fault) => {
             let reason = flat_reason(alloc, &fault);
@@ -73,23 +74,31 @@ fn design_of(alloc: Global, library: &Library, limit: u64) -> Result<FreeNet, Un
     }
 }
 
-/// The design that a text gives which was read so.
+/// What was read of a text, taken out of its place.
+fn taken(text: &mut Result<Library, TextFault>) -> Result<Library, TextFault>
+    ensures { result ≡ text.old }
+{
+    replace(text, Err(TextFault::Memory))
+}
+
+/// The design that a text gives which was read so. What was read is taken out of its place, and its names become
+/// the design's.
 #[tactic(auto, using(crate::proofs::DesignLaws::texts))]
 pub fn read_design(
     alloc: Global,
-    text: &Result<Library, TextFault>,
+    text: &mut Result<Library, TextFault>,
     limit: u64,
 ) -> Result<FreeNet, Unread>
     requires { limit ≤ 1073741824 }
-    ensures read { (bytes : List ℕ) → Reads text.now (reading bytes) → IfOk result (λ flat. IsFreeNetOf bytes limit flat.design.net flat.free) }
+    ensures read { (bytes : List ℕ) → Reads text.old (reading bytes) → IfOk result (λ flat. IsFreeNetOf bytes limit flat.design.net flat.free) }
     ensures few { IfOk result (λ flat. 2 * (net_count flat.design.net + pin_total flat.design.net) ≤ limit) }
     ensures rows { IfOk result (λ flat. row_total flat.design.net ≤ limit) }
     ensures flat { IfOk result (λ flat. IsFlatWithin limit flat.design.net flat.free) }
-    ensures unread { (bytes : List ℕ) → Reads text.now (reading bytes) → IfErr result (OnRefused (IsUnread limit bytes)) }
+    ensures unread { (bytes : List ℕ) → Reads text.old (reading bytes) → IfErr result (OnRefused (IsUnread limit bytes)) }
 {
-    match text {
+    match taken(text) {
         Ok(library) => design_of(alloc, library, limit),
-        Err(TextFault::Bad { line, kind }) => Err(refused(bad_line(alloc, *line, *kind))),
+        Err(TextFault::Bad { line, kind }) => Err(refused(bad_line(alloc, line, kind))),
         Err(TextFault::Memory) => Err(Unread::Memory),
     }
 }

@@ -47,11 +47,11 @@ fn guard_design(alloc: Global, words: &GuardWords, n: &FreeNet) -> Result<Work, 
 fn guard_text(
     alloc: Global,
     words: &GuardWords,
-    text: &Result<Library, TextFault>,
+    text: &mut Result<Library, TextFault>,
 ) -> Result<Work, OutOfMemory>
     ensures texts { IfOk result (HasTexts (Guard (guarding_in words.now))) }
     ensures work { (held : Contents)
-        → HoldsText held (original_file words.now.original.now) text.now
+        → HoldsText held (original_file words.now.original.now) text.old
         → IfOk result (IsWork (Guard (guarding_in words.now)) held) }
 {
     match read_design(alloc, text, ORIGINAL_LIMIT) {
@@ -62,15 +62,22 @@ fn guard_text(
 }
 
 /// The work of `guard`, where its file is loaded.
-pub fn guard_file(alloc: Global, words: &GuardWords, loaded: &[Loaded]) -> Result<Work, OutOfMemory>
-    requires { FitsEach (loads_of (Guard (guarding_in words.now))) loaded.now }
+pub fn guard_file(
+    alloc: Global,
+    words: &GuardWords,
+    loaded: &mut [Loaded],
+) -> Result<Work, OutOfMemory>
+    requires { FitsEach (loads_of (Guard (guarding_in words.now))) loaded.old }
     ensures texts { IfOk result (HasTexts (Guard (guarding_in words.now))) }
     ensures work { (held : Contents)
-        → HoldsEach held (loads_of (Guard (guarding_in words.now))) loaded.now
+        → HoldsEach held (loads_of (Guard (guarding_in words.now))) loaded.old
         → IfOk result (IsWork (Guard (guarding_in words.now)) held) }
 {
     match loaded {
-        [Loaded::Netlist(text)] => guard_text(alloc, words, text),
+        [text] => match text {
+            Loaded::Netlist(text) => guard_text(alloc, words, text),
+            Loaded::Bytes(_) => unreachable!(),
+        },
         _ => unreachable!(),
     }
 }
@@ -116,13 +123,13 @@ fn check_text(
     alloc: Global,
     words: &GuardWords,
     n: &FreeNet,
-    text: &Result<Library, TextFault>,
+    text: &mut Result<Library, TextFault>,
 ) -> Result<Work, OutOfMemory>
     requires { net_count n.now.design.net + pin_total n.now.design.net ≤ 16777216 }
     ensures texts { IfOk result (HasTexts (CheckGuard (guarding_in words.now))) }
     ensures work { (held : Contents)
         → HoldsDesign held (original_file words.now.original.now) n.now.design.net n.now.free
-        → HoldsText held (hardened_file words.now.guarded.now) text.now
+        → HoldsText held (hardened_file words.now.guarded.now) text.old
         → IfOk result (IsWork (CheckGuard (guarding_in words.now)) held) }
 {
     match read_design(alloc, text, HARDENED_LIMIT) {
@@ -137,13 +144,13 @@ fn check_text(
 fn check_texts(
     alloc: Global,
     words: &GuardWords,
-    original: &Result<Library, TextFault>,
-    guarded: &Result<Library, TextFault>,
+    original: &mut Result<Library, TextFault>,
+    guarded: &mut Result<Library, TextFault>,
 ) -> Result<Work, OutOfMemory>
     ensures texts { IfOk result (HasTexts (CheckGuard (guarding_in words.now))) }
     ensures work { (held : Contents)
-        → HoldsText held (original_file words.now.original.now) original.now
-        → HoldsText held (hardened_file words.now.guarded.now) guarded.now
+        → HoldsText held (original_file words.now.original.now) original.old
+        → HoldsText held (hardened_file words.now.guarded.now) guarded.old
         → IfOk result (IsWork (CheckGuard (guarding_in words.now)) held) }
 {
     match read_design(alloc, original, ORIGINAL_LIMIT) {
@@ -157,18 +164,22 @@ fn check_texts(
 pub fn check_files(
     alloc: Global,
     words: &GuardWords,
-    loaded: &[Loaded],
+    loaded: &mut [Loaded],
 ) -> Result<Work, OutOfMemory>
-    requires { FitsEach (loads_of (CheckGuard (guarding_in words.now))) loaded.now }
+    requires { FitsEach (loads_of (CheckGuard (guarding_in words.now))) loaded.old }
     ensures texts { IfOk result (HasTexts (CheckGuard (guarding_in words.now))) }
     ensures work { (held : Contents)
-        → HoldsEach held (loads_of (CheckGuard (guarding_in words.now))) loaded.now
+        → HoldsEach held (loads_of (CheckGuard (guarding_in words.now))) loaded.old
         → IfOk result (IsWork (CheckGuard (guarding_in words.now)) held) }
 {
     match loaded {
-        [Loaded::Netlist(original), Loaded::Netlist(guarded)] => {
-            check_texts(alloc, words, original, guarded)
-        }
+        [original, guarded] => match original {
+            Loaded::Netlist(original) => match guarded {
+                Loaded::Netlist(guarded) => check_texts(alloc, words, original, guarded),
+                Loaded::Bytes(_) => unreachable!(),
+            },
+            Loaded::Bytes(_) => unreachable!(),
+        },
         _ => unreachable!(),
     }
 }

@@ -43,11 +43,11 @@ fn tell_design(alloc: Global, words: &FlatWords, flat: &FreeNet) -> Result<Work,
 fn flatten_text(
     alloc: Global,
     words: &FlatWords,
-    text: &Result<Library, TextFault>,
+    text: &mut Result<Library, TextFault>,
 ) -> Result<Work, OutOfMemory>
     ensures texts { IfOk result (HasTexts (Flatten (flattening_in words.now))) }
     ensures work { (held : Contents)
-        → HoldsText held (original_file words.now.original.now) text.now
+        → HoldsText held (original_file words.now.original.now) text.old
         → IfOk result (IsWork (Flatten (flattening_in words.now)) held) }
 {
     match read_design(alloc, text, ORIGINAL_LIMIT) {
@@ -58,15 +58,18 @@ fn flatten_text(
 }
 
 /// The work of `flatten`, where its file is loaded.
-pub fn flatten(alloc: Global, words: &FlatWords, loaded: &[Loaded]) -> Result<Work, OutOfMemory>
-    requires { FitsEach (loads_of (Flatten (flattening_in words.now))) loaded.now }
+pub fn flatten(alloc: Global, words: &FlatWords, loaded: &mut [Loaded]) -> Result<Work, OutOfMemory>
+    requires { FitsEach (loads_of (Flatten (flattening_in words.now))) loaded.old }
     ensures texts { IfOk result (HasTexts (Flatten (flattening_in words.now))) }
     ensures work { (held : Contents)
-        → HoldsEach held (loads_of (Flatten (flattening_in words.now))) loaded.now
+        → HoldsEach held (loads_of (Flatten (flattening_in words.now))) loaded.old
         → IfOk result (IsWork (Flatten (flattening_in words.now)) held) }
 {
     match loaded {
-        [Loaded::Netlist(text)] => flatten_text(alloc, words, text),
+        [text] => match text {
+            Loaded::Netlist(text) => flatten_text(alloc, words, text),
+            Loaded::Bytes(_) => unreachable!(),
+        },
         _ => unreachable!(),
     }
 }

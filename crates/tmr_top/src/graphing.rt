@@ -47,11 +47,11 @@ fn graph_design(alloc: Global, words: &GraphWords, n: &FreeNet) -> Result<Work, 
 fn graph_text(
     alloc: Global,
     words: &GraphWords,
-    text: &Result<Library, TextFault>,
+    text: &mut Result<Library, TextFault>,
 ) -> Result<Work, OutOfMemory>
     ensures texts { IfOk result (HasTexts (WriteGraph (graphing_in words.now))) }
     ensures work { (held : Contents)
-        → HoldsText held (original_file words.now.original.now) text.now
+        → HoldsText held (original_file words.now.original.now) text.old
         → IfOk result (IsWork (WriteGraph (graphing_in words.now)) held) }
 {
     match read_design(alloc, text, ORIGINAL_LIMIT) {
@@ -62,15 +62,22 @@ fn graph_text(
 }
 
 /// The work of `to-aag`, where its file is loaded.
-pub fn graph_file(alloc: Global, words: &GraphWords, loaded: &[Loaded]) -> Result<Work, OutOfMemory>
-    requires { FitsEach (loads_of (WriteGraph (graphing_in words.now))) loaded.now }
+pub fn graph_file(
+    alloc: Global,
+    words: &GraphWords,
+    loaded: &mut [Loaded],
+) -> Result<Work, OutOfMemory>
+    requires { FitsEach (loads_of (WriteGraph (graphing_in words.now))) loaded.old }
     ensures texts { IfOk result (HasTexts (WriteGraph (graphing_in words.now))) }
     ensures work { (held : Contents)
-        → HoldsEach held (loads_of (WriteGraph (graphing_in words.now))) loaded.now
+        → HoldsEach held (loads_of (WriteGraph (graphing_in words.now))) loaded.old
         → IfOk result (IsWork (WriteGraph (graphing_in words.now)) held) }
 {
     match loaded {
-        [Loaded::Netlist(text)] => graph_text(alloc, words, text),
+        [text] => match text {
+            Loaded::Netlist(text) => graph_text(alloc, words, text),
+            Loaded::Bytes(_) => unreachable!(),
+        },
         _ => unreachable!(),
     }
 }

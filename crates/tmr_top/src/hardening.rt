@@ -153,11 +153,11 @@ fn harden_design(alloc: Global, words: &HardenWords, n: &FreeNet) -> Result<Work
 fn harden_text(
     alloc: Global,
     words: &HardenWords,
-    text: &Result<Library, TextFault>,
+    text: &mut Result<Library, TextFault>,
 ) -> Result<Work, OutOfMemory>
     ensures texts { IfOk result (HasTexts (Harden (hardening_in words.now))) }
     ensures work { (held : Contents)
-        → HoldsText held (original_file words.now.original.now) text.now
+        → HoldsText held (original_file words.now.original.now) text.old
         → IfOk result (IsWork (Harden (hardening_in words.now)) held) }
 {
     match read_design(alloc, text, ORIGINAL_LIMIT) {
@@ -168,15 +168,22 @@ fn harden_text(
 }
 
 /// The work of `harden`, where its file is loaded.
-pub fn harden(alloc: Global, words: &HardenWords, loaded: &[Loaded]) -> Result<Work, OutOfMemory>
-    requires { FitsEach (loads_of (Harden (hardening_in words.now))) loaded.now }
+pub fn harden(
+    alloc: Global,
+    words: &HardenWords,
+    loaded: &mut [Loaded],
+) -> Result<Work, OutOfMemory>
+    requires { FitsEach (loads_of (Harden (hardening_in words.now))) loaded.old }
     ensures texts { IfOk result (HasTexts (Harden (hardening_in words.now))) }
     ensures work { (held : Contents)
-        → HoldsEach held (loads_of (Harden (hardening_in words.now))) loaded.now
+        → HoldsEach held (loads_of (Harden (hardening_in words.now))) loaded.old
         → IfOk result (IsWork (Harden (hardening_in words.now)) held) }
 {
     match loaded {
-        [Loaded::Netlist(text)] => harden_text(alloc, words, text),
+        [text] => match text {
+            Loaded::Netlist(text) => harden_text(alloc, words, text),
+            Loaded::Bytes(_) => unreachable!(),
+        },
         _ => unreachable!(),
     }
 }

@@ -32,10 +32,10 @@ use tmr_base::OutOfMemory;
 use tmr_outside::Files;
 
 /// The work of a command, where its files are loaded.
-fn work(alloc: Global, words: &CommandWords, loaded: &[Loaded]) -> Result<Work, OutOfMemory>
-    requires { FitsEach (loads_of (command_in words.now)) loaded.now }
+fn work(alloc: Global, words: &CommandWords, loaded: &mut [Loaded]) -> Result<Work, OutOfMemory>
+    requires { FitsEach (loads_of (command_in words.now)) loaded.old }
     ensures texts { IfOk result (HasTexts (command_in words.now)) }
-    ensures work { (held : Contents) → HoldsEach held (loads_of (command_in words.now)) loaded.now
+    ensures work { (held : Contents) → HoldsEach held (loads_of (command_in words.now)) loaded.old
         → IfOk result (IsWork (command_in words.now) held) }
 {
     match words {
@@ -155,8 +155,8 @@ pub fn perform<F: Files>(
 {
     let loads = list_loads(alloc, words)?;
     match load_all(alloc, files, &loads) {
-        Ok(loaded) => {
-            let work = work(alloc, words, &loaded)?;
+        Ok(mut loaded) => {
+            let work = work(alloc, words, &mut loaded)?;
             decide_work(alloc, words, work, files)
         }
         Err(stop) => stopped(alloc, stop),

@@ -1,5 +1,5 @@
 //! Commands over a pair: it is read and checked, and what is told of it goes by the task.
-ghost use Rattle.std.specs.Prelude.{◌≡◌, ◌≤◌, length, IfOk};
+ghost use Rattle.std.specs.Prelude.{◌≡◌, ◌≤◌, ◌∷◌, [], length, IfOk};
 ghost use Rattle.flat_net.specs.Net.{net_count};
 ghost use Rattle.certificate.specs.Cert.{Fits};
 ghost use Rattle.certificate.specs.Rules.{FreeCorresponds};
@@ -154,7 +154,7 @@ fn judge_hardened(
     task: FileTask,
     words: &PairWords,
     n: &FreeNet,
-    hardened: &Result<Library, TextFault>,
+    hardened: &mut Result<Library, TextFault>,
     certificate: &[u8],
 ) -> Result<Work, OutOfMemory>
     requires short { length certificate.now ≤ 1073741824 }
@@ -162,7 +162,7 @@ fn judge_hardened(
     ensures texts { IfOk result (HasTexts (files_over task.entry (pair_in words.now))) }
     ensures judged { (held : Contents)
         → HoldsDesign held (original_file words.now.original.now) n.now.design.net n.now.free
-        → HoldsText held (hardened_file words.now.hardened.now) hardened.now
+        → HoldsText held (hardened_file words.now.hardened.now) hardened.old
         → HoldsBytes held (certificate_file words.now.certificate.now) certificate.now
         → HoldsTask held task.entry
         → IfOk result (IsWork (files_over task.entry (pair_in words.now)) held) }
@@ -180,15 +180,15 @@ fn judge(
     alloc: Global,
     task: FileTask,
     words: &PairWords,
-    original: &Result<Library, TextFault>,
-    hardened: &Result<Library, TextFault>,
+    original: &mut Result<Library, TextFault>,
+    hardened: &mut Result<Library, TextFault>,
     certificate: &[u8],
 ) -> Result<Work, OutOfMemory>
     requires { length certificate.now ≤ 1073741824 }
     ensures texts { IfOk result (HasTexts (files_over task.entry (pair_in words.now))) }
     ensures judged { (held : Contents)
-        → HoldsText held (original_file words.now.original.now) original.now
-        → HoldsText held (hardened_file words.now.hardened.now) hardened.now
+        → HoldsText held (original_file words.now.original.now) original.old
+        → HoldsText held (hardened_file words.now.hardened.now) hardened.old
         → HoldsBytes held (certificate_file words.now.certificate.now) certificate.now
         → HoldsTask held task.entry
         → IfOk result (IsWork (files_over task.entry (pair_in words.now)) held) }
@@ -200,27 +200,53 @@ fn judge(
     }
 }
 
+/// What the three files come to, where they are loaded.
+fn judge_loaded(
+    alloc: Global,
+    task: FileTask,
+    words: &PairWords,
+    original: &mut Loaded,
+    hardened: &mut Loaded,
+    certificate: &Loaded,
+) -> Result<Work, OutOfMemory>
+    requires { FitsEach (pair_files (pair_in words.now)) (original.old ∷ hardened.old ∷ certificate.now ∷ []) }
+    ensures texts { IfOk result (HasTexts (files_over task.entry (pair_in words.now))) }
+    ensures judged { (held : Contents)
+        → HoldsEach held (pair_files (pair_in words.now)) (original.old ∷ hardened.old ∷ certificate.now ∷ [])
+        → HoldsTask held task.entry
+        → IfOk result (IsWork (files_over task.entry (pair_in words.now)) held) }
+{
+    match original {
+        Loaded::Netlist(original) => match hardened {
+            Loaded::Netlist(hardened) => match certificate {
+                Loaded::Bytes(certificate) => {
+                    judge(alloc, task, words, original, hardened, certificate)
+                }
+                Loaded::Netlist(_) => unreachable!(),
+            },
+            Loaded::Bytes(_) => unreachable!(),
+        },
+        Loaded::Bytes(_) => unreachable!(),
+    }
+}
+
 /// The work of a command over a pair, where its files are loaded.
 pub fn judge_files(
     alloc: Global,
     task: PairTask,
     words: &PairWords,
-    loaded: &[Loaded],
+    loaded: &mut [Loaded],
 ) -> Result<Work, OutOfMemory>
-    requires { FitsEach (pair_files (pair_in words.now)) loaded.now }
+    requires { FitsEach (pair_files (pair_in words.now)) loaded.old }
     ensures texts { IfOk result (HasTexts (task_over task (pair_in words.now))) }
     ensures work { (held : Contents)
-        → HoldsEach held (pair_files (pair_in words.now)) loaded.now
+        → HoldsEach held (pair_files (pair_in words.now)) loaded.old
         → IfOk result (IsWork (task_over task (pair_in words.now)) held) }
 {
     match loaded {
-        [
-            Loaded::Netlist(original),
-            Loaded::Netlist(hardened),
-            Loaded::Bytes(certificate),
-        ] => {
+        [original, hardened, certificate] => {
             let told = FileTask::Tell(task);
-            judge(alloc, told, words, original, hardened, certificate)
+            judge_loaded(alloc, told, words, original, hardened, certificate)
         }
         _ => unreachable!(),
     }
@@ -230,29 +256,27 @@ pub fn judge_files(
 pub fn replay_files(
     alloc: Global,
     words: &ReplayWords,
-    loaded: &[Loaded],
+    loaded: &mut [Loaded],
 ) -> Result<Work, OutOfMemory>
-    requires { FitsEach (loads_of (Replay (replaying_in words.now))) loaded.now }
+    requires { FitsEach (loads_of (Replay (replaying_in words.now))) loaded.old }
     ensures texts { IfOk result (HasTexts (Replay (replaying_in words.now))) }
     ensures work { (held : Contents)
-        → HoldsEach held (loads_of (Replay (replaying_in words.now))) loaded.now
+        → HoldsEach held (loads_of (Replay (replaying_in words.now))) loaded.old
         → IfOk result (IsWork (Replay (replaying_in words.now)) held) }
 {
     match loaded {
-        [
-            Loaded::Netlist(original),
-            Loaded::Netlist(hardened),
-            Loaded::Bytes(certificate),
-            Loaded::Bytes(schedule),
-        ] => {
-            let file = ScheduleFile {
-                name: words.schedule,
-                bytes: schedule.as_slice(),
-                waves: words.waves,
-            };
-            let replay = FileTask::Replay(file);
-            judge(alloc, replay, &words.pair, original, hardened, certificate)
-        }
+        [original, hardened, certificate, schedule] => match schedule {
+            Loaded::Bytes(schedule) => {
+                let file = ScheduleFile {
+                    name: words.schedule,
+                    bytes: schedule.as_slice(),
+                    waves: words.waves,
+                };
+                let replay = FileTask::Replay(file);
+                judge_loaded(alloc, replay, &words.pair, original, hardened, certificate)
+            }
+            Loaded::Netlist(_) => unreachable!(),
+        },
         _ => unreachable!(),
     }
 }

@@ -9,5 +9,5 @@ returns-in-Ok-clause-performs g c =
     (λ d is. performs_since (command_in c.args.words.now) (g.F.Files.seen c.args.files.now) (g.F.Files.seen c.load_all.new.files) (g.F.Files.seen c.decide_work.new.files) c.in-Ok.ensures.stays c.in-Ok.ensures.changes.loads c.in-Ok.ensures.changes.saves d.status d.text.items is)
     (λ e is. leaves_since (command_in c.args.words.now) (g.F.Files.seen c.args.files.now) (g.F.Files.seen c.load_all.new.files) (g.F.Files.seen c.decide_work.new.files) c.in-Ok.ensures.stays c.in-Ok.ensures.changes.loads c.in-Ok.ensures.changes.saves is)
     (c.decide_work.ensures.performs
-    (loaded_comes (command_in c.args.words.now) c.in_ok-loads.loads.items c.deref.result.now c.in-Ok.loaded.items c.deref-in-Ok.result.now c.in_ok-work-in-Ok.work (g.F.Files.seen c.args.files.now) (g.F.Files.seen c.load_all.new.files)
-    c.in_ok-loads.ensures c.deref.ensures.value c.deref-in-Ok.ensures.value c.in-Ok.ensures.stays c.in-Ok.ensures.loads c.in_ok-work-in-Ok.ensures.work))
+    (loaded_comes (command_in c.args.words.now) c.in_ok-loads.loads.items c.deref.result.now c.in-Ok.loaded.items c.deref_mut.result.now c.in_ok-work-in-Ok.work (g.F.Files.seen c.args.files.now) (g.F.Files.seen c.load_all.new.files)
+    c.in_ok-loads.ensures c.deref.ensures.value c.deref_mut.ensures.value c.in-Ok.ensures.stays c.in-Ok.ensures.loads c.in_ok-work-in-Ok.ensures.work))
