@@ -4,8 +4,7 @@ ghost use Rattle.graph.specs.Rows.{row};
 ghost use Rattle.feedback_cut.specs.Cut.{is_cut, CutMeets};
 
 use crate::inner::inner_reads;
-use crate::nodes::nodes_of;
-use flat_net::FlatNet;
+use flat_net::{FlatNet, nodes_of};
 use graph::{CutReads, search};
 use std::alloc::Global;
 use std::marker::Model;

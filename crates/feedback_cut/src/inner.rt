@@ -3,8 +3,7 @@ ghost use Rattle.std.specs.Prelude.{◌≡◌, ◌<◌, ◌+◌, ◌-◌, ◌==�
 ghost use Rattle.std.specs.List.{range_with_len};
 ghost use Rattle.feedback_cut.specs.Inner.{node_pins, inner, inner_row, inner_rows};
 
-use crate::nodes::nodes_of;
-use flat_net::FlatNet;
+use flat_net::{FlatNet, nodes_of};
 use graph::Graph;
 use std::alloc::Global;
 use tmr_base::{NetId, OutOfMemory, Parts};

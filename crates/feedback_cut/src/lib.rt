@@ -11,7 +11,6 @@ mod gathering;
 mod inner;
 mod loop_groups;
 mod loops;
-mod nodes;
 mod numbering;
 
 pub use cutting::{CutPins, cut};

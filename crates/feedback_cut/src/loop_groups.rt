@@ -4,9 +4,8 @@ ghost use Rattle.feedback_cut.specs.Components.{AreComponents};
 
 use crate::inner::inner_reads;
 use crate::loops::looped;
-use crate::nodes::nodes_of;
 use crate::numbering::number_vertices;
-use flat_net::FlatNet;
+use flat_net::{FlatNet, nodes_of};
 use std::alloc::Global;
 use std::marker::Model;
 use tmr_base::{OutOfMemory, Parts};

@@ -8,6 +8,7 @@
 
 mod building;
 mod clocking;
+mod counts;
 mod draft;
 mod driving;
 mod fault;
@@ -20,6 +21,7 @@ mod wires;
 mod wiring;
 
 pub use building::build;
+pub use counts::nodes_of;
 pub use draft::Draft;
 pub use fault::NetFault;
 pub use free::FreeNet;

@@ -8,9 +8,9 @@ ghost use Rattle.recovery_depth.specs.Ranks.{rank_at, ranks_of};
 ghost use Rattle.recovery_depth.specs.Tops.{place_at, places_of, original_at, originals_of};
 
 use crate::ranks::Ranks;
-use crate::registers::{is_register, nodes_of};
+use crate::registers::is_register;
 use certificate::{Certificate, Role};
-use flat_net::FlatNet;
+use flat_net::{FlatNet, nodes_of};
 use graph::Graph;
 use std::alloc::Global;
 use tmr_base::{NetId, OutOfMemory, Parts};

@@ -13,10 +13,9 @@ use crate::deep::Deep;
 use crate::greatest::greatest_labels;
 use crate::ordering::ordered;
 use crate::reaching::reaches_in;
-use crate::registers::nodes_of;
 use crate::tops::{deeps, tops};
 use certificate::Certificate;
-use flat_net::FlatNet;
+use flat_net::{FlatNet, nodes_of};
 use std::alloc::Global;
 use tmr_base::OutOfMemory;
 

@@ -5,10 +5,10 @@ ghost use Rattle.recovery_depth.specs.Depths.{AreDepths};
 
 use crate::greatest::greatest_labels;
 use crate::reaching::reaches;
-use crate::registers::{nodes_of, registers};
+use crate::registers::registers;
 use crate::uncut::uncut_inner;
 use feedback_cut::CutPins;
-use flat_net::FlatNet;
+use flat_net::{FlatNet, nodes_of};
 use std::alloc::Global;
 use std::marker::Model;
 use tmr_base::{OutOfMemory, PartId, Parts};

@@ -26,3 +26,4 @@ pub use deep::Deep;
 pub use deepest::least;
 pub use depth_table::{DepthTable, depths};
 pub use extra::{Extra, bound};
+pub use registers::registers;

@@ -1,22 +1,11 @@
 //! Which nodes are registers.
-ghost use Rattle.std.specs.Prelude.{◌≡◌, ◌<◌, ◌+◌, length, map, IfOk, IsTrue};
+ghost use Rattle.std.specs.Prelude.{◌≡◌, ◌<◌, length, map, IfOk, IsTrue};
 ghost use Rattle.std.specs.List.{range_with_len};
-ghost use Rattle.flat_net.specs.Net.{IsDesign};
 ghost use Rattle.recovery_depth.specs.Depths.{is_register_at};
 
-use flat_net::{FlatNet, Kind};
+use flat_net::{FlatNet, Kind, nodes_of};
 use std::alloc::Global;
 use tmr_base::{NetId, OutOfMemory};
-
-/// How many nodes there are.
-pub fn nodes_of(n: &FlatNet) -> u32
-    ensures count { result ≡ length n.now.net.nodes }
-    ensures few { length n.now.net.inputs + length n.now.net.nodes < 4294967295 }
-    ensures design { IsDesign n.now }
-{
-    let _inputs = n.input_count();
-    n.node_count()
-}
 
 /// Node x is a register.
 pub fn is_register(n: &FlatNet, x: u32) -> bool

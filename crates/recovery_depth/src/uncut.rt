@@ -7,9 +7,8 @@ ghost use Rattle.feedback_cut.specs.Cut.{CutMeets};
 ghost use Rattle.recovery_depth.specs.Walks.{HasNoLoop};
 ghost use Rattle.recovery_depth.specs.Uncut.{uncut_entry, uncut_row, uncut_rows};
 
-use crate::registers::nodes_of;
 use feedback_cut::{CutPins, inner_reads};
-use flat_net::FlatNet;
+use flat_net::{FlatNet, nodes_of};
 use graph::Graph;
 use std::alloc::Global;
 use tmr_base::{OutOfMemory, Parts};

@@ -9,14 +9,14 @@ ghost use Rattle.reports.specs.Left.{AreCounted};
 
 use crate::counting::{counts, every_node};
 use crate::loops::loop_heads;
-use crate::partitions::{nodes_of, partitions, registers};
+use crate::partitions::partitions;
 use crate::voters::voter_counts;
 use crate::writing::{PartCounts, put_head, put_parts};
 use certificate::Certificate;
 use feedback_cut::components;
-use flat_net::FlatNet;
+use flat_net::{FlatNet, nodes_of};
 use partitioner::cost;
-use recovery_depth::least;
+use recovery_depth::{least, registers};
 use std::alloc::Global;
 use tmr_base::{OutOfMemory, Parts};
 

@@ -12,14 +12,13 @@ ghost use Rattle.reports.specs.Counts.{partitions, is_border_voter, is_feedback_
 ghost use Rattle.reports.specs.Report.{head_lines, input_words, voters_line, part_line, part_words, chain_words};
 ghost use Rattle.reports.specs.Left.{spaced, parts_left, AreCounted, AreNets};
 
-use crate::partitions::nodes_of;
 use crate::voters::Voters;
 use crate::words::{
     put_count, put_decimal, put_end, put_first, put_line, put_names, put_word, put_words,
 };
 use certificate::Certificate;
 use feedback_cut::LoopGroups;
-use flat_net::FlatNet;
+use flat_net::{FlatNet, nodes_of};
 use recovery_depth::Deep;
 use std::alloc::{AllocError, Global};
 use tmr_base::PartId;

@@ -16,9 +16,9 @@ use crate::certifying::{copies_of, depths_of, labels_of, of_version, partitions_
 use crate::naming::hardened_clock;
 use crate::ordering::hardened_order;
 use crate::pins::first_copy;
-use crate::voting::{VotedPins, nodes_of};
+use crate::voting::VotedPins;
 use certificate::{CertDraft, Certificate, Role};
-use flat_net::{FlatNet, PackedNodes};
+use flat_net::{FlatNet, PackedNodes, nodes_of};
 use indexmap::IndexSet;
 use recovery_depth::Extra;
 use std::alloc::Global;

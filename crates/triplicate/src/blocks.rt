@@ -5,8 +5,8 @@ ghost use Rattle.triplicate.specs.Pins.{pin_is_voted};
 ghost use Rattle.triplicate.specs.Blocks.{copies_of, hardened_roles};
 ghost use Rattle.triplicate.specs.Starts.{AreVoterRows, AreStarts};
 
-use crate::voting::{VotedPins, nodes_of};
-use flat_net::FlatNet;
+use crate::voting::VotedPins;
+use flat_net::{FlatNet, nodes_of};
 use partitioner::Packed;
 use std::alloc::Global;
 use tmr_base::{OutOfMemory, Parts};

@@ -13,9 +13,9 @@ ghost use Rattle.triplicate.specs.Form.{version_of};
 ghost use Rattle.triplicate.specs.Starts.{AreStarts};
 
 use crate::pins::first_copy;
-use crate::voting::{VotedPins, nodes_of};
+use crate::voting::VotedPins;
 use certificate::{CertDraft, Certificate, Role};
-use flat_net::FlatNet;
+use flat_net::{FlatNet, nodes_of};
 use recovery_depth::Extra;
 use std::alloc::Global;
 use tmr_base::{NetId, OutOfMemory, PartId, Parts};

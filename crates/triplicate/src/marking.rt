@@ -6,9 +6,8 @@ ghost use Rattle.certificate.specs.Cert.{Fits, role_of};
 ghost use Rattle.flat_net.specs.Free.{node_bit};
 ghost use Rattle.certificate.specs.Starts.{counted, role_start, spread_start};
 
-use crate::voting::nodes_of;
 use certificate::{Certificate, Role};
-use flat_net::{FlatNet, FreeNet};
+use flat_net::{FlatNet, FreeNet, nodes_of};
 use std::alloc::Global;
 use tmr_base::{NetId, OutOfMemory};
 

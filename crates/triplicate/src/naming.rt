@@ -4,8 +4,7 @@ ghost use Rattle.tmr_base.specs.Copies.{copy_number};
 ghost use Rattle.flat_net.specs.Draft.{AreDistinct};
 ghost use Rattle.triplicate.specs.Blocks.{hardened_inputs, hardened_clock};
 
-use crate::voting::nodes_of;
-use flat_net::FlatNet;
+use flat_net::{FlatNet, nodes_of};
 use indexmap::IndexSet;
 use std::alloc::Global;
 use tmr_base::{CopyNo, Edge, Name, NetId, OutOfMemory, clock_name, copy_name};

@@ -8,8 +8,8 @@ ghost use Rattle.triplicate.specs.Construction.{block_nets, is_register_net, is_
 ghost use Rattle.triplicate.specs.Starts.{AreStarts};
 
 use crate::blocks::room_of;
-use crate::voting::{VotedPins, nodes_of};
-use flat_net::{FlatNet, Kind};
+use crate::voting::VotedPins;
+use flat_net::{FlatNet, Kind, nodes_of};
 use std::alloc::Global;
 use tmr_base::{NetId, OutOfMemory, Parts};
 

@@ -12,8 +12,8 @@ ghost use Rattle.triplicate.specs.Numbers.{copy_net, voter_net};
 ghost use Rattle.triplicate.specs.Starts.{AreVoterRows, AreStarts};
 
 use crate::blocks::copies;
-use crate::voting::{VotedPins, is_voted, nodes_of};
-use flat_net::FlatNet;
+use crate::voting::{VotedPins, is_voted};
+use flat_net::{FlatNet, nodes_of};
 use partitioner::Packed;
 use tmr_base::{NetId, OutOfMemory, Parts};
 

@@ -7,8 +7,8 @@ ghost use Rattle.partitioner.specs.Noting.{Lists};
 ghost use Rattle.triplicate.specs.Pins.{pin_is_voted};
 ghost use Rattle.triplicate.specs.Noted.{is_in, needs, pin_noted, pins_noted, nodes_noted, parts_noted};
 
-use crate::voting::{VotedPins, is_voted, nodes_of};
-use flat_net::FlatNet;
+use crate::voting::{VotedPins, is_voted};
+use flat_net::{FlatNet, nodes_of};
 use partitioner::{Packed, Rows, note, packed_rows};
 use std::alloc::Global;
 use tmr_base::{NetId, OutOfMemory, Parts};

@@ -1,6 +1,5 @@
 //! Which pins are voted.
-ghost use Rattle.std.specs.Prelude.{◌≡◌, ◌+◌, ◌<◌, ℕ, length};
-ghost use Rattle.flat_net.specs.Net.{IsDesign};
+ghost use Rattle.std.specs.Prelude.{◌≡◌, ◌<◌, ℕ, length};
 ghost use Rattle.graph.specs.Rows.{row};
 ghost use Rattle.feedback_cut.specs.Inner.{node_pins};
 ghost use Rattle.feedback_cut.specs.Cut.{CutMeets};
@@ -8,20 +7,10 @@ ghost use Rattle.recovery_depth.specs.Extra.{is_cut_or_extra};
 ghost use Rattle.triplicate.specs.Pins.{pin_is_voted};
 
 use feedback_cut::CutPins;
-use flat_net::FlatNet;
+use flat_net::{FlatNet, nodes_of};
 use recovery_depth::Extra;
 use std::marker::Model;
 use tmr_base::{NetId, Parts};
-
-/// How many nodes there are.
-pub fn nodes_of(n: &FlatNet) -> u32
-    ensures count { result ≡ length n.now.net.nodes }
-    ensures few { length n.now.net.inputs + length n.now.net.nodes < 4294967295 }
-    ensures design { IsDesign n.now }
-{
-    let _inputs = n.input_count();
-    n.node_count()
-}
 
 /// Which pins are voted: whether those that read inputs are, the cut ones, and extra ones.
 #[derive(Drop)]
