@@ -7,7 +7,7 @@ use Rattle.flat_net.specs.Draft.{PlainDraft, Element, TableOf, LatchOf}
 
 abbrev pub plain_element : DraftElement → Element
 plain_element (TableElement pins out cover) = TableOf pins.items out cover
-plain_element (LatchElement pin out control init) = LatchOf pin out control init
+plain_element (LatchElement pin out control init) = LatchOf pin out control.value init
 
 abbrev pub draft_of : Inside → PlainDraft
 draft_of d = record { model = d.model; inputs = d.inputs.items; outputs = d.outputs.items; elements = map plain_element d.elements.items }

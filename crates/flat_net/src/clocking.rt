@@ -42,7 +42,7 @@ pub fn first_latch(elements: &[DraftElement]) -> Option<&Option<(Edge, Name)>>
 {
     for element in elements {
         if let DraftElement::LatchElement { control, .. } = element {
-            return Some(control);
+            return Some(&**control);
         }
     }
     None

@@ -8,7 +8,7 @@ use std::marker::Model;
 use table_cover::Cover;
 use tmr_base::{Edge, Name, OutOfMemory};
 
-/// A table or a latch, by name.
+/// A table or a latch, by name. A latch's control lies apart, since a draft has room for the largest element at each.
 #[derive(Drop)]
 pub enum DraftElement {
     TableElement {
@@ -19,7 +19,7 @@ pub enum DraftElement {
     LatchElement {
         pin: Name,
         out: Name,
-        control: Option<(Edge, Name)>,
+        control: Box<Option<(Edge, Name)>>,
         init: bool,
     },
 }
@@ -124,6 +124,7 @@ impl Draft {
     {
         let _out = out.bytes();
         let _control = control_name(&control);
+        let control = Box::new(*self.elements.allocator(), control)?;
         self.elements.push(DraftElement::LatchElement {
             pin,
             out,

@@ -9,7 +9,7 @@ use Rattle.flat_net.proofs.clocking.first_latch.Goals as goal
 pub returns-in-LatchElement : goal.returns-in-LatchElement
 returns-in-LatchElement c =
     let all = split_here plain_element c.args.elements.now c.loop-element.element-index c.element-item.result c.loop-element-test.true c.element-item.is in
-    sym (ap first_control all ∙ (first_control-none (map plain_element (take c.loop-element.element-index c.args.elements.now)) (plain_element c.element-item.result ∷ (map plain_element (drop (c.loop-element.element-index + 1) c.args.elements.now))) c.loop-element.invariant ∙ ap (λ (e : DraftElement). first_control (plain_element e ∷ map plain_element (drop (c.loop-element.element-index + 1) c.args.elements.now))) c.in-LatchElement.is))
+    rw c.deref.ensures (sym (ap first_control all ∙ (first_control-none (map plain_element (take c.loop-element.element-index c.args.elements.now)) (plain_element c.element-item.result ∷ (map plain_element (drop (c.loop-element.element-index + 1) c.args.elements.now))) c.loop-element.invariant ∙ ap (λ (e : DraftElement). first_control (plain_element e ∷ map plain_element (drop (c.loop-element.element-index + 1) c.args.elements.now))) c.in-LatchElement.is)))
 
 pub loop-element-preserved : goal.loop-element-preserved
 loop-element-preserved c =
