@@ -8,8 +8,7 @@ use Rattle.std.proofs.lemmas.Bool.{false≢true}
 use Rattle.indexmap.specs.IndexSet.{remove_key}
 use Rattle.tmr_base.specs.declared.ids.Edge.{Edge}
 use Rattle.flat_net.specs.Nodes.{number_of}
-use Rattle.flat_net.specs.Net.{Net, Node, register_count}
-use Rattle.flat_net.specs.Unordered.{IsUnordered}
+use Rattle.flat_net.specs.Net.{Net, Node, register_count, IsUnordered}
 use Rattle.flat_net.specs.declared.wiring.Wiring.TheInside.{Inside}
 use Rattle.flat_net.specs.View.{net_of, IsWiring}
 use Rattle.flat_net.specs.Draft.{PlainDraft, Element, out_of, AreDistinct}

@@ -1,16 +1,15 @@
 -- One node more that is packed.
-use Rattle.std.proofs.Common.{◌≡◌, ℕ, ◌+◌, ◌<◌, ◌≤◌, List, [], ◌∷◌, ◌++◌, length, map, take, drop, refl, sym, ap, ◌∙◌, subst, arith, if◌then◌else◌}
+use Rattle.std.proofs.Common.{◌≡◌, ℕ, ◌+◌, List, [], ◌∷◌, ◌++◌, length, map, take, drop, refl, sym, ap, ◌∙◌, subst, arith, if◌then◌else◌}
 use Rattle.std.specs.Prelude.{count_by}
 use Rattle.std.proofs.lemmas.List.{length-map, length-append, map-append, length_push, take_at, drop_at}
 use Rattle.flat_net.specs.declared.nodes.Body.{Body}
 use Rattle.flat_net.specs.declared.nodes.PackedNodes.{PackedNodes}
 use Rattle.flat_net.specs.Nodes.{number_of}
 use Rattle.tmr_base.specs.declared.ids.NetId.{NetId}
-use Rattle.flat_net.specs.Net.{Net, Node, is_register, register_count, node_name, net_names, IsValid}
-use Rattle.flat_net.specs.Unordered.{IsUnordered}
+use Rattle.flat_net.specs.Net.{Net, Node, is_register, register_count, node_name, net_names, IsValid, IsUnordered}
 use Rattle.flat_net.specs.declared.wiring.Wiring.TheInside.{Inside}
 use Rattle.flat_net.specs.View.{net_of, IsWiring}
-use Rattle.flat_net.specs.Packed.{node_from, nodes_from, HasPins, AreEnds}
+use Rattle.flat_net.specs.Packed.{node_from, nodes_from, HasPins}
 use Rattle.flat_net.specs.Packs.{Packs}
 use Rattle.flat_net.proofs.WiredLaws.{AreEnds-push, nodes_from-push, count_push}
 use Rattle.flat_net.proofs.Packing.{same_net}

@@ -16,8 +16,7 @@ use Rattle.std.proofs.lemmas.Bool.{cases_lt, cases_order, ne_eqb, eqb-true, or_p
 use Rattle.std.proofs.lemmas.Option.{slice_get_within, get_or_from_slice_get, slice_get-map}
 use Rattle.tmr_base.specs.Names.{is_name}
 use Rattle.tmr_base.specs.declared.ids.Edge.{Edge}
-use Rattle.flat_net.specs.Net.{Node, node_of, node_name, net_names, net_count, pins_of, pin_total, is_register, IsWired, IsClockOf}
-use Rattle.flat_net.specs.Unordered.{IsUnordered}
+use Rattle.flat_net.specs.Net.{Node, node_of, node_name, net_names, net_count, pins_of, pin_total, is_register, IsWired, IsClockOf, IsUnordered}
 use Rattle.flat_net.specs.Draft.{PlainDraft, Element, TableOf, LatchOf, out_of, reads_of, IsDraft, IsElement, AreDistinct}
 use Rattle.flat_net.specs.First.{HasNone}
 use Rattle.flat_net.specs.Faults.{is_among, is_no_net, number_in, node_of_element, net_inputs, draft_names, draft_reads, clock_of, clock_from, first_control, is_clock, net_of_draft, IsDrivenOnce, HasCleanClock, IsDriven}

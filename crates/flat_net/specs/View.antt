@@ -2,9 +2,8 @@
 use Rattle.std.specs.Prelude.{◌≡◌, ◌+◌, length, map, take, drop}
 use Rattle.flat_net.specs.declared.wiring.Wiring.TheInside.{Inside}
 use Rattle.flat_net.specs.Nodes.{number_of}
-use Rattle.flat_net.specs.Net.{Net, register_count}
+use Rattle.flat_net.specs.Net.{Net, register_count, IsUnordered}
 use Rattle.flat_net.specs.Packed.{nodes_from, AreEnds}
-use Rattle.flat_net.specs.Unordered.{IsUnordered}
 
 abbrev pub net_of : Inside → Net
 net_of w = record {

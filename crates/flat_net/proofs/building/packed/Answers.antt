@@ -1,6 +1,6 @@
 use Rattle.std.proofs.Common.{◌≡◌, ◌-◌, length, map, subst, ap, ◌∙◌, arith}
 use Rattle.std.proofs.lemmas.List.{length-append, length-map}
-use Rattle.flat_net.specs.Unordered.{IsUnordered}
+use Rattle.flat_net.specs.Net.{IsUnordered}
 use Rattle.flat_net.specs.Draft.{PlainDraft, IsDraft, out_of}
 use Rattle.flat_net.specs.DraftView.{plain_element}
 use Rattle.flat_net.specs.Faults.{draft_names, net_inputs, net_of_draft}
