@@ -1,8 +1,9 @@
 -- The design of a draft, and the first fault of a draft that has none.
-use Rattle.std.specs.Prelude.{◌≡◌, ℕ, Bool, true, false, not, ◌&&◌, ◌||◌, List, [], ◌∷◌, ◌++◌, map, filter, position, codes, Option, Some, None}
+use Rattle.std.specs.Prelude.{◌≡◌, ℕ, Bool, true, false, not, ◌&&◌, ◌||◌, List, [], ◌∷◌, ◌++◌, map, filter, position, codes, Option, Some, None, Vec}
 use Rattle.std.specs.List.{flat_map, list_any}
 use Rattle.std.specs.Option.{unwrap_or}
 use Rattle.std.specs.Str.{bytes_eq}
+use Rattle.std.specs.declared.alloc.Global.{Global}
 use Rattle.tmr_base.specs.declared.ids.Edge.{Edge}
 use Rattle.tmr_base.specs.declared.ids.Edge.TheVariants.{Rising, Falling}
 use Rattle.flat_net.specs.Net.{Net, Node, Table, Register, name_of, IsOrder}
@@ -166,3 +167,8 @@ IsFaultOf d (ClockUse name) = IsDrivenOnce d × HasOneClock d × IsClockUse d na
 IsFaultOf d (Undriven name) = IsDrivenOnce d × HasOneClock d × HasCleanClock d × IsUndriven d name
 IsFaultOf d (CombLoop names) = IsDrivenOnce d × HasOneClock d × HasCleanClock d × IsDriven d × IsCombLoop d names.items
 IsFaultOf d Memory = Unit {0}
+
+-- the same fault, where a loop may be told by any list that is one
+pub data IsSameFault : NetFault → NetFault → Type 0 where
+  same : (fault : NetFault) → IsSameFault fault fault
+  of_tables : (names others : Vec (List ℕ) Global) → IsSameFault (CombLoop names) (CombLoop others)

@@ -1,12 +1,12 @@
 //! The design of a draft.
-ghost use Rattle.std.specs.Prelude.{◌≡◌, ◌≢◌, ℕ, ◌+◌, ◌<◌, ◌++◌, List, true, map, length, slice_index, MatchOption, OnOk, IfOk, IfErr};
+ghost use Rattle.std.specs.Prelude.{◌≡◌, ◌≢◌, ℕ, ◌+◌, ◌<◌, ◌++◌, List, true, map, length, slice_index, ◌⊎◌, MatchOption, MatchResult, OnOk, IfOk, IfErr, IsErrAnd};
 ghost use Rattle.std.specs.Str.{bytes_eq};
 ghost use Rattle.indexmap.specs.IndexSet.{remove_key};
 ghost use Rattle.flat_net.specs.Net.{Design, IsDesign, IsOrder, name_of, net_count};
 ghost use Rattle.flat_net.specs.Nodes.{number_of};
 ghost use Rattle.flat_net.specs.Draft.{AreDistinct, out_of};
 ghost use Rattle.flat_net.specs.DraftView.{plain_element};
-ghost use Rattle.flat_net.specs.Faults.{first_control, clock_from, clock_of, draft_names, draft_reads, number_in, net_of_draft, IsDrivenOnce, HasOneClock, HasCleanClock, IsDriven, IsFaultless, IsLoopFault, IsFaultOf};
+ghost use Rattle.flat_net.specs.Faults.{first_control, clock_from, clock_of, draft_names, draft_reads, number_in, net_of_draft, IsDrivenOnce, HasOneClock, HasCleanClock, IsDriven, IsFaultless, IsLoopFault, IsFaultOf, IsSameFault};
 ghost use Rattle.flat_net.specs.Wired.{AreWires};
 
 use crate::clocking::{check_clock, check_clocking, first_latch};
@@ -155,16 +155,8 @@ fn ordered(alloc: Global, wiring: Wiring) -> Result<FlatNet, NetFault>
     }
 }
 
-/// The design of the draft, or its first fault. The draft is consumed.
-///
-/// `DoubleDriven` comes exactly where an element's output is a main input or the output of an earlier
-/// element, and names the first such output. Where it does not come, `MixedClock` comes exactly where
-/// two latches differ in their clocking, and names the output of the first that differs from the first
-/// of all. Then `ClockUse` comes exactly where the common control is named `NIL`, is no main input, is a
-/// pin, or is a main output. Then `Undriven` comes exactly where a pin or a main output is no net, and
-/// names the first pin, and then the first output. Then `CombLoop` comes exactly where tables read each
-/// other in a loop.
-pub fn build(alloc: Global, draft: Draft) -> Result<FlatNet, NetFault>
+/// The design of the draft, or its first fault.
+fn design_or_fault(alloc: Global, draft: Draft) -> Result<FlatNet, NetFault>
     requires inputs { AreDistinct draft.inputs }
     requires outputs { AreDistinct draft.outputs }
     requires nets { length draft.inputs + length draft.elements < 4294967295 }
@@ -194,4 +186,31 @@ pub fn build(alloc: Global, draft: Draft) -> Result<FlatNet, NetFault>
         Ok(net) => Ok(net),
         Err(fault) => Err(fault),
     }
+}
+
+/// The design of the draft, or its first fault. The draft is consumed.
+///
+/// `DoubleDriven` comes exactly where an element's output is a main input or the output of an earlier
+/// element, and names the first such output. Where it does not come, `MixedClock` comes exactly where
+/// two latches differ in their clocking, and names the output of the first that differs from the first
+/// of all. Then `ClockUse` comes exactly where the common control is named `NIL`, is no main input, is a
+/// pin, or is a main output. Then `Undriven` comes exactly where a pin or a main output is no net, and
+/// names the first pin, and then the first output. Then `CombLoop` comes exactly where tables read each
+/// other in a loop.
+///
+/// Where the draft has no fault, its design is the answer. Where it has one, that one is, of which a loop may
+/// be told by any list that is one. It never has both, nor two. `Memory` may come in place of either.
+pub fn build(alloc: Global, draft: Draft) -> Result<FlatNet, NetFault>
+    requires inputs { AreDistinct draft.inputs }
+    requires outputs { AreDistinct draft.outputs }
+    requires nets { length draft.inputs + length draft.elements < 4294967295 }
+    requires pins { length (draft_reads draft) < 4294967295 }
+    ensures ok { IfOk result (λ net. net.net ≡ net_of_draft draft) }
+    ensures faultless { OnOk result (IsFaultless draft) }
+    ensures fault { IfErr result (λ fault. IsFaultOf draft fault) }
+    ensures ok_only { IsFaultless draft → MatchResult result (λ net. net.net ≡ net_of_draft draft) (λ fault. fault ≡ NetFault.Memory) }
+    ensures fault_only { (fault : NetFault) → fault ≢ NetFault.Memory → IsFaultOf draft fault
+        → IsErrAnd result (λ answered. (answered ≡ NetFault.Memory) ⊎ IsSameFault answered fault) }
+{
+    design_or_fault(alloc, draft)
 }
