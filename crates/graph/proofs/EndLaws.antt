@@ -5,7 +5,7 @@ use Rattle.std.proofs.lemmas.List.{take_all, take-append-le, drop-append-le, len
 use Rattle.std.proofs.lemmas.List.Edits.{length-between, between_none}
 use Rattle.std.proofs.Math.Seq.{drop-append_seam}
 use Rattle.graph.specs.declared.spans.Span.{Span}
-use Rattle.graph.specs.Packed.{rows_from, AreEnds, AreRows, start_of, emptied_from, span_in, room_in, ArePacked}
+use Rattle.graph.specs.Private.Packed.{rows_from, AreEnds, AreRows, start_of, emptied_from, span_in, room_in, ArePacked}
 
 pub length-rows_from : (from : ℕ) (ends items : List ℕ) → length (rows_from from ends items) ≡ length ends
 length-rows_from from [] items = refl

@@ -5,7 +5,7 @@ use Rattle.std.proofs.lemmas.List.Edits.{length-between, between_more}
 use Rattle.std.proofs.lemmas.Slice.{between_is}
 use Rattle.std.proofs.Math.Seq.{map-set_same}
 use Rattle.graph.specs.declared.spans.Span.{Span}
-use Rattle.graph.specs.Packed.{span_in, grown, room_in, ArePacked}
+use Rattle.graph.specs.Private.Packed.{span_in, grown, room_in, ArePacked}
 
 -- a span stands behind `start`, and within the first `count` places
 pub record IsPlaced (start count : ℕ) (s : Span) : Type 0 where

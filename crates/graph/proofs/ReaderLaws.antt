@@ -3,7 +3,8 @@ use Rattle.std.proofs.Common.{◌≡◌, ℕ, ◌+◌, ◌<◌, ◌≤◌, ◌�
 use Rattle.std.proofs.lemmas.Bool.{cases_eq, cases_lt}
 use Rattle.std.proofs.lemmas.List.{get_or-set_same, get_or-set_other, get_or_past, get_or-replicate, length-set, length-replicate}
 use Rattle.graph.specs.Rows.{row, Stands, Follows}
-use Rattle.graph.specs.Readers.{StandsBefore, ListsTo, AreReaders}
+use Rattle.graph.specs.Readers.{AreReaders}
+use Rattle.graph.specs.Private.Listing.{StandsBefore, ListsTo}
 use Rattle.graph.proofs.Places.{PushedAt, push_cases, stands_push, stands_last, reader_within}
 
 -- a place before the next one

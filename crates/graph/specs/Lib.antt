@@ -4,5 +4,5 @@ pub mod Search
 pub mod Orders
 pub mod Sorted
 pub mod Readers
-pub mod Packed
 pub mod Turned
+pub mod Private

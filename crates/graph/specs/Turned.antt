@@ -1,4 +1,4 @@
--- The end of a list, turned so that it begins with its least number. For the search alone.
+-- The end of a list, turned so that it begins with its least number.
 use Rattle.std.specs.Prelude.{◌≡◌, ℕ, ◌<◌, ◌≤◌, ◌++◌, List, length, drop, slice_index, slice_range}
 
 -- what begins with y at the end of the list, turned so that it begins with its least number

@@ -1,7 +1,7 @@
 //! Rows of bits that grow in the places that are kept for them.
 ghost use Rattle.std.specs.Prelude.{◌≡◌, ◌<◌, ◌≤◌, ◌++◌, ◌∷◌, [], length, map, false, slice_set, slice_index, slice_index_or};
 ghost use Rattle.graph.specs.Rows.{row};
-ghost use Rattle.graph.specs.Packed.{span_in, grown, room_in, ArePacked};
+ghost use Rattle.graph.specs.Private.Packed.{span_in, grown, room_in, ArePacked};
 
 use crate::spans::Span;
 use std::marker::Model;
@@ -15,11 +15,11 @@ pub struct Decisions {
 
 impl Model for Decisions {
     ghost use Rattle.std.specs.Prelude.{length, map};
-    ghost use Rattle.graph.specs.Packed.{PlainDecisions};
+    ghost use Rattle.graph.specs.Private.Packed.{PlainDecisions};
 
     ghost Value = { PlainDecisions };
 
-    ghost use Rattle.graph.specs.Packed.{span_in, room_in, ArePacked};
+    ghost use Rattle.graph.specs.Private.Packed.{span_in, room_in, ArePacked};
 
     ghost view = { λ d. record { rows = map (span_in d.bits.items) d.spans.items; room = map room_in d.spans.items } };
 

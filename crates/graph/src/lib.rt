@@ -24,3 +24,4 @@ pub use readers::Readers;
 pub use reversing::readers_of;
 pub use rows::Graph;
 pub use searching::{Searched, search};
+pub use turning::keep_first;

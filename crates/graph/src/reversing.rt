@@ -1,7 +1,8 @@
 //! Which vertices read each vertex.
 ghost use Rattle.std.specs.Prelude.{◌≡◌, ◌<◌, ◌+◌, length, IfOk, OnOk, slice_index};
 ghost use Rattle.graph.specs.Rows.{row};
-ghost use Rattle.graph.specs.Readers.{ListsTo, AreReaders};
+ghost use Rattle.graph.specs.Readers.{AreReaders};
+ghost use Rattle.graph.specs.Private.Listing.{ListsTo};
 
 use crate::Graph;
 use crate::readers::Readers;

@@ -1,7 +1,7 @@
 //! Which vertex reads which.
 ghost use Rattle.std.specs.Prelude.{◌≡◌, ◌<◌, ◌≤◌, ◌++◌, ◌∷◌, [], ℕ, List, length, map, replicate, slice_index, slice_range, IfOk, OnOk};
 ghost use Rattle.graph.specs.Rows.{row};
-ghost use Rattle.graph.specs.Packed.{rows_from, emptied_from, start_of, AreEnds};
+ghost use Rattle.graph.specs.Private.Packed.{rows_from, emptied_from, start_of, AreEnds};
 
 use crate::deciding::Decisions;
 use crate::spans::Span;
@@ -22,7 +22,7 @@ impl Model for Graph {
 
     ghost Value = { List (List ℕ) };
 
-    ghost use Rattle.graph.specs.Packed.{rows_from, AreRows};
+    ghost use Rattle.graph.specs.Private.Packed.{rows_from, AreRows};
 
     ghost view = { λ g. rows_from 0 g.ends.items g.reads.items };
 
@@ -81,6 +81,15 @@ impl Graph {
             ends: Vec::new(alloc),
             reads: Vec::new(alloc),
         }
+    }
+
+    /// No vertices, with room for so many, which read so many together.
+    pub fn with_room(alloc: Global, vertices: usize, reads: usize) -> Result<Graph, OutOfMemory>
+        ensures { IfOk result (λ g. g ≡ []) }
+    {
+        let ends = Vec::with_capacity(alloc, vertices)?;
+        let reads = Vec::with_capacity(alloc, reads)?;
+        Ok(Graph { ends, reads })
     }
 
     /// How many vertices there are.

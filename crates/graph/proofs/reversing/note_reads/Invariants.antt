@@ -1,4 +1,4 @@
-use Rattle.graph.specs.Readers.{ListsTo}
+use Rattle.graph.specs.Private.Listing.{ListsTo}
 use Rattle.graph.proofs.reversing.note_reads.Given as goal
 
 abbrev pub invariant-loop-place : goal.invariant-loop-place

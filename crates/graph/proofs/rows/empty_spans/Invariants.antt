@@ -1,5 +1,5 @@
 use Rattle.std.proofs.Common.{◌≡◌, take}
-use Rattle.graph.specs.Packed.{emptied_from, start_of}
+use Rattle.graph.specs.Private.Packed.{emptied_from, start_of}
 use Rattle.graph.proofs.rows.empty_spans.Given as goal
 
 abbrev pub invariant-loop-end : goal.invariant-loop-end

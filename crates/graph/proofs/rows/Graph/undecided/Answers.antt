@@ -1,5 +1,5 @@
 use Rattle.std.proofs.Common.{◌≡◌, [], length, map, replicate, sym, ◌∙◌, ap, subst, arith}
-use Rattle.graph.specs.Packed.{span_in, emptied_from, room_in, ArePacked}
+use Rattle.graph.specs.Private.Packed.{span_in, emptied_from, room_in, ArePacked}
 use Rattle.graph.proofs.EndLaws.{length-rows_from, emptied_packed, emptied_rows, emptied_room}
 use Rattle.graph.proofs.rows.Graph.undecided.Goals as goal
 

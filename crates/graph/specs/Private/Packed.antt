@@ -1,6 +1,11 @@
--- Rows that stand side by side in one list. For the rows of this crate alone.
+-- Rows that stand side by side in one list.
 use Rattle.std.specs.Prelude.{◌≡◌, ℕ, zero, suc, ◌+◌, ◌-◌, ◌<◌, ◌≤◌, Bool, List, [], ◌∷◌, length, slice_index, slice_range}
+use Rattle.smallvec.specs.SmallVec.{SmallVec}
 use Rattle.graph.specs.declared.spans.Span.{Span}
+
+-- the numbers of a row that stands on its own
+abbrev pub row_items : SmallVec ℕ → List ℕ
+row_items row = row.items
 
 -- the rows that end there, of which the first begins at `from`
 abbrev pub rows_from : ℕ → List ℕ → List ℕ → List (List ℕ)
