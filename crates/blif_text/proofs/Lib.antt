@@ -9,3 +9,4 @@ pub mod Examples
 pub mod Sound
 pub mod Told
 pub mod Tokens
+pub mod FirstByte

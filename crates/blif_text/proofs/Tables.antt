@@ -1,6 +1,11 @@
 -- A table kept as pins, output and cover.
 use Rattle.std.proofs.Common.{◌≡◌, ℕ, ◌-◌, ◌==◌, Bool, true, false, cond, List, [], ◌∷◌, ◌++◌, length, map, refl, sym, ◌∙◌, ap, arith, Option, Some, None, option_to_list, length-append}
-use Rattle.blif_text.specs.Kind.{row_of, row_kind, marks_kind}
+use Rattle.std.specs.Borrow.{Bor}
+use Rattle.std.proofs.lemmas.List.{map_push}
+use Rattle.blif_text.specs.declared.fault.TextKind.{TextKind}
+use Rattle.blif_text.specs.declared.fault.TextKind.TheVariants.{Arguments}
+use Rattle.blif_text.specs.Answers.{plain}
+use Rattle.blif_text.specs.Kind.{when, ◌or_else◌, name_kind, names_kind, table_kind, row_of, row_kind, marks_kind}
 use Rattle.blif_text.specs.Models.{Table, last_token, is_on, table}
 use Rattle.blif_text.specs.Progress.{OpenTable, last_output, shape_of, with_row}
 use Rattle.blif_text.specs.Views.{bit, marked, marked_rows, output_before, table_view}
@@ -70,3 +75,33 @@ row_as_kept pins out k later w tokens hw h =
   where
     width : length pins ≡ length (pins ++ out ∷ []) - 1
     width = omega (arith, length-append pins (out ∷ []))
+
+-- the kind of names of which one more is read
+names_kind_push : (names : List (List ℕ)) (name : List ℕ) → names_kind (names ++ name ∷ []) ≡ (names_kind names or_else name_kind name)
+unfolding names_kind
+names_kind_push [] name = or_none (name_kind name)
+  where
+    or_none : (k : Option TextKind) → (k or_else None) ≡ k
+    or_none None = refl
+    or_none (Some k) = refl
+names_kind_push (x ∷ names) name = ap (λ k. name_kind x or_else k) (names_kind_push names name) ∙ nested (name_kind x) (names_kind names) (name_kind name)
+  where
+    nested : (a b c : Option TextKind) → (a or_else (b or_else c)) ≡ ((a or_else b) or_else c)
+    nested None b c = refl
+    nested (Some k) b c = refl
+
+-- the tokens after `.names` are the pins and, behind them, the output
+pub pins_and_output : (tokens : List (Bor (List ℕ))) (out : Bor (List ℕ)) (pins : List (Bor (List ℕ))) → tokens ≡ pins ++ out ∷ []
+    → plain pins ++ out.now ∷ [] ≡ plain tokens
+pins_and_output tokens out pins h = sym (ap plain h ∙ map_push (λ (token : Bor (List ℕ)). token.now) pins out)
+
+pub kind_of_parts : (tokens : List (Bor (List ℕ))) (out : Bor (List ℕ)) (pins : List (Bor (List ℕ))) → tokens ≡ pins ++ out ∷ []
+    → (names_kind (plain pins) or_else name_kind out.now) ≡ table_kind (plain tokens)
+unfolding table_kind
+kind_of_parts tokens out pins h =
+    sym (ap table_kind (sym (pins_and_output tokens out pins h)) ∙ ap (λ b. when b Arguments or_else names_kind (plain pins ++ out.now ∷ [])) some ∙ names_kind_push (plain pins) out.now)
+  where
+    some : (length (plain pins ++ out.now ∷ []) == 0) ≡ false
+    some = grind (arith, length-append (plain pins) (out.now ∷ []))
+
+pub ruleset table_parts = (pins_and_output, kind_of_parts)

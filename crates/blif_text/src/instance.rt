@@ -61,7 +61,7 @@ fn read_binding(alloc: Global, token: &[u8]) -> Result<(Name, Name), Refusal>
 fn read_bindings(alloc: Global, tokens: &[&[u8]]) -> Result<Vec<(Name, Name)>, Refusal>
     ensures { Answers result (bindings_kind (plain tokens.now)) (λ bs. bs.items ≡ map binding (plain tokens.now)) }
 {
-    let mut bindings = Vec::new(alloc);
+    let mut bindings = Vec::with_capacity(alloc, tokens.len())?;
     for token in tokens {
         let binding = read_binding(alloc, token)?;
         bindings.push(binding)?;

@@ -1,9 +1,9 @@
 //! The open model: what its statements have given so far.
-ghost use Rattle.std.specs.Prelude.{◌≡◌, ◌++◌, ◌∷◌, [], map, OnOk, IfOk, is_ok, Some, None, true, List, ℕ, option_map};
+ghost use Rattle.std.specs.Prelude.{◌≡◌, ◌≢◌, ◌++◌, ◌∷◌, [], map, OnOk, IfOk, is_ok, None, true, List, ℕ, option_map};
+ghost use Rattle.blif_text.specs.declared.word.Word.TheVariants.{Row};
 ghost use Rattle.blif_text.specs.Answers.{Answers, plain};
-ghost use Rattle.blif_text.specs.Kind.{kind_here, ports_kind, table_kind, row_kind, latch_kind, instance_kind};
-ghost use Rattle.blif_text.specs.Progress.{fresh, here_in, more_of, with_table, ended_model, all_elements, shape_of, with_row, with_elements};
-ghost use Rattle.blif_text.specs.Models.{appearing, register, instance};
+ghost use Rattle.blif_text.specs.Kind.{kind_here, row_kind};
+ghost use Rattle.blif_text.specs.Progress.{fresh, here_in, more_of, with_table, without_table, ended_model, all_elements, shape_of, with_row, with_elements};
 ghost use Rattle.blif_text.specs.Text.{statement_by};
 ghost use Rattle.blif_text.specs.Word.{is_inner};
 ghost use Rattle.blif_text.specs.Views.{plain_element, plain_model};
@@ -31,7 +31,6 @@ pub(crate) struct OpenModel {
     outputs: IndexSet<Name>,
     elements: Vec<Element>,
     table: Option<OpenTable>,
-    covers: Covers,
 }
 
 impl Model for OpenModel {
@@ -79,100 +78,15 @@ impl OpenModel {
             outputs: IndexSet::new(alloc),
             elements: Vec::new(alloc),
             table: None,
-            covers: Covers::new(alloc),
         }
     }
 
     /// Ends the table whose rows are being read, if there is one.
-    fn end_rows(&mut self) -> Result<(), AllocError>
-        ensures { OnOk result (self.new ≡ record {
-          name = self.old.name;
-          inputs = self.old.inputs;
-          clocks = self.old.clocks;
-          ports = self.old.ports;
-          outputs = self.old.outputs;
-          elements = all_elements self.old;
-          table = None;
-        }) }
+    fn end_rows(&mut self, covers: &mut Covers) -> Result<(), AllocError>
+        ensures { OnOk result (self.new ≡ without_table self.old) }
     {
         let table = self.table.take();
-        end_table(&mut self.elements, table, &mut self.covers)
-    }
-
-    /// Takes the tokens after `.inputs`.
-    fn take_inputs(&mut self, alloc: Global, tokens: &[&[u8]]) -> Result<(), Refusal>
-        ensures { Answers result (ports_kind self.old.inputs (plain tokens.now)) (λ _. self.new ≡ record {
-          name = self.old.name;
-          inputs = self.old.inputs ++ plain tokens.now;
-          clocks = self.old.clocks;
-          ports = appearing self.old.ports (plain tokens.now);
-          outputs = self.old.outputs;
-          elements = all_elements self.old;
-          table = None;
-        }) }
-    {
-        match list_inputs(alloc, &mut self.inputs, &mut self.ports, tokens) {
-            Ok(()) => Ok(self.end_rows()?),
-            Err(refusal) => Err(refusal),
-        }
-    }
-
-    /// Takes the tokens after `.clock`.
-    fn take_clocks(&mut self, alloc: Global, tokens: &[&[u8]]) -> Result<(), Refusal>
-        ensures { Answers result (ports_kind self.old.clocks (plain tokens.now)) (λ _. self.new ≡ record {
-          name = self.old.name;
-          inputs = self.old.inputs;
-          clocks = self.old.clocks ++ plain tokens.now;
-          ports = appearing self.old.ports (plain tokens.now);
-          outputs = self.old.outputs;
-          elements = all_elements self.old;
-          table = None;
-        }) }
-    {
-        match list_inputs(alloc, &mut self.clocks, &mut self.ports, tokens) {
-            Ok(()) => Ok(self.end_rows()?),
-            Err(refusal) => Err(refusal),
-        }
-    }
-
-    /// Takes the tokens after `.outputs`.
-    fn take_outputs(&mut self, alloc: Global, tokens: &[&[u8]]) -> Result<(), Refusal>
-        ensures { Answers result (ports_kind self.old.outputs (plain tokens.now)) (λ _. self.new ≡ record {
-          name = self.old.name;
-          inputs = self.old.inputs;
-          clocks = self.old.clocks;
-          ports = self.old.ports;
-          outputs = self.old.outputs ++ plain tokens.now;
-          elements = all_elements self.old;
-          table = None;
-        }) }
-    {
-        match list_names(alloc, &mut self.outputs, tokens) {
-            Ok(()) => Ok(self.end_rows()?),
-            Err(refusal) => Err(refusal),
-        }
-    }
-
-    /// Takes the tokens after `.names`.
-    fn take_table(&mut self, alloc: Global, tokens: &[&[u8]]) -> Result<(), Refusal>
-        ensures { Answers result (table_kind (plain tokens.now)) (λ _. self.new ≡ record {
-          name = self.old.name;
-          inputs = self.old.inputs;
-          clocks = self.old.clocks;
-          ports = self.old.ports;
-          outputs = self.old.outputs;
-          elements = all_elements self.old;
-          table = Some (record { tokens = plain tokens.now; rows = [] });
-        }) }
-    {
-        match OpenTable::read(alloc, tokens) {
-            Ok(table) => {
-                self.end_rows()?;
-                self.table = Some(table);
-                Ok(())
-            }
-            Err(refusal) => Err(refusal),
-        }
+        end_table(&mut self.elements, table, covers)
     }
 
     /// Takes a row.
@@ -196,29 +110,47 @@ impl OpenModel {
 
     /// Takes one element, as `register` or `instance` has it of the tokens.
     fn put(&mut self, element: Element) -> Result<(), AllocError>
+        requires { self.old.table ≡ None }
         ensures { OnOk result (self.new ≡ with_elements self.old (plain_element element ∷ []) None) }
     {
-        self.end_rows()?;
         Ok(self.elements.push(element)?)
     }
 
-    /// Takes the tokens after `.latch`.
-    fn take_latch(&mut self, alloc: Global, tokens: &[&[u8]]) -> Result<(), Refusal>
-        ensures { Answers result (latch_kind (plain tokens.now)) (λ _. self.new ≡ with_elements self.old (register (plain tokens.now)) None) }
+    /// Takes a statement that is no row, where no table has rows to come.
+    fn take_arguments(
+        &mut self,
+        alloc: Global,
+        word: Word,
+        arguments: &[&[u8]],
+    ) -> Result<(), Refusal>
+        requires inner { is_inner word ≡ true }
+        requires no_row { word ≢ Row }
+        requires no_table { self.old.table ≡ None }
+        ensures { (line : ℕ) (first : List ℕ) (models : List (List ℕ)) → Answers result (kind_here word models (here_in self.old) (statement_by line word first (plain arguments.now)))
+            (λ _. self.new ≡ more_of word (statement_by line word first (plain arguments.now)) self.old) }
     {
-        match read_latch(alloc, tokens) {
-            Ok(latch) => Ok(self.put(latch)?),
-            Err(refusal) => Err(refusal),
-        }
-    }
-
-    /// Takes the tokens after `.subckt`.
-    fn take_instance(&mut self, alloc: Global, tokens: &[&[u8]]) -> Result<(), Refusal>
-        ensures { Answers result (instance_kind (plain tokens.now)) (λ _. self.new ≡ with_elements self.old (instance (plain tokens.now)) None) }
-    {
-        match read_instance(alloc, tokens) {
-            Ok(instance) => Ok(self.put(instance)?),
-            Err(refusal) => Err(refusal),
+        match word {
+            Word::Inputs => list_inputs(alloc, &mut self.inputs, &mut self.ports, arguments),
+            Word::Clock => list_inputs(alloc, &mut self.clocks, &mut self.ports, arguments),
+            Word::Outputs => list_names(alloc, &mut self.outputs, arguments),
+            Word::Names => match OpenTable::read(alloc, arguments) {
+                Ok(table) => {
+                    self.table = Some(table);
+                    Ok(())
+                }
+                Err(refusal) => Err(refusal),
+            },
+            Word::Latch => match read_latch(alloc, arguments) {
+                Ok(latch) => Ok(self.put(latch)?),
+                Err(refusal) => Err(refusal),
+            },
+            Word::Subckt => match read_instance(alloc, arguments) {
+                Ok(instance) => Ok(self.put(instance)?),
+                Err(refusal) => Err(refusal),
+            },
+            Word::Unknown | Word::Model | Word::End | Word::Row => {
+                Err(Refusal::Bad(TextKind::Unsupported))
+            }
         }
     }
 
@@ -226,6 +158,7 @@ impl OpenModel {
     pub fn take(
         &mut self,
         alloc: Global,
+        covers: &mut Covers,
         word: Word,
         first: &[u8],
         arguments: &[&[u8]],
@@ -235,34 +168,36 @@ impl OpenModel {
             (λ _. self.new ≡ more_of word (statement_by line word first.now (plain arguments.now)) self.old) }
     {
         match word {
-            Word::Inputs => self.take_inputs(alloc, arguments),
-            Word::Clock => self.take_clocks(alloc, arguments),
-            Word::Outputs => self.take_outputs(alloc, arguments),
-            Word::Names => self.take_table(alloc, arguments),
-            Word::Latch => self.take_latch(alloc, arguments),
-            Word::Subckt => self.take_instance(alloc, arguments),
             Word::Row => self.take_row(first, arguments),
-            Word::Unknown | Word::Model | Word::End => Err(Refusal::Bad(TextKind::Unsupported)),
+            word => {
+                self.end_rows(covers)?;
+                self.take_arguments(alloc, word, arguments)
+            }
         }
     }
 
     /// The inputs and the outputs in their order, where no more statements come.
-    fn end_lists(&mut self, alloc: Global) -> Result<(Vec<Name>, Vec<Name>), AllocError>
+    fn end_lists(
+        &mut self,
+        alloc: Global,
+        covers: &mut Covers,
+    ) -> Result<(Vec<Name>, Vec<Name>), AllocError>
         ensures lists { IfOk result (λ lists. (lists.0.items ≡ self.old.ports) × (lists.1.items ≡ self.old.outputs)) }
         ensures name { OnOk result (self.new.name ≡ self.old.name) }
         ensures elements { OnOk result (self.new.elements ≡ all_elements self.old) }
     {
-        self.end_rows()?;
+        self.end_rows(covers)?;
+        self.elements.shrink_to_fit();
         let inputs = in_order(alloc, replace(&mut self.ports, IndexSet::new(alloc)))?;
         let outputs = in_order(alloc, replace(&mut self.outputs, IndexSet::new(alloc)))?;
         Ok((inputs, outputs))
     }
 
     /// The model, where no more statements come.
-    pub fn ended(mut self, alloc: Global) -> Result<BlifModel, AllocError>
+    pub fn ended(mut self, alloc: Global, covers: &mut Covers) -> Result<BlifModel, AllocError>
         ensures { IfOk result (λ m. plain_model m ≡ ended_model self) }
     {
-        let lists = self.end_lists(alloc);
+        let lists = self.end_lists(alloc, covers);
         let (name, elements) = self.into_parts();
         whole_model(name, elements, lists)
     }
@@ -296,9 +231,11 @@ fn whole_model(
     }
 }
 
-/// The names of a set in their order.
+/// The names of a set in their order, in a vector without room for more.
 fn in_order(alloc: Global, names: IndexSet<Name>) -> Result<Vec<Name>, AllocError>
     ensures { IfOk result (λ v. v.items ≡ names.keys) }
 {
-    names.into_iter().collect(alloc)
+    let mut names: Vec<Name> = names.into_iter().collect(alloc)?;
+    names.shrink_to_fit();
+    Ok(names)
 }

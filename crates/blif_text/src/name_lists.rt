@@ -24,7 +24,7 @@ pub(crate) fn read_name(alloc: Global, token: &[u8]) -> Result<Name, Refusal>
 pub(crate) fn read_names(alloc: Global, tokens: &[&[u8]]) -> Result<Vec<Name>, Refusal>
     ensures { Answers result (names_kind (plain tokens.now)) (λ names. names.items ≡ plain tokens.now) }
 {
-    let mut names = Vec::new(alloc);
+    let mut names = Vec::with_capacity(alloc, tokens.len())?;
     for token in tokens {
         let name = read_name(alloc, token)?;
         names.push(name)?;

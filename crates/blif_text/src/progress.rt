@@ -18,6 +18,7 @@ use indexmap::IndexSet;
 use std::alloc::{AllocError, Global};
 use std::marker::Model;
 use std::mem::replace;
+use table_cover::Covers;
 use tmr_base::Name;
 
 #[derive(Drop)]
@@ -25,6 +26,7 @@ pub(crate) struct Progress {
     models: Vec<BlifModel>,
     names: IndexSet<Name>,
     open_model: Option<OpenModel>,
+    covers: Covers,
 }
 
 impl Model for Progress {
@@ -42,11 +44,12 @@ fn end_open(
     alloc: Global,
     models: &mut Vec<BlifModel>,
     open_model: Option<OpenModel>,
+    covers: &mut Covers,
 ) -> Result<(), AllocError>
     ensures { OnOk result (map plain_model models.new.items ≡ map plain_model models.old.items ++ ended open_model) }
 {
     match open_model {
-        Some(model) => Ok(models.push(model.ended(alloc)?)?),
+        Some(model) => Ok(models.push(model.ended(alloc, covers)?)?),
         None => Ok(()),
     }
 }
@@ -74,6 +77,7 @@ impl Progress {
             models: Vec::new(alloc),
             names: IndexSet::new(alloc),
             open_model: None,
+            covers: Covers::new(alloc),
         }
     }
 
@@ -88,7 +92,7 @@ impl Progress {
         ensures { OnOk result (self.new ≡ record { models = all_models self.old; names = self.old.names; open_model = None }) }
     {
         let open_model = self.open_model.take();
-        end_open(alloc, &mut self.models, open_model)
+        end_open(alloc, &mut self.models, open_model, &mut self.covers)
     }
 
     /// Begins the model that the tokens after `.model` name.
@@ -116,7 +120,7 @@ impl Progress {
         match list_model(alloc, &mut self.names, token) {
             Ok(name) => {
                 let open_model = self.open_model.replace(OpenModel::new(alloc, name));
-                Ok(end_open(alloc, &mut self.models, open_model)?)
+                Ok(end_open(alloc, &mut self.models, open_model, &mut self.covers)?)
             }
             Err(refusal) => Err(refusal),
         }
@@ -154,7 +158,7 @@ impl Progress {
             (λ _. self.new ≡ after self.old (statement_by line word first.now (plain arguments.now))) }
     {
         match &mut self.open_model {
-            Some(model) => model.take(alloc, word, first, arguments),
+            Some(model) => model.take(alloc, &mut self.covers, word, first, arguments),
             None => Err(Refusal::Bad(TextKind::NoModel)),
         }
     }

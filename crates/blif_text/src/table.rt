@@ -1,14 +1,14 @@
 //! A table whose rows are being read.
 ghost use Rattle.std.specs.Prelude.{◌≡◌, ◌∷◌, ◌++◌, [], true, None, length};
 ghost use Rattle.blif_text.specs.Answers.{Answers, plain};
-ghost use Rattle.blif_text.specs.Kind.{table_kind, row_kind};
+ghost use Rattle.blif_text.specs.Kind.{◌or_else◌, name_kind, names_kind, table_kind, row_kind};
 ghost use Rattle.blif_text.specs.Models.{table};
 ghost use Rattle.blif_text.specs.Progress.{shape_of, with_row};
 ghost use Rattle.blif_text.specs.Views.{plain_element};
 
 use crate::fault::{Refusal, TextKind};
 use crate::library::Element;
-use crate::name_lists::read_names;
+use crate::name_lists::{read_name, read_names};
 use crate::row::put_row;
 use std::alloc::Global;
 use std::marker::Model;
@@ -45,20 +45,23 @@ fn cover_of(alloc: Global, pins: usize) -> Result<Cover, Refusal>
 }
 
 impl OpenTable {
+    /// The table of these pins and this output, with no rows.
+    fn read_parts(alloc: Global, pins: &[&[u8]], out: &[u8]) -> Result<OpenTable, Refusal>
+        ensures { Answers result (names_kind (plain pins.now) or_else name_kind out.now) (λ t. t ≡ record { tokens = plain pins.now ++ out.now ∷ []; rows = [] }) }
+    {
+        let pins = read_names(alloc, pins)?;
+        let out = read_name(alloc, out)?;
+        let cover = cover_of(alloc, pins.len())?;
+        Ok(OpenTable { pins, out, cover })
+    }
+
     /// The table of the tokens after `.names`, with no rows.
-    #[tactic(auto, unfolding(crate::specs::Kind::table_kind))]
+    #[tactic(auto, using(crate::proofs::Tables::table_parts), unfolding(crate::specs::Kind::table_kind))]
     pub fn read(alloc: Global, tokens: &[&[u8]]) -> Result<OpenTable, Refusal>
         ensures { Answers result (table_kind (plain tokens.now)) (λ t. t ≡ record { tokens = plain tokens.now; rows = [] }) }
     {
-        if tokens.is_empty() {
-            return Err(Refusal::Bad(TextKind::Arguments));
-        }
-        let mut pins = read_names(alloc, tokens)?;
-        match pins.pop() {
-            Some(out) => {
-                let cover = cover_of(alloc, pins.len())?;
-                Ok(OpenTable { pins, out, cover })
-            }
+        match tokens.split_last() {
+            Some((out, pins)) => OpenTable::read_parts(alloc, pins, out),
             None => Err(Refusal::Bad(TextKind::Arguments)),
         }
     }

@@ -13,6 +13,7 @@ use crate::library::Library;
 use crate::line::tokens;
 use crate::lines::Lines;
 use crate::progress::Progress;
+use memchr::memchr;
 use std::alloc::Global;
 
 /// Takes the statement of a joined line, if it has tokens.
@@ -65,10 +66,11 @@ fn end_line(alloc: Global, lines: &mut Lines, progress: &mut Progress) -> Result
 }
 
 /// Where the line in hand ends, if it does.
+#[tactic(auto, using(crate::proofs::FirstByte::first_byte))]
 fn line_end(bytes: &[u8]) -> Option<usize>
     ensures { result ≡ position is_lf bytes.now }
 {
-    bytes.iter().position(|b| *b == b'\n')
+    memchr(b'\n', bytes)
 }
 
 /// Takes bytes of the line in hand.
