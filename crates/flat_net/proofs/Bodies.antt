@@ -1,11 +1,11 @@
 -- What the body of a node tells of it.
-use Rattle.std.proofs.Common.{◌≡◌, ℕ, ◌<◌, ◌≤◌, Bool, Option, Some, None, refl, length, arith}
+use Rattle.std.proofs.Common.{◌≡◌, ℕ, ◌<◌, ◌≤◌, Bool, Option, Some, None, [], refl, length, arith}
 use Rattle.table_cover.specs.Cover.{PlainCover}
 use Rattle.flat_net.specs.declared.kind.Kind.TheVariants as kind
 use Rattle.flat_net.specs.declared.nodes.Body.TheVariants.{TableBody, RegisterBody}
 use Rattle.flat_net.specs.Kinds.{kind_of}
 use Rattle.flat_net.specs.Net.{Net, Node, Table, Register, node_of, IsTable, IsRegister, IsCoverOf, IsInitOf, table_pins, pins_at}
-use Rattle.flat_net.specs.Packed.{IsBodyOf}
+use Rattle.flat_net.specs.Private.Bodies.{IsBodyOf}
 use Rattle.flat_net.proofs.Slots.{slot_below}
 use Rattle.flat_net.proofs.Ranges.{some_node_within, table_within, register_within}
 
@@ -42,19 +42,15 @@ no_register None k is t = is
 no_register (Some (Table name cover pins)) k is t = t
 no_register (Some (Register name init pin)) k is t = is
 
-pub is_table : (o : Option Node) (k : PlainCover) → IsBodyOf o (TableBody k) → IsTable o
-is_table None k is = is
-is_table (Some (Table name cover pins)) k is = tt
-is_table (Some (Register name init pin)) k is = is
+pub table_reads : (o : Option Node) (k : PlainCover) → IsBodyOf o (TableBody k) → table_pins o ≡ pins_at o
+table_reads None k is = absurd is
+table_reads (Some (Table name cover pins)) k is = refl
+table_reads (Some (Register name init pin)) k is = absurd is
 
-pub table_reads : (o : Option Node) → IsTable o → table_pins o ≡ pins_at o
-table_reads None t = absurd t
-table_reads (Some (Table name cover pins)) t = refl
-table_reads (Some (Register name init pin)) t = absurd t
-
-pub ruleset tables = (is_table, no_table)
-
-pub ruleset reads = (table_within, table_reads)
+pub register_reads : (o : Option Node) (b : Bool) → IsBodyOf o (RegisterBody b) → table_pins o ≡ []
+register_reads None b is = absurd is
+register_reads (Some (Table name cover pins)) b is = absurd is
+register_reads (Some (Register name init pin)) b is = refl
 
 pub ruleset kinds = (input_kind, table_kind, register_kind)
 

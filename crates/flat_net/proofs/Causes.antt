@@ -1,11 +1,12 @@
 -- From what a step answers to the fault of the draft.
-use Rattle.std.proofs.Common.{◌≡◌, ◌≢◌, ℕ, suc, ◌-◌, ◌<◌, ◌⊎◌, inl, inr, not, List, ◌++◌, length, get_or, Option, Some, None, subst, arith}
-use Rattle.std.specs.Prelude.{Contains}
+use Rattle.std.proofs.Common.{◌≡◌, ◌≢◌, ℕ, suc, ◌-◌, ◌<◌, ◌⊎◌, inl, inr, not, List, ◌++◌, length, get_or, Option, Some, None, subst, sym, arith}
+use Rattle.std.specs.Prelude.{Contains, Result, Ok, Err, IfErr, IsErrAnd}
 use Rattle.flat_net.specs.declared.fault.NetFault.{NetFault}
 use Rattle.flat_net.specs.declared.fault.NetFault.TheVariants.{DoubleDriven, MixedClock, ClockUse, Undriven, CombLoop, Memory}
 use Rattle.flat_net.specs.Draft.{PlainDraft}
 use Rattle.flat_net.specs.First.{HasNone, IsFirst}
-use Rattle.flat_net.specs.Faults.{is_among, is_no_net, draft_names, draft_reads, IsDrivenOnce, HasOneClock, HasCleanClock, IsDriven, IsFaultOf, IsLoopFault, net_of_draft}
+use Rattle.flat_net.specs.Faults.{is_among, is_no_net, draft_names, draft_reads, IsDrivenOnce, HasOneClock, HasCleanClock, IsDriven, IsFaultOf, net_of_draft}
+use Rattle.flat_net.specs.Private.LoopFaults.{IsLoopFault}
 use Rattle.flat_net.specs.Net.{Net, Node, Table, Register, node_of, net_count, table_pins, IsTable}
 use Rattle.flat_net.specs.Loop.{IsLoop}
 use Rattle.flat_net.proofs.Ranges.{table_within}
@@ -52,3 +53,8 @@ loop_table n tables loop k h = go (cases_eq (suc k) (length tables))
 
 pub loop_within : (n : Net) (tables : List ℕ) → IsLoop n tables → (k : ℕ) → k < length tables → get_or tables k 0 < net_count n
 loop_within n tables loop k h = (table_within n (get_or tables k 0) (loop_table n tables loop k h)).1
+
+-- what the exit of a `?` answers
+pub told_fault : {T : Type 0} (r : Result T NetFault) (fault : NetFault) (P : NetFault → Type 0) → IsErrAnd r (λ x. x ≡ fault) → P fault → IfErr r P
+told_fault (Ok value) fault P is holds = absurd is
+told_fault (Err error) fault P is holds = subst P (sym is) holds

@@ -11,7 +11,8 @@ use Rattle.flat_net.proofs.Slots.{slot_at, slice_get_there}
 use Rattle.flat_net.specs.declared.nodes.Body.{Body}
 use Rattle.flat_net.specs.declared.nodes.Body.TheVariants.{TableBody, RegisterBody}
 use Rattle.flat_net.specs.Net.{node_name, pins_of, net_names, node_of, all_pins, pin_total, pins_at}
-use Rattle.flat_net.specs.Packed.{node_from, nodes_from, start_of, HasPins, AreEnds, IsBodyOf}
+use Rattle.flat_net.specs.Packed.{node_from, nodes_from, HasPins, AreEnds}
+use Rattle.flat_net.specs.Private.Bodies.{start_of, IsBodyOf}
 
 pub length-ends : (from : ℕ) (bodies : List Body) (ends : List ℕ) (count : ℕ) → AreEnds from bodies ends count → length ends ≡ length bodies
 length-ends from [] [] count a = refl

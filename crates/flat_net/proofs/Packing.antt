@@ -13,8 +13,9 @@ use Rattle.flat_net.specs.declared.wiring.Wiring.TheInside.{Inside}
 use Rattle.flat_net.specs.View.{net_of, IsWiring}
 use Rattle.flat_net.specs.Draft.{PlainDraft, Element, out_of, AreDistinct}
 use Rattle.flat_net.specs.Faults.{is_among, number_in, node_of_element, net_inputs, draft_names, clock_of, net_of_draft, HasCleanClock}
-use Rattle.flat_net.specs.Packed.{nodes_from, body_of}
-use Rattle.flat_net.specs.Wired.{AreWires}
+use Rattle.flat_net.specs.Packed.{nodes_from}
+use Rattle.flat_net.specs.Private.Bodies.{body_of}
+use Rattle.flat_net.specs.Private.Wired.{AreWires}
 use Rattle.flat_net.proofs.Names.{eq_from, eq_false}
 use Rattle.flat_net.proofs.Sound.{clock_is_input}
 

@@ -9,7 +9,7 @@ use Rattle.graph.specs.Orders.{Reached, is_root, is_read, IsCycle, IsOrder as Is
 use Rattle.graph.proofs.Places.{reader_within}
 use Rattle.flat_net.specs.Net.{Net, Node, Table, Register, node_of, net_count, table_pins, IsTable, ComesBefore, IsOrder}
 use Rattle.flat_net.specs.Loop.{ReadsTable, IsLoop}
-use Rattle.flat_net.specs.TableReads.{read_of, table_row, table_rows}
+use Rattle.flat_net.specs.Private.TableReads.{read_of, table_row, table_rows}
 use Rattle.flat_net.proofs.Ranges.{table_within}
 
 pub no_reads : (o : Option Node) → (IsTable o → ⊥) → table_pins o ≡ []

@@ -11,8 +11,9 @@ use Rattle.flat_net.specs.Net.{Node, is_register}
 use Rattle.flat_net.specs.Draft.{Element, TableOf, LatchOf, out_of, reads_of}
 use Rattle.flat_net.specs.First.{HasNone, IsFirst}
 use Rattle.flat_net.specs.Faults.{is_among, is_no_net, number_in, node_of_element}
-use Rattle.flat_net.specs.Packed.{node_from, nodes_from, HasPins, AreEnds, body_of}
-use Rattle.flat_net.specs.Wired.{AreWires}
+use Rattle.flat_net.specs.Packed.{node_from, nodes_from, HasPins, AreEnds}
+use Rattle.flat_net.specs.Private.Bodies.{body_of}
+use Rattle.flat_net.specs.Private.Wired.{AreWires}
 use Rattle.flat_net.proofs.Firsts.{none_nil, none_append, first_after, first_more}
 use Rattle.flat_net.proofs.PackedLaws.{from_le_count}
 

@@ -150,15 +150,6 @@ IsUndriven d name = IsFirst (is_no_net (draft_names d)) (draft_reads d ++ d.outp
 abbrev pub IsCombLoop : PlainDraft → List (List ℕ) → Type 0
 IsCombLoop d names = (tables : List ℕ) × IsLoop (net_of_draft d) tables × (names ≡ map (name_of (net_of_draft d)) tables)
 
--- a loop of tables of this design
-abbrev pub IsLoopFault : Net → NetFault → Type 0
-IsLoopFault n (DoubleDriven name) = ⊥
-IsLoopFault n (MixedClock name) = ⊥
-IsLoopFault n (ClockUse name) = ⊥
-IsLoopFault n (Undriven name) = ⊥
-IsLoopFault n (CombLoop names) = (tables : List ℕ) × IsLoop n tables × (names.items ≡ map (name_of n) tables)
-IsLoopFault n Memory = Unit {0}
-
 -- the fault is there, and none of those before it
 abbrev pub IsFaultOf : PlainDraft → NetFault → Type 0
 IsFaultOf d (DoubleDriven name) = IsDoubleDriven d name

@@ -6,17 +6,23 @@ ghost use Rattle.flat_net.specs.Net.{Design, IsDesign, IsOrder, name_of, net_cou
 ghost use Rattle.flat_net.specs.Nodes.{number_of};
 ghost use Rattle.flat_net.specs.Draft.{AreDistinct, out_of};
 ghost use Rattle.flat_net.specs.DraftView.{plain_element};
-ghost use Rattle.flat_net.specs.Faults.{first_control, clock_from, clock_of, draft_names, draft_reads, number_in, net_of_draft, IsDrivenOnce, HasOneClock, HasCleanClock, IsDriven, IsFaultless, IsLoopFault, IsFaultOf, IsSameFault};
-ghost use Rattle.flat_net.specs.Wired.{AreWires};
+ghost use Rattle.flat_net.specs.Faults.{first_control, clock_from, clock_of, draft_names, draft_reads, number_in, net_of_draft, IsDrivenOnce, HasOneClock, HasCleanClock, IsDriven, IsFaultless, IsFaultOf, IsSameFault};
+ghost use Rattle.flat_net.specs.Private.LoopFaults.{IsLoopFault};
+ghost use Rattle.flat_net.specs.Private.Wired.{AreWires};
 
-use crate::clocking::{check_clock, check_clocking, first_latch};
+mod clocking;
+mod driving;
+mod order;
+mod wires;
+
+use crate::building::clocking::{check_clock, check_clocking, first_latch};
+use crate::building::driving::driven_names;
+use crate::building::order::{Found, order_tables};
+use crate::building::wires::{Wires, bodies_from, push_pins, wire};
 use crate::draft::{Draft, DraftElement};
-use crate::driving::driven_names;
 use crate::fault::NetFault;
 use crate::net::FlatNet;
 use crate::nodes::PackedNodes;
-use crate::order::{Found, order_tables};
-use crate::wires::{Wires, bodies_from, push_pins, wire};
 use crate::wiring::Wiring;
 use indexmap::IndexSet;
 use std::alloc::Global;
@@ -78,15 +84,10 @@ fn numbered(
     ensures driven { OnOk result (IsDriven draft.now) }
     ensures fault { IfErr result (λ fault. IsFaultOf draft.now fault) }
 {
-    let wires = match wire(alloc, names, &draft.elements) {
-        Ok(wires) => wires,
-        Err(fault) => return Err(fault),
-    };
+    let wires = wire(alloc, names, &draft.elements)?;
     let mut outputs = Vec::new(alloc);
-    match push_pins(alloc, names, &draft.outputs, &mut outputs) {
-        Ok(()) => Ok((wires, outputs)),
-        Err(fault) => Err(fault),
-    }
+    push_pins(alloc, names, &draft.outputs, &mut outputs)?;
+    Ok((wires, outputs))
 }
 
 /// The packed design.
@@ -113,9 +114,8 @@ fn packed(
     let inputs = (names.len() - draft.elements.len()) as u32;
     let Draft {
         model,
-        inputs: _,
-        outputs: _,
         elements,
+        ..
     } = draft;
     let bodies = bodies_from(alloc, elements)?;
     let nodes = PackedNodes {
@@ -145,13 +145,9 @@ fn ordered(alloc: Global, wiring: Wiring) -> Result<FlatNet, NetFault>
     ensures order { OnOk result ((order : List ℕ) × IsOrder wiring order) }
     ensures fault { IfErr result (λ fault. IsLoopFault wiring fault) }
 {
-    match order_tables(alloc, &wiring) {
-        Ok(Found::Order(order)) => Ok(FlatNet::new(wiring, order)),
-        Ok(Found::Loop(tables)) => match names_of(alloc, &wiring, &tables) {
-            Ok(names) => Err(NetFault::CombLoop(names)),
-            Err(_) => Err(NetFault::Memory),
-        },
-        Err(_) => Err(NetFault::Memory),
+    match order_tables(alloc, &wiring)? {
+        Found::Order(order) => Ok(FlatNet::new(wiring, order)),
+        Found::Loop(tables) => Err(NetFault::CombLoop(names_of(alloc, &wiring, &tables)?)),
     }
 }
 
@@ -165,22 +161,12 @@ fn design_or_fault(alloc: Global, draft: Draft) -> Result<FlatNet, NetFault>
     ensures faultless { OnOk result (IsFaultless draft) }
     ensures fault { IfErr result (λ fault. IsFaultOf draft fault) }
 {
-    let names = match driven_names(alloc, &draft) {
-        Ok(names) => names,
-        Err(fault) => return Err(fault),
-    };
-    if let Err(fault) = check_clocking(alloc, &draft) {
-        return Err(fault);
-    }
-    if let Err(fault) = check_clock(alloc, &draft) {
-        return Err(fault);
-    }
+    let names = driven_names(alloc, &draft)?;
+    check_clocking(alloc, &draft)?;
+    check_clock(alloc, &draft)?;
     let clock = copied_clock(alloc, &draft.elements)?;
     let names = net_names(names, &draft, &clock);
-    let (wires, outputs) = match numbered(alloc, &names, &draft) {
-        Ok(parts) => parts,
-        Err(fault) => return Err(fault),
-    };
+    let (wires, outputs) = numbered(alloc, &names, &draft)?;
     let wiring = packed(alloc, names, clock, wires, outputs, draft)?;
     match ordered(alloc, wiring) {
         Ok(net) => Ok(net),

@@ -7,17 +7,13 @@
 #![tactic(auto)]
 
 mod building;
-mod clocking;
 mod counts;
 mod draft;
-mod driving;
 mod fault;
 mod free;
 mod kind;
 mod net;
 mod nodes;
-mod order;
-mod wires;
 mod wiring;
 
 pub use building::build;

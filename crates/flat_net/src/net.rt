@@ -6,7 +6,7 @@ ghost use Rattle.flat_net.specs.Kinds.{kind_of};
 ghost use Rattle.flat_net.specs.Nodes.{number_of};
 
 use crate::Kind;
-use crate::nodes::{PackedNodes, id_at};
+use crate::nodes::{Body, PackedNodes, id_at};
 use crate::wiring::Wiring;
 use indexmap::IndexSet;
 use std::marker::Model;
@@ -87,24 +87,32 @@ impl FlatNet {
     pub fn output_count(&self) -> u32
         ensures { result ≡ length self.now.net.outputs }
     {
-        self.wiring.output_count()
+        self.wiring.outputs().len() as u32
     }
 
     /// Output k.
+    #[tactic(auto, using(crate::proofs::Ranges::output_in_range))]
     pub fn output(&self, k: u32) -> NetId
         requires { k < length self.now.net.outputs }
         ensures output { slice_get self.now.net.outputs k ≡ Some result.0 }
         ensures range { result.0 < net_count self.now.net }
     {
-        self.wiring.output(k)
+        id_at(self.wiring.outputs(), k as usize)
     }
 
     /// What net x is.
+    #[tactic(auto, using(crate::proofs::Bodies::kinds))]
     pub fn kind(&self, x: NetId) -> Kind
         requires { x.0 < net_count self.now.net }
         ensures { result ≡ kind_of (node_of self.now.net x.0) }
     {
-        self.wiring.kind(x)
+        if x.0 < self.input_count() {
+            return Kind::Input;
+        }
+        match self.wiring.body(x) {
+            Body::TableBody(_) => Kind::Table,
+            Body::RegisterBody(_) => Kind::Register,
+        }
     }
 
     /// How many pins net x has. An input has none.
@@ -141,12 +149,16 @@ impl FlatNet {
     }
 
     /// The initial value of register x.
+    #[tactic(auto, using(crate::proofs::Bodies::inits, crate::proofs::Ranges::register_within))]
     pub fn init(&self, x: NetId) -> bool
         requires range { x.0 < net_count self.now.net }
         requires register { IsRegister (node_of self.now.net x.0) }
         ensures { IsInitOf (node_of self.now.net x.0) result }
     {
-        self.wiring.init(x)
+        match self.wiring.body(x) {
+            Body::TableBody(_) => unreachable!(),
+            Body::RegisterBody(init) => *init,
+        }
     }
 
     /// The clock's edge and name, if there is a clock.
@@ -174,7 +186,8 @@ impl FlatNet {
     pub fn pin_total(&self) -> u32
         ensures { result ≡ pin_total self.now.net }
     {
-        self.wiring.pin_total()
+        let pins = self.wiring.all_pins();
+        pins.len() as u32
     }
 
     /// Node i of an order of all nodes, each once, in which each table stands behind each table that it reads.

@@ -2,7 +2,7 @@
 ghost use Rattle.std.specs.Prelude.{◌≡◌, ◌+◌, ◌<◌, ◌≤◌, ◌++◌, [], ◌∷◌, List, ℕ, Some, length, map, slice_get, slice_index, slice_range, OnOk, IfOk};
 ghost use Rattle.flat_net.specs.Nodes.{number_of};
 ghost use Rattle.flat_net.specs.Net.{Node, Table, Register};
-ghost use Rattle.flat_net.specs.Packed.{start_of};
+ghost use Rattle.flat_net.specs.Private.Bodies.{start_of};
 ghost use Rattle.flat_net.specs.Packs.{Packs};
 
 use std::alloc::Global;

@@ -3,12 +3,10 @@ ghost use Rattle.std.specs.Prelude.{◌≡◌, ◌+◌, ◌-◌, ◌<◌, ◌≤
 ghost use Rattle.std.specs.List.{flat_map};
 ghost use Rattle.std.specs.Option.{option_map};
 ghost use Rattle.flat_net.specs.Net.{slot, net_count, node_of, pins_at, table_pins, pins_of, all_pins, pin_total, register_count, is_register, IsTable, IsRegister, IsCoverOf, IsInitOf, name_of, net_named, net_names, IsUnordered};
-ghost use Rattle.flat_net.specs.Kinds.{kind_of};
 ghost use Rattle.flat_net.specs.Nodes.{number_of};
-ghost use Rattle.flat_net.specs.Packed.{IsBodyOf};
+ghost use Rattle.flat_net.specs.Private.Bodies.{IsBodyOf};
 
-use crate::Kind;
-use crate::nodes::{Body, PackedNodes, body_at, id_at, part_at};
+use crate::nodes::{Body, PackedNodes, body_at, part_at};
 use indexmap::IndexSet;
 use std::marker::Model;
 use table_cover::Cover;
@@ -82,54 +80,21 @@ impl Wiring {
         self.nodes.bodies.len() as u32
     }
 
-    /// How many nets there are.
-    #[tactic(auto, using(crate::proofs::PackedLaws::kept))]
-    pub fn net_count(&self) -> u32
-        ensures count { result ≡ net_count self.now }
-        ensures net { IsUnordered self.now }
+    /// The outputs.
+    pub fn outputs(&self) -> &[NetId]
+        ensures outputs { map number_of result.now ≡ self.now.outputs }
+        ensures total { length result.now ≡ length self.now.outputs }
     {
-        self.inputs + self.nodes.bodies.len() as u32
-    }
-
-    /// How many outputs there are.
-    pub fn output_count(&self) -> u32
-        ensures { result ≡ length self.now.outputs }
-    {
-        self.outputs.len() as u32
-    }
-
-    /// Output k.
-    #[tactic(auto, using(crate::proofs::Ranges::output_in_range))]
-    pub fn output(&self, k: u32) -> NetId
-        requires { k < length self.now.outputs }
-        ensures output { slice_get self.now.outputs k ≡ Some result.0 }
-        ensures range { result.0 < net_count self.now }
-    {
-        id_at(&self.outputs, k as usize)
+        &self.outputs
     }
 
     /// What node x has beside its name and its pins.
-    fn body(&self, x: NetId) -> &Body
+    pub fn body(&self, x: NetId) -> &Body
         requires range { x.0 < net_count self.now }
         requires node { length self.now.inputs ≤ x.0 }
         ensures { IsBodyOf (node_of self.now x.0) result.now }
     {
         body_at(&self.nodes.bodies, (x.0 - self.inputs) as usize)
-    }
-
-    /// What net x is.
-    #[tactic(auto, using(crate::proofs::Bodies::kinds))]
-    pub fn kind(&self, x: NetId) -> Kind
-        requires { x.0 < net_count self.now }
-        ensures { result ≡ kind_of (node_of self.now x.0) }
-    {
-        if x.0 < self.input_count() {
-            return Kind::Input;
-        }
-        match self.body(x) {
-            Body::TableBody(_) => Kind::Table,
-            Body::RegisterBody(_) => Kind::Register,
-        }
     }
 
     /// The pins of node x.
@@ -145,28 +110,6 @@ impl Wiring {
         )
     }
 
-    /// Whether node x is a table.
-    #[tactic(auto, using(crate::proofs::Bodies::tables))]
-    pub fn is_table(&self, x: NetId) -> bool
-        requires range { x.0 < net_count self.now }
-        requires node { length self.now.inputs ≤ x.0 }
-        ensures { IsTrue result ↔ IsTable (node_of self.now x.0) }
-    {
-        match self.body(x) {
-            Body::TableBody(_) => true,
-            Body::RegisterBody(_) => false,
-        }
-    }
-
-    /// The pins of table x.
-    #[tactic(auto, using(crate::proofs::Bodies::reads))]
-    pub fn table_pins(&self, x: NetId) -> &[NetId]
-        requires { IsTable (node_of self.now x.0) }
-        ensures { map number_of result.now ≡ table_pins (node_of self.now x.0) }
-    {
-        self.pins_of(x)
-    }
-
     /// The cover of table x.
     #[tactic(auto, using(crate::proofs::Bodies::covers, crate::proofs::Ranges::table_within))]
     pub fn cover(&self, x: NetId) -> &Cover
@@ -177,19 +120,6 @@ impl Wiring {
         match self.body(x) {
             Body::TableBody(cover) => cover,
             Body::RegisterBody(_) => unreachable!(),
-        }
-    }
-
-    /// The initial value of register x.
-    #[tactic(auto, using(crate::proofs::Bodies::inits, crate::proofs::Ranges::register_within))]
-    pub fn init(&self, x: NetId) -> bool
-        requires range { x.0 < net_count self.now }
-        requires register { IsRegister (node_of self.now x.0) }
-        ensures { IsInitOf (node_of self.now x.0) result }
-    {
-        match self.body(x) {
-            Body::TableBody(_) => unreachable!(),
-            Body::RegisterBody(init) => *init,
         }
     }
 
@@ -215,14 +145,6 @@ impl Wiring {
         ensures { result ≡ register_count self.now }
     {
         self.nodes.registers
-    }
-
-    /// How many pins all nodes have together.
-    #[tactic(auto, using(crate::proofs::PackedLaws::kept))]
-    pub fn pin_total(&self) -> u32
-        ensures { result ≡ pin_total self.now }
-    {
-        self.nodes.pins.len() as u32
     }
 
     /// The pins of all nodes, node by node in order, each node's pins in order.

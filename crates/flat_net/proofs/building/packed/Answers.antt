@@ -4,7 +4,7 @@ use Rattle.flat_net.specs.Net.{IsUnordered}
 use Rattle.flat_net.specs.Draft.{PlainDraft, IsDraft, out_of}
 use Rattle.flat_net.specs.DraftView.{plain_element}
 use Rattle.flat_net.specs.Faults.{draft_names, net_inputs, net_of_draft}
-use Rattle.flat_net.specs.Packed.{body_of}
+use Rattle.flat_net.specs.Private.Bodies.{body_of}
 use Rattle.flat_net.proofs.Sound.{unordered, names_few}
 use Rattle.flat_net.proofs.Packing.{IsPackedFrom, net_packed, wiring_packed, bodies_map}
 use Rattle.flat_net.proofs.building.packed.Goals as goal

@@ -1,6 +1,6 @@
 use Rattle.std.proofs.Common.{◌≡◌, length, arith, subst}
 use Rattle.flat_net.specs.Net.{Net, node_of}
-use Rattle.flat_net.specs.Packed.{IsBodyOf}
+use Rattle.flat_net.specs.Private.Bodies.{IsBodyOf}
 use Rattle.flat_net.proofs.PackedLaws.{length-inputs, length-nodes, body_kept}
 use Rattle.flat_net.proofs.wiring.Wiring.body.Goals as goal
 
