@@ -5,8 +5,8 @@ use Rattle.flat_net.specs.Net.{Net, IsValid}
 use Rattle.graph.specs.Rows.{Follows}
 use Rattle.graph.specs.Lists.{Leads, alone, longer}
 use Rattle.feedback_cut.specs.Inner.{ReadsInside, inner_rows}
-use Rattle.feedback_cut.specs.Numbering.{IsNumbered}
-use Rattle.feedback_cut.specs.Loops.{ReadsOwn, AreLooped}
+use Rattle.feedback_cut.specs.Private.Numbering.{IsNumbered}
+use Rattle.feedback_cut.specs.Private.Loops.{ReadsOwn, AreLooped}
 use Rattle.feedback_cut.specs.Components.{ReadsNode, ReadsWithin, AreComponents}
 use Rattle.graph.proofs.Places.{leads_map, reader_within}
 use Rattle.feedback_cut.proofs.InnerLaws.{inner_long, read_from, read_to}

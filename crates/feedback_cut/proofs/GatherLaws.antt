@@ -4,7 +4,7 @@ use Rattle.std.specs.Prelude.{cond}
 use Rattle.std.proofs.lemmas.Bool.{cases_eq, eq-eqb, ne_eqb}
 use Rattle.std.proofs.lemmas.List.{get_or-set_same, get_or-set_other, length-set, length_push}
 use Rattle.graph.specs.Rows.{row, Stands}
-use Rattle.feedback_cut.specs.Gathering.{number_at, Reached, the_root, reader, IsGathered}
+use Rattle.feedback_cut.specs.Private.Gathering.{number_at, Reached, the_root, reader, IsGathered}
 use Rattle.graph.proofs.Places.{stands_cases, stands_left, stands_right, stands_one, stands_last}
 
 -- what waits is reached, if it had no number; what is new waits with its readers, or they have numbers

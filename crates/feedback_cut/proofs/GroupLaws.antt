@@ -7,8 +7,8 @@ use Rattle.graph.specs.Lists.{Leads, alone, longer}
 use Rattle.feedback_cut.specs.Cut.{is_cut}
 use Rattle.graph.specs.Search.{Kept, IsSearched}
 use Rattle.graph.specs.Readers.{AreReaders}
-use Rattle.feedback_cut.specs.Gathering.{number_at, Reached, the_root, reader, IsGathered}
-use Rattle.feedback_cut.specs.Numbering.{IsNumbered}
+use Rattle.feedback_cut.specs.Private.Gathering.{number_at, Reached, the_root, reader, IsGathered}
+use Rattle.feedback_cut.specs.Private.Numbering.{IsNumbered}
 use Rattle.graph.proofs.Places.{leads_map, leads_join, reader_within}
 use Rattle.graph.proofs.Orders.{same_place}
 

@@ -3,7 +3,7 @@ use Rattle.std.proofs.Common.{◌≡◌, ◌≢◌, ℕ, ◌+◌, ◌<◌, ◌�
 use Rattle.std.proofs.lemmas.Bool.{cases_eq, cases_lt}
 use Rattle.std.proofs.lemmas.List.{get_or-set_same, get_or-set_other, get_or_past, get_or-replicate, length-set, length-replicate}
 use Rattle.graph.specs.Rows.{row}
-use Rattle.feedback_cut.specs.Loops.{ReadsOwn, AreLooped}
+use Rattle.feedback_cut.specs.Private.Loops.{ReadsOwn, AreLooped}
 use Rattle.graph.proofs.Decisions.{no_absurd}
 
 later : (y k : ℕ) → y < k + 1 → (y ≡ k) ⊎ (y < k)

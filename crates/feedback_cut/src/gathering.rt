@@ -1,7 +1,7 @@
 //! The vertices without a number that lead to a vertex.
 ghost use Rattle.std.specs.Prelude.{◌≡◌, ◌≢◌, ◌<◌, ℕ, length, OnOk, slice_index, slice_index_or};
 ghost use Rattle.graph.specs.Rows.{row};
-ghost use Rattle.feedback_cut.specs.Gathering.{IsGathered};
+ghost use Rattle.feedback_cut.specs.Private.Gathering.{IsGathered};
 
 use graph::Readers;
 use std::alloc::Global;

@@ -1,6 +1,6 @@
 //! Which groups of vertices have a loop.
 ghost use Rattle.std.specs.Prelude.{◌≡◌, ◌↔◌, ◌<◌, ℕ, Bool, true, length, IfOk, IsTrue, slice_index, slice_index_or};
-ghost use Rattle.feedback_cut.specs.Loops.{ReadsOwn, AreLooped};
+ghost use Rattle.feedback_cut.specs.Private.Loops.{ReadsOwn, AreLooped};
 
 use graph::Graph;
 use std::alloc::Global;

@@ -1,6 +1,6 @@
 //! One number for the vertices that lead to each other.
 ghost use Rattle.std.specs.Prelude.{◌≡◌, ◌<◌, ◌≤◌, ◌-◌, ℕ, length, map, slice_index, IfOk};
-ghost use Rattle.feedback_cut.specs.Numbering.{IsNumbered};
+ghost use Rattle.feedback_cut.specs.Private.Numbering.{IsNumbered};
 
 use crate::gathering::{gather, number_of};
 use graph::{Graph, readers_of, search};

@@ -1,6 +1,6 @@
 use Rattle.std.proofs.Common.{◌≡◌, ◌≢◌, ◌<◌, ◌+◌, [], ◌∷◌, ◌++◌, length, set, refl, sym, ◌∙◌, ap, subst, rules}
 use Rattle.graph.specs.Rows.{row}
-use Rattle.feedback_cut.specs.Gathering.{number_at}
+use Rattle.feedback_cut.specs.Private.Gathering.{number_at}
 use Rattle.feedback_cut.proofs.GatherLaws.{starts, skips, takes, ends, left, take_less}
 use Rattle.feedback_cut.proofs.gathering.gather.Goals as goal
 

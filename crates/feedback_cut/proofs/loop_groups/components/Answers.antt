@@ -1,7 +1,7 @@
 use Rattle.std.proofs.Common.{length, sym, ◌∙◌, ap, subst}
 use Rattle.feedback_cut.specs.Inner.{inner_rows}
-use Rattle.feedback_cut.specs.Numbering.{IsNumbered}
-use Rattle.feedback_cut.specs.Loops.{AreLooped}
+use Rattle.feedback_cut.specs.Private.Numbering.{IsNumbered}
+use Rattle.feedback_cut.specs.Private.Loops.{AreLooped}
 use Rattle.feedback_cut.proofs.InnerLaws.{inner_long}
 use Rattle.feedback_cut.proofs.ComponentLaws.{are_components}
 use Rattle.feedback_cut.proofs.loop_groups.components.Goals as goal

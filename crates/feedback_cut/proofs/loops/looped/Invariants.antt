@@ -1,4 +1,4 @@
-use Rattle.feedback_cut.specs.Loops.{AreLooped}
+use Rattle.feedback_cut.specs.Private.Loops.{AreLooped}
 use Rattle.feedback_cut.proofs.loops.looped.Given as goal
 
 abbrev pub invariant-loop-y : goal.invariant-loop-y

@@ -1,6 +1,6 @@
 use Rattle.std.proofs.Common.{◌≡◌, ◌<◌, ◌-◌, get_or, sym, ◌∙◌, arith, rules, length, map, ap}
 use Rattle.std.proofs.lemmas.List.{get_or_default}
-use Rattle.feedback_cut.specs.Gathering.{number_at}
+use Rattle.feedback_cut.specs.Private.Gathering.{number_at}
 use Rattle.feedback_cut.proofs.GroupLaws.{take_root, all_grouped, turned_numbered}
 use Rattle.feedback_cut.proofs.numbering.number_vertices.Goals as goal
 
