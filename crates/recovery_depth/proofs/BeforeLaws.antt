@@ -5,8 +5,9 @@ use Rattle.std.proofs.lemmas.Bool.{cases_eq, cases_lt}
 use Rattle.std.proofs.lemmas.List.{get_or_past, get_or-set_same, get_or-set_other, length-set, length-replicate}
 use Rattle.graph.specs.Rows.{row, Stands, Follows}
 use Rattle.graph.specs.Lists.{Leads, alone, longer}
-use Rattle.recovery_depth.specs.Walks.{Walk, starts, goes_on, IsOrdered, IsReachIn, is_marked, one_if, marked}
-use Rattle.recovery_depth.specs.Before.{number_at, last_of, IsBefore, AreBefore, IsChosen, IsOneOf}
+use Rattle.recovery_depth.specs.Walks.{Walk, starts, goes_on, is_marked}
+use Rattle.recovery_depth.specs.Private.Vertices.{IsOrdered, IsReachIn, one_if, marked}
+use Rattle.recovery_depth.specs.Private.Before.{number_at, last_of, IsBefore, AreBefore, IsChosen, IsOneOf}
 use Rattle.recovery_depth.proofs.ReachLaws.{marked_count}
 
 append_nil : (xs : List ℕ) → xs ++ [] ≡ xs

@@ -13,9 +13,11 @@ use Rattle.certificate.specs.Cert.{PlainCert, role_of, role_count, count_of, Fit
 use Rattle.certificate.specs.Rules.{Rule6, LabelReaches}
 use Rattle.graph.specs.Rows.{row, Follows}
 use Rattle.graph.proofs.Decisions.{no_absurd}
-use Rattle.recovery_depth.specs.Walks.{is_marked, marked}
+use Rattle.recovery_depth.specs.Walks.{is_marked}
+use Rattle.recovery_depth.specs.Private.Vertices.{marked}
 use Rattle.recovery_depth.specs.Depths.{is_some_register}
-use Rattle.recovery_depth.specs.Hardened.{role_at, node_at, is_copy, ReadsCopy, original_of, own_original, is_register_copy, copied, copied_row, copied_rows}
+use Rattle.recovery_depth.specs.Hardened.{role_at, node_at, is_copy, ReadsCopy, original_of, own_original}
+use Rattle.recovery_depth.specs.Private.Copied.{is_register_copy, copied, copied_row, copied_rows}
 
 module _ (n h : Net) (k : PlainCert) (fits : Fits n h k) where
   pub copied_long : length (copied_rows h k) ≡ length h.nodes

@@ -11,9 +11,10 @@ use Rattle.graph.specs.Rows.{Follows}
 use Rattle.graph.specs.Lists.{Leads, alone, longer}
 use Rattle.graph.proofs.Places.{leads_map}
 use Rattle.graph.proofs.Decisions.{no_absurd}
-use Rattle.recovery_depth.specs.Walks.{HasNoLoop}
+use Rattle.recovery_depth.specs.Private.Vertices.{HasNoLoop}
 use Rattle.recovery_depth.specs.Depths.{is_some_register}
-use Rattle.recovery_depth.specs.Hardened.{role_at, node_at, is_copy, ReadsCopy, original_of, own_original, copied_rows}
+use Rattle.recovery_depth.specs.Hardened.{role_at, node_at, is_copy, ReadsCopy, original_of, own_original}
+use Rattle.recovery_depth.specs.Private.Copied.{copied_rows}
 use Rattle.recovery_depth.proofs.CopyLaws.{label_at, label_grows, reads_of_follows, node_with_role}
 
 module _ (n h : Net) (k : PlainCert) (order : List ℕ) (fits : Fits n h k) (ordered : IsOrder h order) (rule : (g : ℕ) → Rule6 h k (length h.inputs + g)) where

@@ -21,12 +21,14 @@ use Rattle.graph.specs.Lists.{Leads, alone, longer}
 use Rattle.graph.proofs.Places.{leads_map}
 use Rattle.graph.proofs.Decisions.{no_absurd}
 use Rattle.recovery_depth.specs.declared.deep.Deep.{Deep}
-use Rattle.recovery_depth.specs.Walks.{Walk, starts, goes_on, IsReach, IsReachIn, is_marked, marked}
+use Rattle.recovery_depth.specs.Walks.{Walk, starts, goes_on, IsReach, is_marked}
+use Rattle.recovery_depth.specs.Private.Vertices.{IsReachIn, marked}
 use Rattle.recovery_depth.specs.Depths.{is_some_register, IsDepth}
-use Rattle.recovery_depth.specs.Hardened.{role_at, node_at, is_copy, IsCopyIn, ReadsCopy, ReadsWithin, original_of, own_original, is_register_copy, copied_rows}
+use Rattle.recovery_depth.specs.Hardened.{role_at, node_at, is_copy, IsCopyIn, ReadsCopy, ReadsWithin, original_of, own_original}
+use Rattle.recovery_depth.specs.Private.Copied.{is_register_copy, copied_rows}
 use Rattle.recovery_depth.specs.Chains.{HasWalk, IsDeep, relabeled, Admits}
-use Rattle.recovery_depth.specs.Before.{number_at, last_of, AreBefore}
-use Rattle.recovery_depth.specs.Tops.{part_or_zero, place_of, place_at, places_of, original_in, original_at, originals_of, AreTops, walked, IsRead}
+use Rattle.recovery_depth.specs.Private.Before.{number_at, last_of, AreBefore}
+use Rattle.recovery_depth.specs.Private.Tops.{part_or_zero, place_of, place_at, places_of, original_in, original_at, originals_of, AreTops, walked, IsRead}
 use Rattle.recovery_depth.proofs.WalkLaws.{walk_map, reach_map}
 use Rattle.recovery_depth.proofs.WalkedLaws.{length_walked, walked_walk}
 use Rattle.recovery_depth.proofs.BeforeLaws.{IsLastOf, last_is}

@@ -12,11 +12,12 @@ use Rattle.feedback_cut.specs.Inner.{node_pins, ReadsInside, inner_rows}
 use Rattle.feedback_cut.specs.Cut.{is_cut, ReadsUnvoted, CutMeets}
 use Rattle.feedback_cut.proofs.InnerLaws.{inner_long, inner_pins}
 use Rattle.graph.proofs.Decisions.{no_absurd}
-use Rattle.recovery_depth.specs.Walks.{IsOrdered, IsReach, is_marked, marked}
-use Rattle.recovery_depth.specs.Reaching.{IsGreatestOf}
-use Rattle.recovery_depth.specs.Uncut.{uncut_rows}
+use Rattle.recovery_depth.specs.Walks.{IsReach, is_marked}
+use Rattle.recovery_depth.specs.Private.Vertices.{IsOrdered, marked}
+use Rattle.recovery_depth.specs.Private.Reaching.{IsGreatestOf}
+use Rattle.recovery_depth.specs.Private.Uncut.{uncut_rows}
 use Rattle.recovery_depth.specs.Depths.{is_some_register, is_register_at, own_register, IsDepth}
-use Rattle.recovery_depth.specs.Settled.{IsSettled, AreSettled}
+use Rattle.recovery_depth.specs.Private.Settled.{IsSettled, AreSettled}
 use Rattle.recovery_depth.specs.Extra.{is_extra, is_cut_or_extra, ReadsMost, AreExtra}
 use Rattle.recovery_depth.proofs.WalkLaws.{reach_map}
 use Rattle.recovery_depth.proofs.UncutLaws.{rest_long, register_bit, own_count, reads_place, place_reads, uncut_places}

@@ -6,7 +6,7 @@ use Rattle.graph.specs.Search.{Kept, IsSearched}
 use Rattle.graph.proofs.Places.{leads_map}
 use Rattle.feedback_cut.proofs.CutLaws.{cut_within}
 use Rattle.graph.specs.Rows.{Follows}
-use Rattle.recovery_depth.specs.Walks.{HasNoLoop, IsOrdered}
+use Rattle.recovery_depth.specs.Private.Vertices.{HasNoLoop, IsOrdered}
 
 module _ (rows : List (List ℕ)) (order : List ℕ) (cut : List (List Bool)) (s : IsSearched rows order cut) where
   follows_of_kept : (x y : ℕ) → Kept rows cut x y → Follows rows x y

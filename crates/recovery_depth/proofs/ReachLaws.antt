@@ -5,8 +5,9 @@ use Rattle.std.proofs.lemmas.Bool.{cases_eq, cases_lt}
 use Rattle.std.proofs.lemmas.List.{get_or_past, get_or-set_same, get_or-set_other, length-set, length-replicate}
 use Rattle.graph.specs.Rows.{row, Stands}
 use Rattle.graph.specs.Rows.{Follows}
-use Rattle.recovery_depth.specs.Walks.{Walk, starts, goes_on, IsOrdered, IsReachIn, is_marked, one_if, marked}
-use Rattle.recovery_depth.specs.Reaching.{IsGreatestOf}
+use Rattle.recovery_depth.specs.Walks.{Walk, starts, goes_on, is_marked}
+use Rattle.recovery_depth.specs.Private.Vertices.{IsOrdered, IsReachIn, one_if, marked}
+use Rattle.recovery_depth.specs.Private.Reaching.{IsGreatestOf}
 
 pub marked_count : (bits : List Bool) (x : ℕ) → length (marked bits x) ≡ one_if (is_marked bits x)
 marked_count bits x = go (is_marked bits x)

@@ -7,9 +7,10 @@ use Rattle.std.proofs.lemmas.Bool.Decides.{nat_tests, eqb_tells}
 use Rattle.std.proofs.lemmas.List.{get_or_past, get_or-set_same, get_or-set_other, length-set, length-replicate}
 use Rattle.std.proofs.lemmas.List.FromFn.{get_or-map-range_with_len, length-map-range_with_len}
 use Rattle.graph.specs.Rows.{row, Stands, Follows}
-use Rattle.recovery_depth.specs.Walks.{IsOrdered, IsReachIn, is_marked, one_if}
-use Rattle.recovery_depth.specs.Reaching.{IsGreatestOf}
-use Rattle.recovery_depth.specs.Settled.{IsSettled, AreSettled}
+use Rattle.recovery_depth.specs.Walks.{is_marked}
+use Rattle.recovery_depth.specs.Private.Vertices.{IsOrdered, IsReachIn, one_if}
+use Rattle.recovery_depth.specs.Private.Reaching.{IsGreatestOf}
+use Rattle.recovery_depth.specs.Private.Settled.{IsSettled, AreSettled}
 use Rattle.recovery_depth.proofs.ReachLaws.{IsKnown, little, reach_here, small_reach, all_known}
 
 -- the greatest stays where the numbers that the row names stay

@@ -17,8 +17,9 @@ use Rattle.graph.proofs.Places.{leads_map}
 use Rattle.feedback_cut.proofs.InnerLaws.{inner_long, inner_pins, read_from, read_to}
 use Rattle.feedback_cut.proofs.CutLaws.{uncut_of_kept, kept_of_uncut}
 use Rattle.graph.specs.Rows.{Follows}
-use Rattle.recovery_depth.specs.Walks.{HasNoLoop, IsReach, IsReachIn, marked, is_marked}
-use Rattle.recovery_depth.specs.Uncut.{uncut_entry, uncut_row, uncut_rows}
+use Rattle.recovery_depth.specs.Walks.{IsReach, is_marked}
+use Rattle.recovery_depth.specs.Private.Vertices.{HasNoLoop, IsReachIn, marked}
+use Rattle.recovery_depth.specs.Private.Uncut.{uncut_entry, uncut_row, uncut_rows}
 use Rattle.recovery_depth.specs.Depths.{is_some_register, is_register_at, own_register}
 use Rattle.recovery_depth.proofs.WalkLaws.{reach_map}
 

@@ -7,9 +7,10 @@ use Rattle.tmr_base.specs.declared.ids.NetId.{NetId}
 use Rattle.certificate.proofs.Validity.{push_read}
 use Rattle.graph.specs.Rows.{Follows}
 use Rattle.recovery_depth.specs.declared.deep.Deep.{Deep}
-use Rattle.recovery_depth.specs.Walks.{Walk, starts, is_marked, one_if, marked}
-use Rattle.recovery_depth.specs.Before.{number_at, IsBefore, AreBefore}
-use Rattle.recovery_depth.specs.Tops.{walked, IsRead, AreRead}
+use Rattle.recovery_depth.specs.Walks.{Walk, starts, is_marked}
+use Rattle.recovery_depth.specs.Private.Vertices.{one_if, marked}
+use Rattle.recovery_depth.specs.Private.Before.{number_at, IsBefore, AreBefore}
+use Rattle.recovery_depth.specs.Private.Tops.{walked, IsRead, AreRead}
 
 pub length_walked : (before : List ℕ) (d x : ℕ) → length (walked before d x) ≡ d
 unfolding walked

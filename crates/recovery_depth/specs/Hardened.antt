@@ -1,6 +1,5 @@
 -- Walks of copies in a hardened design, whose nodes are counted from 0, in their order.
-use Rattle.std.specs.Prelude.{◌≡◌, ℕ, ◌+◌, ◌-◌, ◌<◌, Bool, true, false, ◌&&◌, List, [], ◌∷◌, length, map, slice_index, Option, Some, None, if◌then◌else◌}
-use Rattle.std.specs.List.{range_with_len}
+use Rattle.std.specs.Prelude.{◌≡◌, ℕ, ◌+◌, ◌-◌, ◌<◌, Bool, true, false, List, [], ◌∷◌, length, slice_index, Option, Some, None, if◌then◌else◌}
 use Rattle.tmr_base.specs.declared.copies.CopyNo.{CopyNo}
 use Rattle.flat_net.specs.Net.{Net, Node, node_of, pins_at}
 use Rattle.certificate.specs.declared.role.Role.{Role}
@@ -49,18 +48,3 @@ original_of (Some (Voter x p c)) b = []
 -- the original register of hardened node g, if this is a copy of one
 abbrev pub own_original : Net → PlainCert → ℕ → List ℕ
 own_original h k g = original_of (role_at h k g) (is_some_register (node_at h g))
-
--- hardened node g is a register, and a copy
-abbrev pub is_register_copy : Net → PlainCert → ℕ → Bool
-is_register_copy h k g = is_copy (role_at h k g) && is_some_register (node_at h g)
-
--- the number of hardened net f among the nodes, where it is a copy; else the number past all nodes
-abbrev pub copied : Net → PlainCert → ℕ → ℕ
-copied h k f = if is_copy (role_of k f) then f - length h.inputs else length h.nodes
-
--- the copies that hardened node g reads, where it is a copy
-abbrev pub copied_row : Net → PlainCert → ℕ → List ℕ
-copied_row h k g = if is_copy (role_at h k g) then map (copied h k) (pins_at (node_at h g)) else []
-
-abbrev pub copied_rows : Net → PlainCert → List (List ℕ)
-copied_rows h k = map (copied_row h k) (range_with_len 0 (length h.nodes))

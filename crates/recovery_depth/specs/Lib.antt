@@ -1,12 +1,7 @@
 pub mod Walks
-pub mod Reaching
-pub mod Uncut
 pub mod Depths
-pub mod Settled
 pub mod Extra
 pub mod Hardened
 pub mod Chains
-pub mod Ranks
-pub mod Before
-pub mod Tops
 pub mod Least
+pub mod Private

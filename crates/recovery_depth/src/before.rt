@@ -1,9 +1,9 @@
 //! The last register before each vertex, on a walk with the most registers.
 ghost use Rattle.std.specs.Prelude.{◌≡◌, ◌≢◌, ◌<◌, ◌≤◌, ◌+◌, ◌-◌, ◌⊎◌, ℕ, length, slice_index, slice_index_or, IfOk, if◌then◌else◌};
 ghost use Rattle.graph.specs.Rows.{row};
-ghost use Rattle.recovery_depth.specs.Walks.{IsOrdered, IsReachIn};
-ghost use Rattle.recovery_depth.specs.Ranks.{is_before};
-ghost use Rattle.recovery_depth.specs.Before.{last_of, number_at, AreBefore, IsChosen, IsOneOf};
+ghost use Rattle.recovery_depth.specs.Private.Vertices.{IsOrdered, IsReachIn};
+ghost use Rattle.recovery_depth.specs.Private.Ranks.{is_before};
+ghost use Rattle.recovery_depth.specs.Private.Before.{last_of, number_at, AreBefore, IsChosen, IsOneOf};
 
 use crate::ranks::Ranks;
 use crate::reaching::{own_count, reach_at};

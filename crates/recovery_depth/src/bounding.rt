@@ -1,7 +1,8 @@
 //! Labels that stay within a bound, since walks go around marked registers.
 ghost use Rattle.std.specs.Prelude.{◌≡◌, ◌<◌, ◌≤◌, ◌==◌, ◌&&◌, length, if◌then◌else◌, IfOk};
-ghost use Rattle.recovery_depth.specs.Walks.{is_marked, IsOrdered};
-ghost use Rattle.recovery_depth.specs.Settled.{AreSettled};
+ghost use Rattle.recovery_depth.specs.Walks.{is_marked};
+ghost use Rattle.recovery_depth.specs.Private.Vertices.{IsOrdered};
+ghost use Rattle.recovery_depth.specs.Private.Settled.{AreSettled};
 
 use crate::reaching::{greatest_of, own_count};
 use graph::Graph;

@@ -3,12 +3,13 @@ ghost use Rattle.std.specs.Prelude.{◌≡◌, ◌≤◌, ◌<◌, ◌+◌, All,
 ghost use Rattle.std.specs.List.{range_with_len};
 ghost use Rattle.flat_net.specs.Net.{net_count, node_of, pins_at};
 ghost use Rattle.certificate.specs.Cert.{Fits};
-ghost use Rattle.recovery_depth.specs.Hardened.{node_at, copied, copied_row, copied_rows, is_register_copy};
-ghost use Rattle.recovery_depth.specs.Ranks.{rank_at, ranks_of};
-ghost use Rattle.recovery_depth.specs.Tops.{place_at, places_of, original_at, originals_of};
+ghost use Rattle.recovery_depth.specs.Hardened.{node_at};
+ghost use Rattle.recovery_depth.specs.Private.Copied.{copied, copied_row, copied_rows, is_register_copy};
+ghost use Rattle.recovery_depth.specs.Private.Ranks.{rank_at, ranks_of};
+ghost use Rattle.recovery_depth.specs.Private.Tops.{place_at, places_of, original_at, originals_of};
 
 use crate::ranks::Ranks;
-use crate::registers::is_register;
+use crate::register_nodes::is_register;
 use certificate::{Certificate, Role};
 use flat_net::{FlatNet, nodes_of};
 use graph::Graph;

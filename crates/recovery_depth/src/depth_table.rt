@@ -5,7 +5,7 @@ ghost use Rattle.recovery_depth.specs.Depths.{AreDepths};
 
 use crate::greatest::greatest_labels;
 use crate::reaching::reaches;
-use crate::registers::registers;
+use crate::register_nodes::registers;
 use crate::uncut::uncut_inner;
 use feedback_cut::CutPins;
 use flat_net::{FlatNet, nodes_of};

@@ -7,7 +7,7 @@ use crate::bounding::bounded_labels;
 use crate::depth_table::DepthTable;
 use crate::greatest::greatest_labels;
 use crate::ordering::ordered;
-use crate::registers::registers;
+use crate::register_nodes::registers;
 use crate::uncut::uncut_inner;
 use feedback_cut::CutPins;
 use flat_net::{FlatNet, nodes_of};

@@ -18,7 +18,7 @@ mod greatest;
 mod ordering;
 mod ranks;
 mod reaching;
-mod registers;
+mod register_nodes;
 mod tops;
 mod uncut;
 
@@ -26,4 +26,4 @@ pub use deep::Deep;
 pub use deepest::least;
 pub use depth_table::{DepthTable, depths};
 pub use extra::{Extra, bound};
-pub use registers::registers;
+pub use register_nodes::registers;

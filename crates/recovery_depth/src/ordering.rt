@@ -1,6 +1,6 @@
 //! An order in which each vertex stands after all that it reads.
 ghost use Rattle.std.specs.Prelude.{IfOk};
-ghost use Rattle.recovery_depth.specs.Walks.{HasNoLoop, IsOrdered};
+ghost use Rattle.recovery_depth.specs.Private.Vertices.{HasNoLoop, IsOrdered};
 
 use graph::{Graph, search};
 use std::alloc::Global;

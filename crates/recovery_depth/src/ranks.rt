@@ -1,6 +1,6 @@
 //! Which of two copies is taken first.
 ghost use Rattle.std.specs.Prelude.{◌≡◌, ◌++◌, ◌∷◌, [], OnOk};
-ghost use Rattle.recovery_depth.specs.Ranks.{ranks_before, rank_in, is_before};
+ghost use Rattle.recovery_depth.specs.Private.Ranks.{ranks_before, rank_in, is_before};
 
 use std::alloc::Global;
 use std::marker::Model;

@@ -1,8 +1,9 @@
 //! The most registers of a walk that ends in each vertex.
 ghost use Rattle.std.specs.Prelude.{◌≡◌, ◌<◌, ◌≤◌, ◌+◌, ◌⊎◌, ℕ, length, slice_index_or, slice_set, replicate, IfOk};
 ghost use Rattle.graph.specs.Rows.{row};
-ghost use Rattle.recovery_depth.specs.Walks.{HasNoLoop, IsOrdered, IsReachIn, one_if, is_marked};
-ghost use Rattle.recovery_depth.specs.Reaching.{IsGreatestOf};
+ghost use Rattle.recovery_depth.specs.Walks.{is_marked};
+ghost use Rattle.recovery_depth.specs.Private.Vertices.{HasNoLoop, IsOrdered, IsReachIn, one_if};
+ghost use Rattle.recovery_depth.specs.Private.Reaching.{IsGreatestOf};
 
 use crate::greatest::greater;
 use crate::ordering::ordered;

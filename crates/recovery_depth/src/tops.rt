@@ -1,8 +1,8 @@
 //! Where the longest chain of each partition ends, and the chains.
 ghost use Rattle.std.specs.Prelude.{◌≡◌, ◌<◌, ℕ, length, map, slice_index, slice_index_or, IfOk};
 ghost use Rattle.flat_net.specs.Nodes.{number_of};
-ghost use Rattle.recovery_depth.specs.Before.{number_at};
-ghost use Rattle.recovery_depth.specs.Tops.{AreTops, AreRead, walked};
+ghost use Rattle.recovery_depth.specs.Private.Before.{number_at};
+ghost use Rattle.recovery_depth.specs.Private.Tops.{AreTops, AreRead, walked};
 
 use crate::before::considered;
 use crate::deep::Deep;

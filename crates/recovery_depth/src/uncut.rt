@@ -4,8 +4,8 @@ ghost use Rattle.std.specs.List.{range_with_len};
 ghost use Rattle.graph.specs.Rows.{row};
 ghost use Rattle.feedback_cut.specs.Inner.{inner_rows};
 ghost use Rattle.feedback_cut.specs.Cut.{CutMeets};
-ghost use Rattle.recovery_depth.specs.Walks.{HasNoLoop};
-ghost use Rattle.recovery_depth.specs.Uncut.{uncut_entry, uncut_row, uncut_rows};
+ghost use Rattle.recovery_depth.specs.Private.Vertices.{HasNoLoop};
+ghost use Rattle.recovery_depth.specs.Private.Uncut.{uncut_entry, uncut_row, uncut_rows};
 
 use feedback_cut::{CutPins, inner_reads};
 use flat_net::{FlatNet, nodes_of};

@@ -1,4 +1,4 @@
-use Rattle.recovery_depth.specs.Before.{IsChosen}
+use Rattle.recovery_depth.specs.Private.Before.{IsChosen}
 use Rattle.recovery_depth.proofs.before.chosen.Given as goal
 
 abbrev pub invariant-loop-x : goal.invariant-loop-x

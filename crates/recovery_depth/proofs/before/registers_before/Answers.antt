@@ -1,7 +1,8 @@
 use Rattle.std.proofs.Common.{◌≡◌, ◌<◌, ◌-◌, ℕ, length, get_or, ◌∙◌, ap, refl, arith}
 use Rattle.graph.specs.Rows.{row}
-use Rattle.recovery_depth.specs.Walks.{one_if, is_marked, IsReachIn}
-use Rattle.recovery_depth.specs.Before.{number_at}
+use Rattle.recovery_depth.specs.Walks.{is_marked}
+use Rattle.recovery_depth.specs.Private.Vertices.{one_if, IsReachIn}
+use Rattle.recovery_depth.specs.Private.Before.{number_at}
 use Rattle.recovery_depth.proofs.BeforeLaws.{chosen_as, one_before, all_before}
 use Rattle.recovery_depth.proofs.before.registers_before.Goals as goal
 

@@ -1,7 +1,7 @@
 use Rattle.std.proofs.Common.{◌+◌, ◌==◌, ◌&&◌, ℕ, cond, get_or, set, refl, ap, ◌∙◌, subst}
 use Rattle.graph.specs.Rows.{row}
 use Rattle.recovery_depth.specs.Walks.{is_marked}
-use Rattle.recovery_depth.specs.Reaching.{IsGreatestOf}
+use Rattle.recovery_depth.specs.Private.Reaching.{IsGreatestOf}
 use Rattle.recovery_depth.proofs.SettledLaws.{one_more_settled, all_settled}
 use Rattle.recovery_depth.proofs.bounding.bounded_labels.Goals as goal
 

@@ -1,6 +1,6 @@
 use Rattle.std.proofs.Common.{◌≡◌, map}
 use Rattle.std.specs.List.{range_with_len}
-use Rattle.recovery_depth.specs.Ranks.{rank_at}
+use Rattle.recovery_depth.specs.Private.Ranks.{rank_at}
 use Rattle.recovery_depth.proofs.copies.ranks.Given as goal
 
 abbrev pub invariant-loop-g : goal.invariant-loop-g

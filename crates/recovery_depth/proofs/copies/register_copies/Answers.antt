@@ -1,7 +1,7 @@
 use Rattle.std.proofs.Common.{◌++◌, ◌∷◌, [], map, sym, ◌∙◌, ap, arith}
 use Rattle.std.specs.List.{range_with_len}
 use Rattle.std.proofs.lemmas.List.FromFn.{map-range_with_len_more}
-use Rattle.recovery_depth.specs.Hardened.{is_register_copy}
+use Rattle.recovery_depth.specs.Private.Copied.{is_register_copy}
 use Rattle.recovery_depth.proofs.copies.register_copies.Goals as goal
 
 pub loop-g-preserved : goal.loop-g-preserved

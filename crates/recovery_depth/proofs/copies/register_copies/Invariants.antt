@@ -1,6 +1,6 @@
 use Rattle.std.proofs.Common.{◌≡◌, map}
 use Rattle.std.specs.List.{range_with_len}
-use Rattle.recovery_depth.specs.Hardened.{is_register_copy}
+use Rattle.recovery_depth.specs.Private.Copied.{is_register_copy}
 use Rattle.recovery_depth.proofs.copies.register_copies.Given as goal
 
 abbrev pub invariant-loop-g : goal.invariant-loop-g

@@ -1,14 +1,14 @@
 use Rattle.std.proofs.Common.{◌≡◌, ℕ, ◌<◌, length, refl, sym, ◌∙◌, ap, subst, arith}
-use Rattle.recovery_depth.specs.Walks.{HasNoLoop, IsReachIn}
+use Rattle.recovery_depth.specs.Private.Vertices.{HasNoLoop, IsReachIn}
 use Rattle.std.specs.Prelude.{map}
 use Rattle.std.proofs.lemmas.Option.{slice_get_within}
 use Rattle.tmr_base.specs.Parts.{PlainParts}
 use Rattle.flat_net.specs.Nodes.{number_of}
-use Rattle.recovery_depth.specs.Hardened.{copied_rows}
-use Rattle.recovery_depth.specs.Tops.{IsRead}
+use Rattle.recovery_depth.specs.Private.Copied.{copied_rows}
+use Rattle.recovery_depth.specs.Private.Tops.{IsRead}
 use Rattle.recovery_depth.proofs.DeepLaws.{IsFound, is_deep, is_least, places_long, copy_reached}
 use Rattle.recovery_depth.proofs.AdmitLaws.{are_admitted}
-use Rattle.recovery_depth.specs.Before.{number_at}
+use Rattle.recovery_depth.specs.Private.Before.{number_at}
 use Rattle.recovery_depth.proofs.CopyLaws.{copied_long}
 use Rattle.recovery_depth.proofs.CopyOrder.{no_copy_loop}
 use Rattle.recovery_depth.proofs.deepest.least.Goals as goal

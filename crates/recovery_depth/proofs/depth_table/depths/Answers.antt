@@ -1,8 +1,8 @@
 use Rattle.std.proofs.Common.{◌≡◌, ℕ, ◌<◌, length, map, get_or, sym, ◌∙◌, subst, arith}
 use Rattle.std.specs.List.{range_with_len}
 use Rattle.feedback_cut.specs.Inner.{inner_rows}
-use Rattle.recovery_depth.specs.Walks.{IsReachIn}
-use Rattle.recovery_depth.specs.Uncut.{uncut_rows}
+use Rattle.recovery_depth.specs.Private.Vertices.{IsReachIn}
+use Rattle.recovery_depth.specs.Private.Uncut.{uncut_rows}
 use Rattle.recovery_depth.specs.Depths.{is_register_at, IsDepth}
 use Rattle.recovery_depth.proofs.UncutLaws.{label_reach}
 use Rattle.recovery_depth.proofs.depth_table.depths.Goals as goal

@@ -1,10 +1,10 @@
 use Rattle.std.proofs.Common.{◌≡◌, ℕ, ◌<◌, length, map, get_or, sym, ◌∙◌, ap, subst}
 use Rattle.std.specs.List.{range_with_len}
 use Rattle.feedback_cut.specs.Inner.{inner_rows}
-use Rattle.recovery_depth.specs.Walks.{IsOrdered}
-use Rattle.recovery_depth.specs.Uncut.{uncut_rows}
+use Rattle.recovery_depth.specs.Private.Vertices.{IsOrdered}
+use Rattle.recovery_depth.specs.Private.Uncut.{uncut_rows}
 use Rattle.recovery_depth.specs.Depths.{is_register_at, IsDepth}
-use Rattle.recovery_depth.specs.Settled.{AreSettled}
+use Rattle.recovery_depth.specs.Private.Settled.{AreSettled}
 use Rattle.recovery_depth.specs.Extra.{AreExtra}
 use Rattle.recovery_depth.proofs.ExtraLaws.{are_extra, none_extra}
 use Rattle.recovery_depth.proofs.extra.bound.Goals as goal

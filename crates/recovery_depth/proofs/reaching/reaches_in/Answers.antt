@@ -1,7 +1,7 @@
 use Rattle.std.proofs.Common.{◌+◌, ℕ, get_or, set, refl, ap, subst, arith}
 use Rattle.graph.specs.Rows.{row}
 use Rattle.recovery_depth.specs.Walks.{is_marked}
-use Rattle.recovery_depth.specs.Reaching.{IsGreatestOf}
+use Rattle.recovery_depth.specs.Private.Reaching.{IsGreatestOf}
 use Rattle.recovery_depth.proofs.ReachLaws.{small_reach, one_more, all_known, little}
 use Rattle.recovery_depth.proofs.reaching.reaches_in.Goals as goal
 

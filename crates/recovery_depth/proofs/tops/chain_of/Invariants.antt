@@ -1,7 +1,7 @@
 use Rattle.std.proofs.Common.{◌≡◌, ◌++◌, ◌-◌, map, reverse}
 use Rattle.flat_net.specs.Nodes.{number_of}
-use Rattle.recovery_depth.specs.Before.{number_at}
-use Rattle.recovery_depth.specs.Tops.{walked}
+use Rattle.recovery_depth.specs.Private.Before.{number_at}
+use Rattle.recovery_depth.specs.Private.Tops.{walked}
 use Rattle.recovery_depth.proofs.tops.chain_of.Given as goal
 
 abbrev pub invariant-loop-step : goal.invariant-loop-step

@@ -1,7 +1,7 @@
 use Rattle.std.proofs.Common.{ℕ, ◌+◌, map, length, sym, ◌∙◌, ap, subst}
 use Rattle.std.proofs.lemmas.List.{length_push}
-use Rattle.recovery_depth.specs.Before.{number_at}
-use Rattle.recovery_depth.specs.Tops.{walked, AreRead}
+use Rattle.recovery_depth.specs.Private.Before.{number_at}
+use Rattle.recovery_depth.specs.Private.Tops.{walked, AreRead}
 use Rattle.recovery_depth.proofs.WalkedLaws.{one_read}
 use Rattle.recovery_depth.proofs.tops.deeps.Goals as goal
 

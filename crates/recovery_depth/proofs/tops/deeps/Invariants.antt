@@ -1,5 +1,5 @@
 use Rattle.std.proofs.Common.{◌≡◌, length}
-use Rattle.recovery_depth.specs.Tops.{AreRead}
+use Rattle.recovery_depth.specs.Private.Tops.{AreRead}
 use Rattle.recovery_depth.proofs.tops.deeps.Given as goal
 
 abbrev pub invariant-loop-p : goal.invariant-loop-p

@@ -1,4 +1,4 @@
-use Rattle.recovery_depth.specs.Tops.{AreTops}
+use Rattle.recovery_depth.specs.Private.Tops.{AreTops}
 use Rattle.recovery_depth.proofs.tops.tops.Given as goal
 
 abbrev pub invariant-loop-g : goal.invariant-loop-g

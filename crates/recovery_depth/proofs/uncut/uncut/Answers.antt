@@ -1,7 +1,7 @@
 use Rattle.std.proofs.Common.{◌++◌, ◌∷◌, [], map, sym, ◌∙◌, ap, arith}
 use Rattle.std.specs.List.{range_with_len}
 use Rattle.std.proofs.lemmas.List.FromFn.{map-range_with_len_more}
-use Rattle.recovery_depth.specs.Uncut.{uncut_row}
+use Rattle.recovery_depth.specs.Private.Uncut.{uncut_row}
 use Rattle.recovery_depth.proofs.uncut.uncut.Goals as goal
 
 pub loop-y-preserved : goal.loop-y-preserved

@@ -1,6 +1,6 @@
 use Rattle.std.proofs.Common.{◌≡◌, map}
 use Rattle.std.specs.List.{range_with_len}
-use Rattle.recovery_depth.specs.Uncut.{uncut_row}
+use Rattle.recovery_depth.specs.Private.Uncut.{uncut_row}
 use Rattle.recovery_depth.proofs.uncut.uncut.Given as goal
 
 abbrev pub invariant-loop-y : goal.invariant-loop-y

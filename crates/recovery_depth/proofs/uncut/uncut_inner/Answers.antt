@@ -1,8 +1,8 @@
 use Rattle.std.proofs.Common.{◌<◌, length, sym, ◌∙◌, ap, subst, arith}
 use Rattle.graph.specs.Rows.{row}
 use Rattle.feedback_cut.proofs.InnerLaws.{inner_long}
-use Rattle.recovery_depth.specs.Walks.{HasNoLoop}
-use Rattle.recovery_depth.specs.Uncut.{uncut_rows}
+use Rattle.recovery_depth.specs.Private.Vertices.{HasNoLoop}
+use Rattle.recovery_depth.specs.Private.Uncut.{uncut_rows}
 use Rattle.recovery_depth.proofs.UncutLaws.{shape, few_places, no_loop, rest_long}
 use Rattle.recovery_depth.proofs.uncut.uncut_inner.Goals as goal
 

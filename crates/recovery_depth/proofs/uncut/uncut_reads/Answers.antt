@@ -1,7 +1,7 @@
 use Rattle.std.proofs.Common.{◌++◌, ◌∷◌, [], map, sym, ◌∙◌, ap, arith}
 use Rattle.std.specs.List.{range_with_len}
 use Rattle.std.proofs.lemmas.List.FromFn.{map-range_with_len_more}
-use Rattle.recovery_depth.specs.Uncut.{uncut_entry}
+use Rattle.recovery_depth.specs.Private.Uncut.{uncut_entry}
 use Rattle.recovery_depth.proofs.uncut.uncut_reads.Goals as goal
 
 pub loop-place-preserved : goal.loop-place-preserved

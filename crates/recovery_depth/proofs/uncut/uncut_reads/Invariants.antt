@@ -1,6 +1,6 @@
 use Rattle.std.proofs.Common.{◌≡◌, map}
 use Rattle.std.specs.List.{range_with_len}
-use Rattle.recovery_depth.specs.Uncut.{uncut_entry}
+use Rattle.recovery_depth.specs.Private.Uncut.{uncut_entry}
 use Rattle.recovery_depth.proofs.uncut.uncut_reads.Given as goal
 
 abbrev pub invariant-loop-place : goal.invariant-loop-place

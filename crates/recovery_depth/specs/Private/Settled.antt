@@ -1,8 +1,9 @@
--- Only private functions cite this: labels and marks of vertices, each from those of the vertices that it reads.
+-- Labels and marks of vertices, each from those of the vertices that it reads.
 use Rattle.std.specs.Prelude.{◌≡◌, ℕ, ◌+◌, ◌<◌, ◌≤◌, ◌==◌, ◌&&◌, Bool, List, length, slice_index_or, if◌then◌else◌}
 use Rattle.graph.specs.Rows.{row}
-use Rattle.recovery_depth.specs.Walks.{is_marked, one_if}
-use Rattle.recovery_depth.specs.Reaching.{IsGreatestOf}
+use Rattle.recovery_depth.specs.Walks.{is_marked}
+use Rattle.recovery_depth.specs.Private.Vertices.{one_if}
+use Rattle.recovery_depth.specs.Private.Reaching.{IsGreatestOf}
 
 -- x is marked exactly where it is a register and the greatest label that it reads is `most`; its label is that greatest one, or
 -- 0 where x is marked, and one more for a register

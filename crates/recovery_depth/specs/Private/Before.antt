@@ -2,7 +2,8 @@
 use Rattle.std.specs.Prelude.{◌≡◌, ◌≢◌, ℕ, ◌+◌, ◌<◌, ◌⊎◌, Bool, true, List, length, slice_index, slice_index_or, ◌++◌, if◌then◌else◌}
 use Rattle.graph.specs.Rows.{Follows}
 use Rattle.graph.specs.Lists.{Leads}
-use Rattle.recovery_depth.specs.Walks.{Walk, is_marked, one_if, marked}
+use Rattle.recovery_depth.specs.Walks.{Walk, is_marked}
+use Rattle.recovery_depth.specs.Private.Vertices.{one_if, marked}
 
 abbrev pub number_at : List ℕ → ℕ → ℕ
 number_at numbers x = slice_index_or numbers x 0

@@ -9,7 +9,7 @@ use Rattle.certificate.specs.declared.role.Role.TheVariants.{Copy, Voter}
 use Rattle.certificate.specs.Cert.{PlainCert, part_of}
 use Rattle.recovery_depth.specs.declared.deep.Deep.{Deep}
 use Rattle.recovery_depth.specs.Hardened.{role_at}
-use Rattle.recovery_depth.specs.Before.{number_at, last_of}
+use Rattle.recovery_depth.specs.Private.Before.{number_at, last_of}
 
 abbrev pub part_or_zero : Option ℕ → ℕ
 part_or_zero None = 0
