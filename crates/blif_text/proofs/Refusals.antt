@@ -3,7 +3,7 @@ use Rattle.std.proofs.Common.{◌≡◌, Option, Result, Ok, Err, ◌∙◌, sym
 use Rattle.blif_text.specs.declared.fault.TextKind.{TextKind}
 use Rattle.blif_text.specs.declared.fault.Refusal.{Refusal}
 use Rattle.blif_text.specs.declared.fault.Refusal.TheVariants as refusals
-use Rattle.blif_text.specs.Answers.{Answers}
+use Rattle.blif_text.specs.Private.Answers.{Answers}
 
 pub refused_so : {X Y : Type 0} (e : Refusal) (kind other : Option TextKind) (P : X → Type 0) (Q : Y → Type 0) → kind ≡ other → Answers (Err e) kind P → Answers (Err e) other Q
 refused_so (refusals.Bad k) kind other P Q same h = sym same ∙ h

@@ -9,7 +9,8 @@ use Rattle.table_cover.specs.Pushing as pushing
 use Rattle.table_cover.specs.Pushing.{is_output, is_mixed, row_fault, bool_same}
 use Rattle.blif_text.specs.declared.fault.TextKind.TheVariants.{BadRow, MixedCover}
 use Rattle.blif_text.specs.Kind.{Marks, row_in, marks_kind, mixed_kind, when}
-use Rattle.blif_text.specs.Views.{bit, marked, marked_rows, output_before}
+use Rattle.blif_text.specs.Views.{bit, marked, marked_rows}
+use Rattle.blif_text.specs.Private.Progress.{output_before}
 
 -- Which fault it is, by three tests.
 

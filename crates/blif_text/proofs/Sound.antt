@@ -8,15 +8,15 @@ use Rattle.std.proofs.lemmas.List.Elements.{All-push, All-append, All-head, All-
 use Rattle.std.proofs.lemmas.List.Folds.{list_any_at}
 use Rattle.std.proofs.lemmas.Slice.Eq.{bytes_eq-Decides}
 use Rattle.blif_text.specs.declared.fault.TextKind.{TextKind}
-use Rattle.blif_text.specs.declared.word.Word.{Word}
-use Rattle.blif_text.specs.declared.word.Word.TheVariants.{Model, Inputs, Outputs, Clock, Names, Latch, Subckt, End, Unknown, Row}
+use Rattle.blif_text.specs.declared.statements.word.Word.{Word}
+use Rattle.blif_text.specs.declared.statements.word.Word.TheVariants.{Model, Inputs, Outputs, Clock, Names, Latch, Subckt, End, Unknown, Row}
 use Rattle.blif_text.specs.Text.{Statement, statement, spoken}
 use Rattle.blif_text.specs.Kind.{Marks, is_among, model_kind, port_kind, ports_kind, when, ◌or_else◌, kind_at, kind_here}
 use Rattle.blif_text.specs.Models.{PlainModel, PlainElement, appearing, first_token, table, register, instance}
 use Rattle.blif_text.specs.Library.{Differ, FitsPins, IsModel, IsLibrary, name_of}
-use Rattle.blif_text.specs.Progress.{Progress, OpenModel, OpenTable, nothing, fresh, here_in, kind_in, after, all_models, all_elements, ended, ended_model, more_of, with_table, with_row}
-use Rattle.blif_text.specs.Stands.{Takes}
-use Rattle.blif_text.specs.Sound.{IsSound}
+use Rattle.blif_text.specs.Private.Progress.{Progress, OpenModel, OpenTable, nothing, fresh, here_in, kind_in, after, all_models, all_elements, ended, ended_model, more_of, with_table, with_row}
+use Rattle.blif_text.specs.Private.Stands.{Takes}
+use Rattle.blif_text.specs.Private.Sound.{IsSound}
 
 -- Names that differ.
 

@@ -4,11 +4,11 @@ use Rattle.std.specs.Borrow.{Bor}
 use Rattle.std.proofs.lemmas.List.{map_push}
 use Rattle.blif_text.specs.declared.fault.TextKind.{TextKind}
 use Rattle.blif_text.specs.declared.fault.TextKind.TheVariants.{Arguments}
-use Rattle.blif_text.specs.Answers.{plain}
+use Rattle.blif_text.specs.Private.Answers.{plain}
 use Rattle.blif_text.specs.Kind.{when, ◌or_else◌, name_kind, names_kind, table_kind, row_of, row_kind, marks_kind}
 use Rattle.blif_text.specs.Models.{Table, last_token, is_on, table}
-use Rattle.blif_text.specs.Progress.{OpenTable, last_output, shape_of, with_row}
-use Rattle.blif_text.specs.Views.{bit, marked, marked_rows, output_before, table_view}
+use Rattle.blif_text.specs.Private.Progress.{OpenTable, output_before, table_view, last_output, shape_of, with_row}
+use Rattle.blif_text.specs.Views.{bit, marked, marked_rows}
 use Rattle.table_cover.specs.Cover.{PlainCover}
 use Rattle.blif_text.proofs.Pieces.{all_but_last-append}
 

@@ -3,7 +3,7 @@ use Rattle.std.proofs.Common.{◌≡◌, ℕ, ◌<◌, ◌+◌, List, [], ◌∷
 use Rattle.std.proofs.Math.Seq.{drop-cons}
 use Rattle.std.specs.Borrow.{Bor}
 use Rattle.blif_text.specs.declared.fault.TextKind.{TextKind}
-use Rattle.blif_text.specs.Answers.{plain}
+use Rattle.blif_text.specs.Private.Answers.{plain}
 use Rattle.blif_text.specs.Kind.{◌or_else◌, name_kind, names_kind, binding_kind, bindings_kind}
 
 here : (tokens : List (Bor (List ℕ))) (i : ℕ) (d : Bor (List ℕ)) → i < length tokens → drop i tokens ≡ get_or tokens i d ∷ drop (i + 1) tokens

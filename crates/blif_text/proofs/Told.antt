@@ -2,10 +2,10 @@
 use Rattle.std.proofs.Common.{◌≡◌, ℕ, List, [], ◌++◌, IfErr, sym, ◌∙◌, ap, subst, append-nil, Option, Some, None, Result, Ok, Err}
 use Rattle.blif_text.specs.declared.fault.TextFault.{TextFault}
 use Rattle.blif_text.specs.declared.fault.TextFault.TheVariants as faults
-use Rattle.blif_text.specs.Pending.{Pending}
-use Rattle.blif_text.specs.Progress.{Progress}
-use Rattle.blif_text.specs.Reading.{reading, ended_bad}
-use Rattle.blif_text.specs.Stands.{IsBadOf, IsFaultOf}
+use Rattle.blif_text.specs.Private.Pending.{Pending}
+use Rattle.blif_text.specs.Private.Progress.{Progress}
+use Rattle.blif_text.specs.Reading.{reading, ended_bad, IsFaultOf}
+use Rattle.blif_text.specs.Private.Stands.{IsBadOf}
 use Rattle.blif_text.specs.Reader.{HasRead, FirstBadIs}
 use Rattle.blif_text.proofs.Pass.{stands-good}
 use Rattle.blif_text.proofs.Taken.{bad_given, bad_longer}

@@ -10,8 +10,8 @@ use Rattle.table_cover.specs.Cover.{is_mark}
 use Rattle.table_cover.specs.Pushing.{is_output}
 use Rattle.blif_text.specs.declared.fault.TextKind.{TextKind}
 use Rattle.blif_text.specs.declared.fault.TextKind.TheVariants.{NoModel, Unsupported, BadName, BadRow, MixedCover, BadLatch, BadBinding, DuplicatePort, DuplicateModel, RowOutside, Arguments}
-use Rattle.blif_text.specs.declared.word.Word.{Word}
-use Rattle.blif_text.specs.declared.word.Word.TheVariants.{Model, Inputs, Outputs, Clock, Names, Latch, Subckt, End, Unknown, Row}
+use Rattle.blif_text.specs.declared.statements.word.Word.{Word}
+use Rattle.blif_text.specs.declared.statements.word.Word.TheVariants.{Model, Inputs, Outputs, Clock, Names, Latch, Subckt, End, Unknown, Row}
 use Rattle.blif_text.specs.Text.{Statement}
 
 -- the kind, where the test passes

@@ -1,13 +1,9 @@
 pub mod Text
-pub mod Pending
 pub mod Word
 pub mod Kind
 pub mod Models
 pub mod Reading
-pub mod Progress
-pub mod Stands
-pub mod Answers
 pub mod Views
 pub mod Library
-pub mod Sound
 pub mod Reader
+pub mod Private

@@ -3,8 +3,8 @@
 -- Names are their bytes, and lists of names are lists of lists of bytes.
 use Rattle.std.specs.Prelude.{ℕ, ◌-◌, ◌==◌, Bool, true, false, List, [], ◌∷◌, ◌++◌, length, map, Option, Some, None, codes, if◌then◌else◌}
 use Rattle.std.specs.Str.{bytes_eq}
-use Rattle.blif_text.specs.declared.word.Word.{Word}
-use Rattle.blif_text.specs.declared.word.Word.TheVariants.{Model, Inputs, Outputs, Clock, Names, Latch, Subckt, End, Row}
+use Rattle.blif_text.specs.declared.statements.word.Word.{Word}
+use Rattle.blif_text.specs.declared.statements.word.Word.TheVariants.{Model, Inputs, Outputs, Clock, Names, Latch, Subckt, End, Row}
 use Rattle.tmr_base.specs.declared.ids.Edge.{Edge}
 use Rattle.tmr_base.specs.declared.ids.Edge.TheVariants.{Rising, Falling}
 use Rattle.blif_text.specs.declared.library.Init.{Init}

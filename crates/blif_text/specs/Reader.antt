@@ -3,10 +3,10 @@ use Rattle.std.specs.Prelude.{◌≡◌, ℕ, ◌+◌, ◌≤◌, List, length, 
 use Rattle.blif_text.specs.declared.fault.TextFault.{TextFault}
 use Rattle.blif_text.specs.declared.fault.TextFault.TheVariants as faults
 use Rattle.blif_text.specs.Kind.{Bad}
-use Rattle.blif_text.specs.Pending.{Pending}
-use Rattle.blif_text.specs.Progress.{Progress}
-use Rattle.blif_text.specs.Sound.{IsSound}
-use Rattle.blif_text.specs.Stands.{Stands, IsBadOf}
+use Rattle.blif_text.specs.Private.Pending.{Pending}
+use Rattle.blif_text.specs.Private.Progress.{Progress}
+use Rattle.blif_text.specs.Private.Sound.{IsSound}
+use Rattle.blif_text.specs.Private.Stands.{Stands, IsBadOf}
 
 -- how many more bytes may come, what is in hand of the last statement, what the statements before it gave,
 -- and the fault that each call answers from the first refusal on

@@ -1,8 +1,10 @@
 -- What the bytes of a text give: its models, or the first bad line with its kind.
 --
 -- The definition of reading is this file and those that it names: Text, Word, Kind and Models.
-use Rattle.std.specs.Prelude.{ℕ, List, [], ◌∷◌, Option, Some, None, Result, Ok, Err}
+use Rattle.std.specs.Prelude.{◌≡◌, ℕ, List, [], ◌∷◌, Option, Some, None, Result, Ok, Err}
 use Rattle.blif_text.specs.declared.fault.TextKind.TheVariants.{NoModel}
+use Rattle.blif_text.specs.declared.fault.TextFault.{TextFault}
+use Rattle.blif_text.specs.declared.fault.TextFault.TheVariants as faults
 use Rattle.blif_text.specs.Text.{Statement, statements, ended_statements}
 use Rattle.blif_text.specs.Kind.{Bad, first_bad}
 use Rattle.blif_text.specs.Models.{PlainModel, models}
@@ -23,3 +25,13 @@ reading bytes = reading_of (statements bytes)
 -- the first bad line among those that have come to their end
 abbrev pub ended_bad : List ℕ → Option Bad
 ended_bad bytes = first_bad [] (ended_statements bytes)
+
+-- the fault is the one that the reading has
+abbrev pub IsFaultOf : Result (List PlainModel) Bad → TextFault → Type 0
+IsFaultOf read (faults.Bad line kind) = read ≡ Err (record { line = line; kind = kind })
+IsFaultOf read faults.Memory = Unit {0}
+
+-- unless memory ran out, the models, or the first bad line, are those of the reading
+abbrev pub Reads : Result (List PlainModel) TextFault → Result (List PlainModel) Bad → Type 0
+Reads (Ok models) read = read ≡ Ok models
+Reads (Err fault) read = IsFaultOf read fault

@@ -4,7 +4,7 @@
 -- What stands here reads the whole text at once. How a text that comes in pieces is read is nowhere part of it.
 use Rattle.std.specs.Prelude.{ℕ, ◌+◌, ◌-◌, ◌==◌, Bool, ◌||◌, not, List, [], ◌∷◌, ◌++◌, length, take, filter, if◌then◌else◌}
 use Rattle.std.specs.List.{slice_index, slice_split, before_first, suffix_len, flat_map}
-use Rattle.blif_text.specs.declared.word.Word.{Word}
+use Rattle.blif_text.specs.declared.statements.word.Word.{Word}
 use Rattle.blif_text.specs.Word.{word_of}
 
 -- Lines. The bytes are cut at each LF: what stands before the first, between two, and behind the last.

@@ -1,8 +1,8 @@
 -- What a statement's first token says: one of the eight words that are read, another word with a dot, or a row.
 use Rattle.std.specs.Prelude.{ℕ, ◌==◌, Bool, false, true, List, [], ◌∷◌, codes, if◌then◌else◌}
 use Rattle.std.specs.Str.{bytes_eq}
-use Rattle.blif_text.specs.declared.word.Word.{Word}
-use Rattle.blif_text.specs.declared.word.Word.TheVariants.{Model, Inputs, Outputs, Clock, Names, Latch, Subckt, End, Unknown, Row}
+use Rattle.blif_text.specs.declared.statements.word.Word.{Word}
+use Rattle.blif_text.specs.declared.statements.word.Word.TheVariants.{Model, Inputs, Outputs, Clock, Names, Latch, Subckt, End, Unknown, Row}
 
 -- the first byte is a dot
 abbrev pub has_dot : List ℕ → Bool

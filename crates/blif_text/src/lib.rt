@@ -7,19 +7,11 @@
 #![tactic(auto)]
 
 mod fault;
-mod instance;
-mod latch;
 mod library;
-mod line;
 mod lines;
-mod model;
-mod name_lists;
 mod progress;
 mod reader;
-mod row;
-mod table;
-mod text;
-mod word;
+mod statements;
 
 pub use fault::{TextFault, TextKind};
 pub use library::{BlifModel, Element, Init, Library};

@@ -1,19 +1,21 @@
 //! The models so far, and the open one.
 ghost use Rattle.std.specs.Prelude.{◌≡◌, ◌++◌, ◌∷◌, [], ◌==◌, List, ℕ, Some, None, true, map, OnOk, IfOk, length};
-ghost use Rattle.blif_text.specs.Answers.{Answers, plain};
-ghost use Rattle.blif_text.specs.Progress.{nothing, fresh, kind_in, after, all_models, ended};
+ghost use Rattle.blif_text.specs.Private.Answers.{Answers, plain};
+ghost use Rattle.blif_text.specs.Private.Progress.{nothing, fresh, kind_in, after, all_models, ended};
 ghost use Rattle.blif_text.specs.Kind.{model_kind};
 ghost use Rattle.blif_text.specs.Models.{first_token};
 ghost use Rattle.blif_text.specs.Text.{statement, statement_by};
 ghost use Rattle.blif_text.specs.Word.{is_inner};
-ghost use Rattle.blif_text.specs.declared.word.Word.TheVariants.{End};
+ghost use Rattle.blif_text.specs.declared.statements.word.Word.TheVariants.{End};
 ghost use Rattle.blif_text.specs.Views.{plain_model};
+
+mod model;
 
 use crate::fault::{Refusal, TextKind};
 use crate::library::BlifModel;
-use crate::model::OpenModel;
-use crate::name_lists::read_name;
-use crate::word::{Word, word_of};
+use crate::progress::model::OpenModel;
+use crate::statements::name_lists::read_name;
+use crate::statements::word::{Word, word_of};
 use indexmap::IndexSet;
 use std::alloc::{AllocError, Global};
 use std::marker::Model;
@@ -31,7 +33,7 @@ pub(crate) struct Progress {
 
 impl Model for Progress {
     ghost use Rattle.std.specs.Prelude.{map};
-    ghost use Rattle.blif_text.specs.Progress.{Progress};
+    ghost use Rattle.blif_text.specs.Private.Progress.{Progress};
     ghost use Rattle.blif_text.specs.Views.{plain_model};
 
     ghost Value = { Progress };

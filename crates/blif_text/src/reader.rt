@@ -1,14 +1,15 @@
 //! A reader that is given a text in pieces.
 ghost use Rattle.std.specs.Prelude.{◌≡◌, ◌≤◌, ◌+◌, ◌++◌, [], List, ℕ, Some, None, Err, length, IfOk, IfErr, IfSome, OnOk};
-ghost use Rattle.blif_text.specs.Reading.{reading, ended_bad};
-ghost use Rattle.blif_text.specs.Stands.{Reads, IsFaultOf};
+ghost use Rattle.blif_text.specs.Reading.{reading, ended_bad, Reads, IsFaultOf};
 ghost use Rattle.blif_text.specs.Reader.{StandsFor, FirstBadIs, most_bytes};
+
+mod text;
 
 use crate::fault::TextFault;
 use crate::library::Library;
 use crate::lines::Lines;
 use crate::progress::Progress;
-use crate::text::{finish, take_piece};
+use crate::reader::text::{finish, take_piece};
 use std::alloc::Global;
 use std::marker::Model;
 use tmr_base::OutOfMemory;

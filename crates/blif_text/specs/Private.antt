@@ -1,0 +1,7 @@
+-- What a reader keeps between two pieces, and what its private functions answer. No clause of a public function has to be
+-- believed by these: they say how it is done.
+pub mod Answers
+pub mod Pending
+pub mod Progress
+pub mod Sound
+pub mod Stands
