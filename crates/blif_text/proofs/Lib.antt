@@ -10,3 +10,5 @@ pub mod Sound
 pub mod Told
 pub mod Tokens
 pub mod FirstByte
+pub mod Bounds
+pub mod Latches

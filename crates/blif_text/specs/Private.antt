@@ -4,4 +4,6 @@ pub mod Answers
 pub mod Pending
 pub mod Progress
 pub mod Sound
+pub mod Latches
+pub mod Bounds
 pub mod Stands

@@ -6,6 +6,7 @@ use Rattle.blif_text.specs.Kind.{Bad}
 use Rattle.blif_text.specs.Private.Pending.{Pending}
 use Rattle.blif_text.specs.Private.Progress.{Progress}
 use Rattle.blif_text.specs.Private.Sound.{IsSound}
+use Rattle.blif_text.specs.Private.Bounds.{IsShort}
 use Rattle.blif_text.specs.Private.Stands.{Stands, IsBadOf}
 
 -- how many more bytes may come, what is in hand of the last statement, what the statements before it gave,
@@ -34,6 +35,7 @@ pub record StandsFor (r : ReaderState) (given : List ℕ) : Type 0 where
 pub record KeepsOn (r : ReaderState) : Type 0 where
   pub lines : r.pending.number + r.room ≤ most_bytes + 1
   pub sound : r.refused ≡ None → IsSound r.progress
+  pub short : r.refused ≡ None → IsShort r.pending r.progress r.room
 
 -- unless memory ran out, the answer is the first bad line, or that there is none
 abbrev pub FirstBadIs : Option Bad → Result (Unit {0}) TextFault → Type 0

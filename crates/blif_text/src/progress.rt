@@ -1,7 +1,8 @@
 //! The models so far, and the open one.
-ghost use Rattle.std.specs.Prelude.{◌≡◌, ◌++◌, ◌∷◌, [], ◌==◌, List, ℕ, Some, None, true, map, OnOk, IfOk, length};
+ghost use Rattle.std.specs.Prelude.{◌≡◌, ◌<◌, ◌++◌, ◌∷◌, [], ◌==◌, List, ℕ, Some, None, true, map, OnOk, IfOk, length};
 ghost use Rattle.blif_text.specs.Private.Answers.{Answers, plain};
 ghost use Rattle.blif_text.specs.Private.Progress.{nothing, fresh, kind_in, after, all_models, ended};
+ghost use Rattle.blif_text.specs.Private.Bounds.{rows_in};
 ghost use Rattle.blif_text.specs.Kind.{model_kind};
 ghost use Rattle.blif_text.specs.Models.{first_token};
 ghost use Rattle.blif_text.specs.Text.{statement, statement_by};
@@ -155,7 +156,9 @@ impl Progress {
         first: &[u8],
         arguments: &[&[u8]],
     ) -> Result<(), Refusal>
-        requires { is_inner word ≡ true }
+        requires inner { is_inner word ≡ true }
+        requires few { length arguments.now < 4294967296 }
+        requires rows { rows_in self.old.open_model < 4294967295 }
         ensures { (line : ℕ) → Answers result (kind_in self.old (statement_by line word first.now (plain arguments.now)))
             (λ _. self.new ≡ after self.old (statement_by line word first.now (plain arguments.now))) }
     {
@@ -168,6 +171,8 @@ impl Progress {
     /// Takes a statement.
     #[tactic(auto, unfolding(crate::specs::Kind::kind_at))]
     pub fn take(&mut self, alloc: Global, first: &[u8], arguments: &[&[u8]]) -> Result<(), Refusal>
+        requires few { length arguments.now < 4294967296 }
+        requires rows { rows_in self.old.open_model < 4294967295 }
         ensures { (line : ℕ) → Answers result (kind_in self.old (statement line first.now (plain arguments.now)))
             (λ _. self.new ≡ after self.old (statement line first.now (plain arguments.now))) }
     {

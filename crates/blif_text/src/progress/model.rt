@@ -1,9 +1,10 @@
 //! The open model: what its statements have given so far.
-ghost use Rattle.std.specs.Prelude.{◌≡◌, ◌≢◌, ◌++◌, ◌∷◌, [], map, OnOk, IfOk, is_ok, None, true, List, ℕ, option_map};
+ghost use Rattle.std.specs.Prelude.{◌≡◌, ◌≢◌, ◌<◌, ◌++◌, ◌∷◌, [], length, map, OnOk, IfOk, is_ok, None, true, List, ℕ, option_map};
 ghost use Rattle.blif_text.specs.declared.statements.word.Word.TheVariants.{Row};
 ghost use Rattle.blif_text.specs.Private.Answers.{Answers, plain};
 ghost use Rattle.blif_text.specs.Kind.{kind_here, row_kind};
 ghost use Rattle.blif_text.specs.Private.Progress.{fresh, here_in, more_of, with_table, without_table, ended_model, all_elements, shape_of, with_row, with_elements};
+ghost use Rattle.blif_text.specs.Private.Bounds.{rows_of};
 ghost use Rattle.blif_text.specs.Text.{statement_by};
 ghost use Rattle.blif_text.specs.Word.{is_inner};
 ghost use Rattle.blif_text.specs.Views.{plain_element, plain_model};
@@ -92,6 +93,7 @@ impl OpenModel {
     /// Takes a row.
     #[tactic(auto, unfolding(crate::specs::Kind::row_kind))]
     fn take_row(&mut self, first: &[u8], arguments: &[&[u8]]) -> Result<(), Refusal>
+        requires { rows_of self.old.table < 4294967295 }
         ensures { Answers result (row_kind (option_map shape_of self.old.table) (first.now ∷ plain arguments.now)) (λ _. self.new ≡ record {
           name = self.old.name;
           inputs = self.old.inputs;
@@ -108,14 +110,6 @@ impl OpenModel {
         }
     }
 
-    /// Takes one element, as `register` or `instance` has it of the tokens.
-    fn put(&mut self, element: Element) -> Result<(), AllocError>
-        requires { self.old.table ≡ None }
-        ensures { OnOk result (self.new ≡ with_elements self.old (plain_element element ∷ []) None) }
-    {
-        Ok(self.elements.push(element)?)
-    }
-
     /// Takes a statement that is no row, where no table has rows to come.
     fn take_arguments(
         &mut self,
@@ -126,6 +120,7 @@ impl OpenModel {
         requires inner { is_inner word ≡ true }
         requires no_row { word ≢ Row }
         requires no_table { self.old.table ≡ None }
+        requires few { length arguments.now < 4294967296 }
         ensures { (line : ℕ) (first : List ℕ) (models : List (List ℕ)) → Answers result (kind_here word models (here_in self.old) (statement_by line word first (plain arguments.now)))
             (λ _. self.new ≡ more_of word (statement_by line word first (plain arguments.now)) self.old) }
     {
@@ -141,11 +136,11 @@ impl OpenModel {
                 Err(refusal) => Err(refusal),
             },
             Word::Latch => match read_latch(alloc, arguments) {
-                Ok(latch) => Ok(self.put(latch)?),
+                Ok(latch) => Ok(self.elements.push(latch)?),
                 Err(refusal) => Err(refusal),
             },
             Word::Subckt => match read_instance(alloc, arguments) {
-                Ok(instance) => Ok(self.put(instance)?),
+                Ok(instance) => Ok(self.elements.push(instance)?),
                 Err(refusal) => Err(refusal),
             },
             Word::Unknown | Word::Model | Word::End | Word::Row => {
@@ -163,7 +158,9 @@ impl OpenModel {
         first: &[u8],
         arguments: &[&[u8]],
     ) -> Result<(), Refusal>
-        requires { is_inner word ≡ true }
+        requires inner { is_inner word ≡ true }
+        requires few { length arguments.now < 4294967296 }
+        requires rows { rows_of self.old.table < 4294967295 }
         ensures { (line : ℕ) (models : List (List ℕ)) → Answers result (kind_here word models (here_in self.old) (statement_by line word first.now (plain arguments.now)))
             (λ _. self.new ≡ more_of word (statement_by line word first.now (plain arguments.now)) self.old) }
     {

@@ -4,6 +4,7 @@ ghost use Rattle.std.specs.List.{position};
 ghost use Rattle.blif_text.specs.Private.Stands.{Stands, Takes, Refuses, IsBadOf, reading_in};
 ghost use Rattle.blif_text.specs.Reading.{Reads, reading};
 ghost use Rattle.blif_text.specs.Private.Sound.{IsSound};
+ghost use Rattle.blif_text.specs.Private.Bounds.{rows_in, IsShort};
 ghost use Rattle.blif_text.specs.Reader.{HasRead};
 ghost use Rattle.blif_text.specs.Text.{spoken, tokens, joins_next, part, is_lf};
 ghost use Rattle.blif_text.specs.Private.Pending.{with_bytes};
@@ -19,6 +20,8 @@ use std::alloc::Global;
 /// Takes the statement of a joined line, if it has tokens.
 #[tactic(auto, unfolding(crate::specs::Text::spoken))]
 fn take_text(alloc: Global, progress: &mut Progress, text: &[u8]) -> Result<(), Refusal>
+    requires text { length text.now < 2 ^ 32 - 1 }
+    requires rows { rows_in progress.old.open_model < 2 ^ 32 - 1 }
     ensures { (line : ℕ) → Takes (spoken line (tokens text.now)) progress.old progress.new result }
 {
     let tokens = tokens(alloc, text)?;
@@ -30,6 +33,8 @@ fn take_text(alloc: Global, progress: &mut Progress, text: &[u8]) -> Result<(), 
 
 /// Takes the statement of the joined line in hand, and begins the next.
 fn take_joined(alloc: Global, lines: &mut Lines, progress: &mut Progress) -> Result<(), TextFault>
+    requires text { length lines.old.text < 2 ^ 32 - 1 }
+    requires rows { rows_in progress.old.open_model < 2 ^ 32 - 1 }
     ensures begun { OnOk result (lines.new ≡ record { first = lines.old.number; text = []; number = lines.old.number; line = lines.old.line }) }
     ensures taken { OnOk result (Takes (spoken lines.old.first (tokens lines.old.text)) progress.old progress.new (Ok tt)) }
     ensures refused { IfErr result (λ fault. Refuses lines.old.first (λ r. Takes (spoken lines.old.first (tokens lines.old.text)) progress.old progress.new r) fault) }
@@ -49,7 +54,9 @@ fn take_joined(alloc: Global, lines: &mut Lines, progress: &mut Progress) -> Res
 
 /// Ends the line in hand, and takes the statement that ends with it.
 fn end_line(alloc: Global, lines: &mut Lines, progress: &mut Progress) -> Result<(), TextFault>
-    requires { lines.old.number < 2 ^ 32 - 1 }
+    requires number { lines.old.number < 2 ^ 32 - 1 }
+    requires short { IsShort lines.old progress.old 0 }
+    ensures short { OnOk result ((more : ℕ) → IsShort lines.old progress.old more → IsShort lines.new progress.new more) }
     ensures ok { OnOk result ((given : List ℕ) → Stands lines.old progress.old given → Stands lines.new progress.new (given ++ 10 ∷ [])) }
     ensures bad { IfErr result (λ fault. (given : List ℕ) → Stands lines.old progress.old given → IsBadOf (given ++ 10 ∷ []) fault) }
     ensures sound { OnOk result (IsSound progress.old → IsSound progress.new) }
@@ -94,6 +101,8 @@ fn take_front(
 ) -> Result<usize, TextFault>
     requires some { 0 < length bytes.now }
     requires number { lines.old.number + length bytes.now < 2 ^ 32 - 1 }
+    requires short { IsShort lines.old progress.old (length bytes.now) }
+    ensures short { IfOk result (λ n. (more : ℕ) → IsShort lines.old progress.old (n + more) → IsShort lines.new progress.new more) }
     ensures some { IfOk result (λ n. (0 < n) × (n ≤ length bytes.now)) }
     ensures ok { IfOk result (λ n. (given : List ℕ) → Stands lines.old progress.old given → Stands lines.new progress.new (given ++ take n bytes.now)) }
     ensures bad { IfErr result (λ fault. (given : List ℕ) → Stands lines.old progress.old given → IsBadOf (given ++ bytes.now) fault) }
@@ -122,7 +131,9 @@ fn take_bytes(
     progress: &mut Progress,
     piece: &[u8],
 ) -> Result<(), TextFault>
-    requires { lines.old.number + length piece.now < 2 ^ 32 - 1 }
+    requires number { lines.old.number + length piece.now < 2 ^ 32 - 1 }
+    requires short { IsShort lines.old progress.old (length piece.now) }
+    ensures short { OnOk result ((more : ℕ) → IsShort lines.old progress.old (length piece.now + more) → IsShort lines.new progress.new more) }
     ensures ok { OnOk result ((given : List ℕ) → Stands lines.old progress.old given → Stands lines.new progress.new (given ++ piece.now)) }
     ensures bad { IfErr result (λ fault. (given : List ℕ) → Stands lines.old progress.old given → IsBadOf (given ++ piece.now) fault) }
     ensures sound { OnOk result (IsSound progress.old → IsSound progress.new) }
@@ -158,6 +169,7 @@ fn ended(alloc: Global, progress: &mut Progress) -> Result<Library, TextFault>
 /// Ends the text: an LF ends the last line, and another what a backslash there leaves open.
 fn end_text(alloc: Global, lines: &mut Lines, progress: &mut Progress) -> Result<Library, TextFault>
     requires number { lines.old.number < 2 ^ 32 - 2 }
+    requires short { IsShort lines.old progress.old 0 }
     requires sound { IsSound progress.old }
     ensures { (given : List ℕ) → Stands lines.old progress.old given → Reads result (reading given) }
 {
@@ -181,6 +193,7 @@ fn end_unrefused(
     refused: Option<TextFault>,
 ) -> Result<Library, TextFault>
     requires number { lines.old.number < 2 ^ 32 - 2 }
+    requires short { refused ≡ None → IsShort lines.old progress.old 0 }
     requires sound { refused ≡ None → IsSound progress.old }
     ensures reads { (given : List ℕ) → HasRead refused lines.old progress.old given → Reads result (reading given) }
     ensures again { IfSome refused (λ fault. result ≡ Err fault) }
@@ -199,6 +212,7 @@ pub(crate) fn finish(
     refused: Option<TextFault>,
 ) -> Result<Library, TextFault>
     requires number { lines.number < 2 ^ 32 - 2 }
+    requires short { refused ≡ None → IsShort lines progress 0 }
     requires sound { refused ≡ None → IsSound progress }
     ensures reads { (given : List ℕ) → HasRead refused lines progress given → Reads result (reading given) }
     ensures again { IfSome refused (λ fault. result ≡ Err fault) }
@@ -214,7 +228,9 @@ pub(crate) fn take_piece(
     refused: Option<TextFault>,
     piece: &[u8],
 ) -> Option<TextFault>
-    requires { lines.old.number + length piece.now < 2 ^ 32 - 1 }
+    requires number { lines.old.number + length piece.now < 2 ^ 32 - 1 }
+    requires short { refused ≡ None → IsShort lines.old progress.old (length piece.now) }
+    ensures short { (more : ℕ) → (refused ≡ None → IsShort lines.old progress.old (length piece.now + more)) → result ≡ None → IsShort lines.new progress.new more }
     ensures read { (given : List ℕ) → HasRead refused lines.old progress.old given → HasRead result lines.new progress.new (given ++ piece.now) }
     ensures again { IfSome refused (λ fault. result ≡ Some fault) }
     ensures sound { (refused ≡ None → IsSound progress.old) → result ≡ None → IsSound progress.new }

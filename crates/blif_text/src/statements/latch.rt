@@ -1,8 +1,9 @@
 //! The tokens after `.latch`.
 ghost use Rattle.std.specs.Prelude.{◌≡◌, ◌∷◌, [], codes};
 ghost use Rattle.blif_text.specs.Private.Answers.{Answers, plain};
-ghost use Rattle.blif_text.specs.Kind.{type_kind, init_kind, ends_kind, control_kind, latch_kind};
-ghost use Rattle.blif_text.specs.Models.{edge, init, control, register};
+ghost use Rattle.blif_text.specs.Private.Latches.{clock_kind, start_kind, clock_of, start_of};
+ghost use Rattle.blif_text.specs.Kind.{◌or_else◌, type_kind, ends_kind, latch_kind};
+ghost use Rattle.blif_text.specs.Models.{Register, edge, register};
 ghost use Rattle.blif_text.specs.Views.{plain_element};
 
 use crate::fault::{Refusal, TextKind};
@@ -26,10 +27,14 @@ fn read_type(token: &[u8]) -> Result<Edge, Refusal>
     }
 }
 
+/// The initial value, which is unknown where none is given.
 #[tactic(auto, unfolding(crate::specs::Kind::init_kind))]
-fn read_init(token: &[u8]) -> Result<Init, Refusal>
-    ensures { Answers result (init_kind token.now) (λ i. i ≡ init token.now) }
+fn read_init(start: Option<&[u8]>) -> Result<Init, Refusal>
+    ensures { Answers result (start_kind start.entry) (λ i. i ≡ start_of start.entry) }
 {
+    let Some(token) = start else {
+        return Ok(Init::Unknown);
+    };
     if token == b"0".as_slice() {
         Ok(Init::Zero)
     } else if token == b"1".as_slice() {
@@ -43,20 +48,17 @@ fn read_init(token: &[u8]) -> Result<Init, Refusal>
     }
 }
 
-#[tactic(auto, unfolding(crate::specs::Kind::ends_kind))]
-fn read_ends(alloc: Global, pin: &[u8], out: &[u8]) -> Result<(Name, Name), Refusal>
-    ensures { Answers result (ends_kind pin.now out.now) (λ r. (r.0 ≡ pin.now) × (r.1 ≡ out.now)) }
-{
-    let pin = read_name(alloc, pin)?;
-    let out = read_name(alloc, out)?;
-    Ok((pin, out))
-}
-
-/// The edge and the control, of which there is none where it is `NIL`.
+/// The edge and the control, of which there is none where none is given or it is `NIL`.
 #[tactic(auto, unfolding(crate::specs::Kind::control_kind))]
-fn read_control(alloc: Global, edge: &[u8], token: &[u8]) -> Result<Option<(Edge, Name)>, Refusal>
-    ensures { Answers result (control_kind edge.now token.now) (λ c. c ≡ control edge.now token.now) }
+fn read_control(
+    alloc: Global,
+    clock: Option<(&[u8], &[u8])>,
+) -> Result<Option<(Edge, Name)>, Refusal>
+    ensures { Answers result (clock_kind clock.entry) (λ c. c ≡ clock_of clock.entry) }
 {
+    let Some((edge, token)) = clock else {
+        return Ok(None);
+    };
     let edge = read_type(edge)?;
     let name = read_name(alloc, token)?;
     if token == b"NIL".as_slice() {
@@ -66,53 +68,21 @@ fn read_control(alloc: Global, edge: &[u8], token: &[u8]) -> Result<Option<(Edge
     }
 }
 
-#[tactic(auto, unfolding(crate::specs::Kind::latch_kind, crate::specs::Models::register))]
-fn free_latch(alloc: Global, pin: &[u8], out: &[u8], start: &[u8]) -> Result<Element, Refusal>
-    ensures { Answers result (latch_kind (pin.now ∷ out.now ∷ start.now ∷ [])) (λ e. register (pin.now ∷ out.now ∷ start.now ∷ []) ≡ plain_element e ∷ []) }
-{
-    let (pin, out) = read_ends(alloc, pin, out)?;
-    let init = read_init(start)?;
-    Ok(Element::Latch {
-        pin,
-        out,
-        control: None,
-        init,
-    })
-}
-
-#[tactic(auto, unfolding(crate::specs::Kind::latch_kind, crate::specs::Models::register))]
-fn clocked_latch(
+/// The latch of D and Q, and of what else is given.
+#[tactic(auto, unfolding(crate::specs::Kind::ends_kind))]
+fn latch(
     alloc: Global,
     pin: &[u8],
     out: &[u8],
-    edge: &[u8],
-    clock: &[u8],
+    clock: Option<(&[u8], &[u8])>,
+    start: Option<&[u8]>,
 ) -> Result<Element, Refusal>
-    ensures { Answers result (latch_kind (pin.now ∷ out.now ∷ edge.now ∷ clock.now ∷ [])) (λ e. register (pin.now ∷ out.now ∷ edge.now ∷ clock.now ∷ []) ≡ plain_element e ∷ []) }
+    ensures { Answers result (ends_kind pin.now out.now or_else clock_kind clock.entry or_else start_kind start.entry)
+        (λ e. plain_element e ≡ Register pin.now out.now (clock_of clock.entry) (start_of start.entry)) }
 {
-    let (pin, out) = read_ends(alloc, pin, out)?;
-    let control = read_control(alloc, edge, clock)?;
-    Ok(Element::Latch {
-        pin,
-        out,
-        control,
-        init: Init::Unknown,
-    })
-}
-
-#[tactic(auto, unfolding(crate::specs::Kind::latch_kind, crate::specs::Models::register))]
-fn whole_latch(
-    alloc: Global,
-    pin: &[u8],
-    out: &[u8],
-    edge: &[u8],
-    clock: &[u8],
-    start: &[u8],
-) -> Result<Element, Refusal>
-    ensures { Answers result (latch_kind (pin.now ∷ out.now ∷ edge.now ∷ clock.now ∷ start.now ∷ [])) (λ e. register (pin.now ∷ out.now ∷ edge.now ∷ clock.now ∷ start.now ∷ []) ≡ plain_element e ∷ []) }
-{
-    let (pin, out) = read_ends(alloc, pin, out)?;
-    let control = read_control(alloc, edge, clock)?;
+    let pin = read_name(alloc, pin)?;
+    let out = read_name(alloc, out)?;
+    let control = read_control(alloc, clock)?;
     let init = read_init(start)?;
     Ok(Element::Latch {
         pin,
@@ -122,23 +92,15 @@ fn whole_latch(
     })
 }
 
-#[tactic(auto, unfolding(crate::specs::Kind::latch_kind, crate::specs::Models::register))]
+#[tactic(auto, using(crate::proofs::Refusals::nothing_more), unfolding(crate::specs::Kind::latch_kind, crate::specs::Models::register))]
 pub(crate) fn read_latch(alloc: Global, tokens: &[&[u8]]) -> Result<Element, Refusal>
     ensures { Answers result (latch_kind (plain tokens.now)) (λ e. register (plain tokens.now) ≡ plain_element e ∷ []) }
 {
     match tokens {
-        [pin, out] => {
-            let (pin, out) = read_ends(alloc, pin, out)?;
-            Ok(Element::Latch {
-                pin,
-                out,
-                control: None,
-                init: Init::Unknown,
-            })
-        }
-        [pin, out, init] => free_latch(alloc, pin, out, init),
-        [pin, out, edge, clock] => clocked_latch(alloc, pin, out, edge, clock),
-        [pin, out, edge, clock, init] => whole_latch(alloc, pin, out, edge, clock, init),
+        [pin, out] => latch(alloc, pin, out, None, None),
+        [pin, out, init] => latch(alloc, pin, out, None, Some(init)),
+        [pin, out, edge, clock] => latch(alloc, pin, out, Some((edge, clock)), None),
+        [pin, out, edge, clock, init] => latch(alloc, pin, out, Some((edge, clock)), Some(init)),
         _ => Err(Refusal::Bad(TextKind::Arguments)),
     }
 }

@@ -1,5 +1,5 @@
 //! A table whose rows are being read.
-ghost use Rattle.std.specs.Prelude.{◌≡◌, ◌∷◌, ◌++◌, [], true, None, length};
+ghost use Rattle.std.specs.Prelude.{◌≡◌, ◌<◌, ◌∷◌, ◌++◌, [], true, None, length};
 ghost use Rattle.blif_text.specs.Private.Answers.{Answers, plain};
 ghost use Rattle.blif_text.specs.Kind.{◌or_else◌, name_kind, names_kind, table_kind, row_kind};
 ghost use Rattle.blif_text.specs.Models.{table};
@@ -33,30 +33,22 @@ impl Model for OpenTable {
     ghost invariant = { λ t. t.cover.width ≡ length t.pins.items };
 }
 
-/// A cover without rows of that many pins, which no text that is read has beyond u32.
-fn cover_of(alloc: Global, pins: usize) -> Result<Cover, Refusal>
-    ensures { Answers result None (λ cover. cover ≡ record { width = pins; is_on = true; rows = [] }) }
-{
-    match u32::try_from(pins) {
-        Ok(width) => Ok(Cover::new(alloc, width)),
-        Err(_) => Err(Refusal::Memory),
-    }
-}
-
 impl OpenTable {
     /// The table of these pins and this output, with no rows.
     fn read_parts(alloc: Global, pins: &[&[u8]], out: &[u8]) -> Result<OpenTable, Refusal>
+        requires { length pins.now < 4294967296 }
         ensures { Answers result (names_kind (plain pins.now) or_else name_kind out.now) (λ t. t ≡ record { tokens = plain pins.now ++ out.now ∷ []; rows = [] }) }
     {
         let pins = read_names(alloc, pins)?;
         let out = read_name(alloc, out)?;
-        let cover = cover_of(alloc, pins.len())?;
+        let cover = Cover::new(alloc, pins.len() as u32);
         Ok(OpenTable { pins, out, cover })
     }
 
     /// The table of the tokens after `.names`, with no rows.
     #[tactic(auto, using(crate::proofs::Tables::table_parts), unfolding(crate::specs::Kind::table_kind))]
     pub fn read(alloc: Global, tokens: &[&[u8]]) -> Result<OpenTable, Refusal>
+        requires { length tokens.now < 4294967296 }
         ensures { Answers result (table_kind (plain tokens.now)) (λ t. t ≡ record { tokens = plain tokens.now; rows = [] }) }
     {
         match tokens.split_last() {
@@ -67,6 +59,7 @@ impl OpenTable {
 
     /// Takes a row.
     pub fn push_row(&mut self, first: &[u8], arguments: &[&[u8]]) -> Result<(), Refusal>
+        requires { length self.old.rows < 4294967295 }
         ensures { Answers result (row_kind (Some (shape_of self.old)) (first.now ∷ plain arguments.now)) (λ _. self.new ≡ with_row (first.now ∷ plain arguments.now) self.old) }
     {
         let width = self.pins.len();

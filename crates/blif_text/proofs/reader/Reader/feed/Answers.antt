@@ -1,6 +1,7 @@
-use Rattle.std.proofs.Common.{◌++◌, sym, subst}
+use Rattle.std.proofs.Common.{◌≤◌, ◌+◌, ◌-◌, ◌++◌, length, arith, sym, subst}
 use Rattle.blif_text.specs.Reader.{StandsFor}
 use Rattle.blif_text.proofs.Told.{told_none, told_some, bad_none, bad_some, for_all}
+use Rattle.blif_text.proofs.Bounds.{short_less}
 use Rattle.blif_text.proofs.reader.Reader.feed.Goals as goal
 use Rattle.blif_text.proofs.reader.Reader.feed.Goals.{in-None, in-Some}
 
@@ -19,3 +20,15 @@ returns-clause-bad c = for_all c.match-fault.result (StandsFor c.args.self.now) 
       | in-None w ↦ bad_none (given ++ c.args.piece.now) _ w.result-is
       | in-Some w ↦ bad_some c.take_piece-fault.new.lines c.take_piece-fault.new.progress (given ++ c.args.piece.now) _ _ _ w.in-Some.is w.result-is read
     ])
+
+pub invariant_of-self : goal.invariant_of-self
+invariant_of-self c =
+    let room = c.self.inside.room in
+    let piece = c.args.piece.now in
+    let fits : length piece ≤ room = subst (λ r. length piece ≤ r.room) (sym c.self.view_is) c.requires in
+    record {
+      lines = omega (arith, fits, c.self.invariant.lines, c.take_piece-fault.ensures.number);
+      sound = c.take_piece-fault.ensures.sound c.self.invariant.sound;
+      short = c.take_piece-fault.ensures.short (room - length piece)
+          (λ none. short_less c.self.inside.lines c.self.inside.progress room (length piece + (room - length piece)) (omega (arith, fits)) (c.self.invariant.short none));
+    }

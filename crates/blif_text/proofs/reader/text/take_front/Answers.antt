@@ -3,6 +3,7 @@ use Rattle.std.specs.List.{position}
 use Rattle.blif_text.specs.Text.{is_lf}
 use Rattle.blif_text.specs.Private.Stands.{Stands}
 use Rattle.blif_text.proofs.Taken.{front_taken, all_taken, line_front, bad_line}
+use Rattle.blif_text.proofs.Bounds.{short_front}
 use Rattle.blif_text.proofs.reader.text.take_front.Goals as goal
 
 pub returns-in-Ok-end_line-clause-ok : goal.returns-in-Ok-end_line-clause-ok
@@ -23,3 +24,7 @@ pub returns-in-Ok-take_inner-clause-ok : goal.returns-in-Ok-take_inner-clause-ok
 returns-in-Ok-take_inner-clause-ok c = λ given s.
     let e : position is_lf c.args.bytes.now ≡ None = cc in
     all_taken c.args.lines.now c.take_inner-in-None.new.lines c.args.progress.now c.args.bytes.now e c.in-Ok-take_inner.ensures.ok given s
+
+pub returns-in-Ok-end_line-clause-short : goal.returns-in-Ok-end_line-clause-short
+returns-in-Ok-end_line-clause-short c = λ more s. c.in-Ok-end_line.ensures.short more
+    (short_front c.args.lines.now c.take_inner.new.lines c.args.progress.now c.args.bytes.now c.in-Some.end more c.in-Ok.ensures.ok s)
