@@ -8,13 +8,13 @@ use Rattle.std.proofs.lemmas.List.Folds.{list_any_more}
 use Rattle.std.proofs.lemmas.List.Sums.{sum_by-cons, sum_by_more, count_by-le-length}
 use Rattle.std.proofs.lemmas.List.Sorted.{length_permutation}
 use Rattle.flat_net.specs.Net.{Net}
-use Rattle.partitioner.specs.declared.partitioning.Partitioning.{Partitioning}
-use Rattle.partitioner.specs.declared.gains.Gains.{Gains}
+use Rattle.partitioner.specs.declared.counts.partitioning.Partitioning.{Partitioning}
+use Rattle.partitioner.specs.declared.costs.gains.Gains.{Gains}
 use Rattle.partitioner.specs.Below.{one_if}
-use Rattle.partitioner.specs.Gaining.{AreBegun, AreGains, AreKept, is_near, last_in, near_in}
-use Rattle.partitioner.specs.Loss.{is_fresh, is_kept}
-use Rattle.partitioner.specs.Reading.{reads_other, other_readers, other_sources}
-use Rattle.partitioner.specs.Tracking.{Tracks}
+use Rattle.partitioner.specs.Private.Gaining.{AreBegun, AreGains, AreKept, is_near, last_in, near_in}
+use Rattle.partitioner.specs.Private.Loss.{is_fresh, is_kept}
+use Rattle.partitioner.specs.Private.Sources.{reads_other, other_readers, other_sources}
+use Rattle.partitioner.specs.Private.Tracking.{Tracks}
 use Rattle.partitioner.proofs.TrackLaws.{related_few}
 
 -- those that pass and those that do not are all

@@ -1,5 +1,4 @@
 pub mod PlainLaws
-pub mod RowLaws
 pub mod Numbers
 pub mod BelowLaws
 pub mod MeetingLaws
@@ -18,7 +17,6 @@ pub mod RefineLaws
 pub mod NotingLaws
 pub mod PinLaws
 pub mod SourceLaws
-pub mod PackLaws
 pub mod WideLaws
 pub mod SetLaws
 pub mod SpotLaws

@@ -7,8 +7,8 @@ use Rattle.std.proofs.lemmas.List.Sorted.{All-permutation, sum_by-IsPermutation}
 use Rattle.std.proofs.lemmas.List.Elements.{filter_passes, All-filter}
 use Rattle.flat_net.specs.Net.{Net}
 use Rattle.partitioner.specs.Below.{one_if}
-use Rattle.partitioner.specs.Reading.{reads_other, other_sources}
-use Rattle.partitioner.specs.Loss.{is_fresh, is_wanted, loss}
+use Rattle.partitioner.specs.Private.Sources.{reads_other, other_sources}
+use Rattle.partitioner.specs.Private.Loss.{is_fresh, is_wanted, loss}
 use Rattle.partitioner.proofs.Numbers.{numbers_below}
 
 pub sources_below : (n : Net) (i : ℕ) (row : List ℕ) → IsPermutation (other_sources n i) row → All (λ x. x < length n.nodes) row

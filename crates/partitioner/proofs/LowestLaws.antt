@@ -2,7 +2,7 @@
 use Rattle.std.proofs.Common.{◌≡◌, ℕ, zero, suc, ◌<◌, ◌≤◌, ◌⊎◌, inl, inr, Bool, true, false, cond, ltb, ◌&&◌, refl, sym, ◌∙◌, ap, subst, arith}
 use Rattle.std.proofs.lemmas.Bool.{cases_eq, cases_lt, cases_Bool, ltb-true, ltb-false, and_parts, true≢false}
 use Rattle.partitioner.specs.Refining.{lowest, lower_of}
-use Rattle.partitioner.specs.Leading.{AsGood, IsReached}
+use Rattle.partitioner.specs.Private.Leading.{AsGood, IsReached}
 
 pub record IsLowest (f : ℕ → ℕ) (passes : ℕ → Bool) (start bound a : ℕ) : Type 0 where
   pub reached : IsReached f passes start bound a

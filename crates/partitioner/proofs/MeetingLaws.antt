@@ -5,7 +5,7 @@ use Rattle.std.specs.List.{list_any}
 use Rattle.std.proofs.lemmas.Bool.{cases_lt, cases_eq, eq-eqb, ne_eqb}
 use Rattle.std.proofs.lemmas.List.Folds.{list_any_more}
 use Rattle.partitioner.specs.Below.{one_if, count_below}
-use Rattle.partitioner.specs.Meeting.{is_met}
+use Rattle.partitioner.specs.Private.Meeting.{is_met}
 use Rattle.partitioner.proofs.BelowLaws.{count_changed, count_same}
 
 spread : (b c d : Bool) → (b && (c || d)) ≡ ((b && c) || (b && d))

@@ -5,7 +5,7 @@ use Rattle.flat_net.specs.Net.{Net}
 use Rattle.tmr_base.specs.Parts.{PlainParts}
 use Rattle.partitioner.specs.Cost.{cost}
 use Rattle.partitioner.specs.Refining.{has_room, put, place, IsMinimal}
-use Rattle.partitioner.specs.Leading.{AsGood, IsReached}
+use Rattle.partitioner.specs.Private.Leading.{AsGood, IsReached}
 use Rattle.partitioner.proofs.LowestLaws.{IsLowest, lowest_is}
 use Rattle.partitioner.proofs.PutLaws.{put_same}
 

@@ -5,7 +5,8 @@ use Rattle.std.proofs.lemmas.Bool.{eq-eqb, ne_eqb, cases_eq}
 use Rattle.std.proofs.lemmas.List.{take_all}
 use Rattle.std.proofs.lemmas.List.Folds.{list_any_more}
 use Rattle.flat_net.specs.Net.{Net, node_of, pins_at}
-use Rattle.partitioner.specs.Reading.{reads, reads_other, marked_by_pins}
+use Rattle.partitioner.specs.Reading.{reads}
+use Rattle.partitioner.specs.Private.Sources.{reads_other, marked_by_pins}
 use Rattle.partitioner.specs.Noting.{Lists, ListsMarked, noted}
 use Rattle.partitioner.proofs.NotingLaws.{noted_marks, marks_same, marks_none, marks_all}
 

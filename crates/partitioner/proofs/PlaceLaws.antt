@@ -6,15 +6,15 @@ use Rattle.std.proofs.lemmas.List.Elements.{All-head, All-tail}
 use Rattle.std.proofs.lemmas.List.Sums.{count_by-le-length}
 use Rattle.std.proofs.lemmas.List.{length-take}
 use Rattle.flat_net.specs.Net.{Net}
-use Rattle.partitioner.specs.declared.partitioning.Partitioning.{Partitioning}
-use Rattle.partitioner.specs.declared.placing.Lead.{Lead}
+use Rattle.partitioner.specs.declared.counts.partitioning.Partitioning.{Partitioning}
+use Rattle.partitioner.specs.declared.refinement.placing.Lead.{Lead}
 use Rattle.partitioner.specs.Below.{one_if}
-use Rattle.partitioner.specs.Reading.{other_readers, other_sources}
+use Rattle.partitioner.specs.Private.Sources.{other_readers, other_sources}
 use Rattle.partitioner.specs.Cost.{cost}
-use Rattle.partitioner.specs.Loss.{is_fresh, is_kept, is_wanted, loss}
+use Rattle.partitioner.specs.Private.Loss.{is_fresh, is_kept, is_wanted, loss}
 use Rattle.partitioner.specs.Refining.{has_room, put, place}
-use Rattle.partitioner.specs.Tracking.{Tracks, parts_of}
-use Rattle.partitioner.specs.Leading.{AsGood, IsReached, IsLead, Leads, LeadsOpen, LeadsReaders, LeadsOrLoses, is_settled, start_of}
+use Rattle.partitioner.specs.Private.Tracking.{Tracks, parts_of}
+use Rattle.partitioner.specs.Private.Leading.{AsGood, IsReached, IsLead, Leads, LeadsOpen, LeadsReaders, LeadsOrLoses, is_settled, start_of}
 use Rattle.partitioner.proofs.BelowLaws.{one_if_le}
 use Rattle.partitioner.proofs.LowestLaws.{IsLowest, is_lowest}
 use Rattle.partitioner.proofs.PutLaws.{base, cost_put}

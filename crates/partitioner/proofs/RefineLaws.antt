@@ -8,7 +8,7 @@ use Rattle.partitioner.specs.Below.{one_if}
 use Rattle.partitioner.specs.Cost.{cost}
 use Rattle.partitioner.specs.Sizes.{KeepsSize, held, capacity}
 use Rattle.partitioner.specs.Refining.{has_room, put, place, move, moves, pass, refined}
-use Rattle.partitioner.specs.Leading.{IsReached, HasNoRoom}
+use Rattle.partitioner.specs.Private.Leading.{IsReached, HasNoRoom}
 use Rattle.partitioner.proofs.BelowLaws.{one_if_le}
 use Rattle.partitioner.proofs.LowestLaws.{lowest_is}
 use Rattle.partitioner.proofs.PutLaws.{put_same}

@@ -7,7 +7,7 @@ use Rattle.std.specs.BTreeSet.{BTreeSet, keys}
 use Rattle.std.proofs.lemmas.Bool.{cases_Bool, cases_eq, eqb-true, ltb-true, true≢false}
 use Rattle.std.proofs.lemmas.List.{map-set, get_or-map, get_or-set_same, get_or-set_other, length-map}
 use Rattle.std.proofs.lemmas.List.Elements.{All-head, All-tail}
-use Rattle.partitioner.specs.Sets.{has, lists_of}
+use Rattle.partitioner.specs.Private.Sets.{has, lists_of}
 
 -- numbers compare equal where they are the same
 pub same_number : (q c : ℕ) → is_eq (nat_cmp q c) ≡ eqb q c

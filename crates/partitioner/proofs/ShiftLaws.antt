@@ -7,9 +7,9 @@ use Rattle.std.proofs.lemmas.List.Folds.{list_any_more}
 use Rattle.std.proofs.lemmas.List.Sums.{sum_by_more, sum_by-take-le, sum_by-cons, count_by-le-length}
 use Rattle.flat_net.specs.Net.{Net}
 use Rattle.partitioner.specs.Below.{one_if}
-use Rattle.partitioner.specs.Reading.{reads_other, other_readers, other_sources, is_wide, wide_sources, marked_by_row}
-use Rattle.partitioner.specs.Moving.{Shifts}
-use Rattle.partitioner.specs.Tracking.{reader_count}
+use Rattle.partitioner.specs.Private.Sources.{reads_other, other_readers, other_sources, is_wide, wide_sources, marked_by_row}
+use Rattle.partitioner.specs.Private.Moving.{Shifts}
+use Rattle.partitioner.specs.Private.Tracking.{reader_count}
 use Rattle.partitioner.proofs.Numbers.{eqb_turned}
 use Rattle.partitioner.proofs.BelowLaws.{count_same, one_if_le}
 use Rattle.partitioner.proofs.TrackLaws.{related_few}

@@ -5,7 +5,7 @@ use Rattle.std.proofs.lemmas.List.{take_all}
 use Rattle.std.proofs.lemmas.List.Folds.{list_any_more}
 use Rattle.std.proofs.lemmas.List.Elements.{All-filter}
 use Rattle.flat_net.specs.Net.{Net}
-use Rattle.partitioner.specs.Reading.{reads_other, is_source, marked_by_row}
+use Rattle.partitioner.specs.Private.Sources.{reads_other, is_source, marked_by_row}
 use Rattle.partitioner.specs.Noting.{Lists, ListsMarked, noted, related}
 use Rattle.partitioner.proofs.NotingLaws.{noted_marks, marks_none, marks_all}
 use Rattle.partitioner.proofs.Numbers.{numbers_below, any_passing}

@@ -4,7 +4,7 @@ use Rattle.std.specs.List.{range_with_len}
 use Rattle.std.proofs.lemmas.List.FromFn.{length-range_with_len}
 use Rattle.std.proofs.lemmas.List.Sums.{length-filter, count_by-le-length}
 use Rattle.flat_net.specs.Net.{Net}
-use Rattle.partitioner.specs.Reading.{is_source, other_sources}
+use Rattle.partitioner.specs.Private.Sources.{is_source, other_sources}
 use Rattle.partitioner.specs.Noting.{Lists, related}
 
 pub related_few : (r : ℕ → ℕ → Bool) (k x : ℕ) → length (related r k x) ≤ k

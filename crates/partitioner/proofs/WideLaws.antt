@@ -9,8 +9,8 @@ use Rattle.std.proofs.lemmas.List.Sums.{sum_by-cons}
 use Rattle.std.proofs.lemmas.List.Elements.{filter_passes, All-filter}
 use Rattle.flat_net.specs.Net.{Net}
 use Rattle.partitioner.specs.Below.{one_if}
-use Rattle.partitioner.specs.Reading.{reads_other, other_readers, other_sources, is_wide, wide_sources, marked_by_row}
-use Rattle.partitioner.specs.Tracking.{reader_count}
+use Rattle.partitioner.specs.Private.Sources.{reads_other, other_readers, other_sources, is_wide, wide_sources, marked_by_row}
+use Rattle.partitioner.specs.Private.Tracking.{reader_count}
 use Rattle.partitioner.proofs.Numbers.{numbers_below, any_passing}
 
 pub wide_below : (n : Net) (i : ℕ) → All (λ x. x < length n.nodes) (wide_sources n i)

@@ -1,16 +1,7 @@
 pub mod Below
 pub mod Reading
-pub mod Packing
 pub mod Noting
-pub mod Meeting
 pub mod Cost
-pub mod Counting
-pub mod Loss
 pub mod Sizes
 pub mod Refining
-pub mod Tracking
-pub mod Leading
-pub mod Moving
-pub mod Sets
-pub mod Spotting
-pub mod Gaining
+pub mod Private

@@ -5,29 +5,14 @@
 //! never raises the cost.
 #![tactic(auto)]
 
-mod counting;
-mod gains;
-mod losses;
-mod minimal;
-mod moving;
-mod nodes;
-mod packed;
-mod pairs;
-mod partitioning;
-mod placing;
+mod costs;
+mod counts;
 mod plain_cut;
-mod reading;
-mod refining;
-mod rows;
-mod sets;
-mod spots;
-mod tracking;
-mod wide;
+mod reads;
+mod refinement;
 
-pub use minimal::is_minimal;
-pub use packed::{Packed, packed_rows};
-pub use pairs::cost;
+pub use costs::pairs::cost;
 pub use plain_cut::plain;
-pub use reading::note;
-pub use refining::{Refined, refine, refine_counted};
-pub use rows::Rows;
+pub use reads::reading::note;
+pub use refinement::minimal::is_minimal;
+pub use refinement::refining::{Refined, refine, refine_counted};

@@ -3,8 +3,7 @@ ghost use Rattle.std.specs.Prelude.{◌≡◌, ◌<◌, ◌≤◌, ◌+◌, ◌/
 ghost use Rattle.std.specs.List.{range_with_len};
 ghost use Rattle.partitioner.specs.Sizes.{plain_parts, KeepsSize};
 
-use crate::nodes::nodes_of;
-use flat_net::FlatNet;
+use flat_net::{FlatNet, nodes_of};
 use std::alloc::Global;
 use tmr_base::{OutOfMemory, Parts};
 

@@ -1,5 +1,0 @@
-use Rattle.partitioner.proofs.GainLaws.{Gained}
-use Rattle.partitioner.proofs.gains.count_gains.Given as goal
-
-abbrev pub invariant-loop-x : goal.invariant-loop-x
-invariant-loop-x l = Gained l.n.net l.p l.i l.row l.gains l.x-index

@@ -1,8 +1,0 @@
-use Rattle.std.proofs.Common.{◌≡◌, ℕ, ◌<◌, slice_index}
-use Rattle.partitioner.specs.Refining.{place}
-use Rattle.partitioner.specs.Tracking.{parts_of}
-use Rattle.partitioner.specs.Gaining.{AreKept}
-use Rattle.partitioner.proofs.minimal.all_stay.Given as goal
-
-abbrev pub invariant-loop-i : goal.invariant-loop-i
-invariant-loop-i l = AreKept l.p.count l.gains × ((k : ℕ) → k < l.i → place l.n.net l.size (parts_of l.p) k ≡ slice_index l.p.of.items k)

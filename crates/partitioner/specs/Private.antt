@@ -1,0 +1,11 @@
+pub mod Sources
+pub mod Meeting
+pub mod Counting
+pub mod Loss
+pub mod Tracking
+pub mod Leading
+pub mod Moving
+pub mod Sets
+pub mod Spotting
+pub mod Gaining
+pub mod Ready

@@ -1,0 +1,44 @@
+-- What a node finds in a partition of what it reads.
+use Rattle.std.specs.Prelude.{◌≡◌, ℕ, ◌<◌, ◌≤◌, Bool, not, nat_lt, List, [], length, take, slice_index, slice_index_or, count_by, if◌then◌else◌}
+use Rattle.flat_net.specs.Net.{Net}
+use Rattle.partitioner.specs.declared.counts.partitioning.Partitioning.{Partitioning}
+use Rattle.partitioner.specs.declared.costs.gains.Gains.{Gains}
+use Rattle.partitioner.specs.Private.Loss.{is_fresh}
+use Rattle.partitioner.specs.Private.Tracking.{Tracks}
+
+-- partition q holds node x or, beside i, a node that reads it
+abbrev pub is_near : Net → List ℕ → ℕ → ℕ → ℕ → Bool
+is_near n of i q x = not (is_fresh n of i x q)
+
+-- the turn in which something was counted last in partition q
+abbrev pub last_in : Gains → ℕ → ℕ
+last_in gains q = slice_index gains.last.items q
+
+-- how many are counted in partition q, where what was counted up to turn `from` is forgotten
+abbrev pub near_in : Gains → ℕ → ℕ
+near_in gains q = if nat_lt gains.from (last_in gains q) then slice_index gains.near.items q else 0
+
+-- there is a count for each partition, from some turn up to now
+pub record AreKept (count : ℕ) (gains : Gains) : Type 0 where
+  pub near_long : length gains.near.items ≡ count
+  pub last_long : length gains.last.items ≡ count
+  pub past : (q : ℕ) → last_in gains q ≤ gains.turn
+
+-- nothing is counted, and turns are left
+pub record AreBegun (count : ℕ) (gains : Gains) : Type 0 where
+  pub kept : AreKept count gains
+  pub none : gains.counted ≡ 0
+  pub now : gains.from ≡ gains.turn
+  pub few : gains.turn ≤ 9223372036854775808
+
+-- the counts are those of the first nodes in the row of those that node i reads
+pub record AreGains (n : Net) (p : Partitioning) (i : ℕ) (gains : Gains) : Type 0 where
+  pub within : gains.counted ≤ length (slice_index_or p.sources i [])
+  pub near : (q : ℕ) → near_in gains q ≡ count_by (is_near n p.of.items i q) (take gains.counted (slice_index_or p.sources i []))
+
+-- what is counted beside the partitions is right, and so is what node i gains
+pub record IsCounted (n : Net) (p : Partitioning) (i : ℕ) (gains : Gains) : Type 0 where
+  pub tracks : Tracks n p
+  pub kept : AreKept p.count gains
+  pub gained : AreGains n p i gains
+  pub node : i < length n.nodes

@@ -1,0 +1,30 @@
+-- What is kept beside the partition of each node.
+use Rattle.std.specs.Prelude.{◌≡◌, ℕ, ◌<◌, ◌==◌, true, List, [], All, length, slice_index, slice_index_or, count_by, IsPermutation}
+use Rattle.tmr_base.specs.Parts.{PlainParts}
+use Rattle.flat_net.specs.Net.{Net}
+use Rattle.partitioner.specs.declared.counts.partitioning.Partitioning.{Partitioning}
+use Rattle.partitioner.specs.Private.Sources.{AreReaders, other_readers, other_sources, is_wide, wide_sources}
+use Rattle.partitioner.specs.Private.Counting.{count_at}
+use Rattle.partitioner.specs.Sizes.{held}
+
+-- how many other nodes read node x from partition p
+unfoldable pub reader_count : Net → List ℕ → ℕ → ℕ → ℕ
+reader_count n of x p = count_by (λ y. slice_index of y == p) (other_readers n x)
+
+-- the partitions that are kept
+abbrev pub parts_of : Partitioning → PlainParts
+parts_of p = record { count = p.count; of = p.of.items }
+
+-- the rows are those of the design, and the counts are those of the partitions, of wide nodes alone
+pub record Tracks (n : Net) (p : Partitioning) : Type 0 where
+  pub few : length n.nodes < 4294967295
+  pub long : length p.of.items ≡ length n.nodes
+  pub in_range : All (λ q. q < p.count) p.of.items
+  pub readers : AreReaders n p.readers
+  pub sources_long : length p.sources ≡ length n.nodes
+  pub sources : (i : ℕ) → i < length n.nodes → IsPermutation (other_sources n i) (slice_index_or p.sources i [])
+  pub wide_long : length p.wide ≡ length n.nodes
+  pub wide : (i : ℕ) → i < length n.nodes → slice_index_or p.wide i [] ≡ wide_sources n i
+  pub held_long : length p.held.items ≡ p.count
+  pub held_right : (q : ℕ) → q < p.count → slice_index p.held.items q ≡ held p.of.items q
+  pub counts : (x q : ℕ) → x < length n.nodes → q < p.count → is_wide n x ≡ true → count_at p.counts x q ≡ reader_count n p.of.items x q

@@ -1,0 +1,5 @@
+//! What a partitioning costs, and what a node costs in each partition.
+
+pub mod gains;
+pub mod losses;
+pub mod pairs;

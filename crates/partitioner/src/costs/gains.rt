@@ -1,0 +1,156 @@
+//! How many of the nodes that a node reads are near in each partition.
+ghost use Rattle.std.specs.Prelude.{◌≡◌, ◌<◌, ◌≤◌, ◌+◌, ◌-◌, ◌==◌, ◌&&◌, not, ℕ, Bool, [], length, take, slice_index, slice_index_or, count_by, if◌then◌else◌, IfOk};
+ghost use Rattle.flat_net.specs.Net.{Net};
+ghost use Rattle.partitioner.specs.Below.{one_if};
+ghost use Rattle.partitioner.specs.Private.Gaining.{AreBegun, AreGains, AreKept, IsCounted, is_near, last_in, near_in};
+ghost use Rattle.partitioner.specs.Private.Loss.{is_fresh};
+ghost use Rattle.partitioner.specs.Private.Tracking.{Tracks};
+
+use crate::counts::partitioning::Partitioning;
+use crate::refinement::placing::part_of;
+use flat_net::{FlatNet, nodes_of};
+use std::alloc::Global;
+use tmr_base::OutOfMemory;
+
+/// For one node and each partition, how many of the first `counted` nodes that the one reads are near:
+/// they stand there, or others read them there.
+///
+/// Each of them has a turn of its own. A partition in which nothing was counted since turn `from` has no
+/// count, whatever stands in `near`: so nothing need be cleared before the next node.
+#[derive(Drop)]
+pub struct Gains {
+    pub counted: u32,
+    pub from: u64,
+    pub turn: u64,
+    pub near: Vec<u32>,
+    pub last: Vec<u64>,
+}
+
+/// No counts, of so many partitions.
+pub fn no_gains(alloc: Global, count: u32) -> Result<Gains, OutOfMemory>
+    ensures { IfOk result (λ gains. AreKept count gains) }
+{
+    let near = vec![in alloc; 0u32; count as usize]?;
+    let last = vec![in alloc; 0u64; count as usize]?;
+    Ok(Gains {
+        counted: 0,
+        from: 0,
+        turn: 0,
+        near,
+        last,
+    })
+}
+
+/// Forgets in which turns something was counted.
+fn forget(gains: &mut Gains)
+    ensures near { gains.new.near.items ≡ gains.old.near.items }
+    ensures long { length gains.new.last.items ≡ length gains.old.last.items }
+    ensures last { (q : ℕ) → last_in gains.new q ≡ 0 }
+    ensures turn { gains.new.turn ≡ 0 }
+{
+    for q in 0..gains.last.len() {
+        gains.last[q] = 0;
+    }
+    gains.turn = 0;
+}
+
+/// Nothing is counted from now on.
+pub fn begin(gains: &mut Gains, count: u32)
+    requires { AreKept count gains.old }
+    ensures begun { AreBegun count gains.new }
+    ensures near { (q : ℕ) → near_in gains.new q ≡ 0 }
+{
+    if gains.turn > 9_223_372_036_854_775_808 {
+        forget(gains);
+    }
+    gains.from = gains.turn;
+    gains.counted = 0;
+}
+
+/// Counts one more in partition q, unless it was counted there in this turn.
+fn count_once(gains: &mut Gains, q: u32)
+    requires near_long { q < length gains.old.near.items }
+    requires last_long { q < length gains.old.last.items }
+    requires turn { gains.old.from < gains.old.turn }
+    requires few { near_in gains.old q < 4294967295 }
+    ensures counted { gains.new.counted ≡ gains.old.counted }
+    ensures from { gains.new.from ≡ gains.old.from }
+    ensures turn { gains.new.turn ≡ gains.old.turn }
+    ensures near_long { length gains.new.near.items ≡ length gains.old.near.items }
+    ensures last_long { length gains.new.last.items ≡ length gains.old.last.items }
+    ensures near { (r : ℕ) → near_in gains.new r ≡ near_in gains.old r + one_if (q == r && not (last_in gains.old r == gains.old.turn)) }
+    ensures last { (r : ℕ) → last_in gains.new r ≡ (if q == r then gains.old.turn else last_in gains.old r) }
+{
+    let last = gains.last[q as usize];
+    if last == gains.turn {
+        return;
+    }
+    let near = if gains.from < last {
+        gains.near[q as usize]
+    } else {
+        0
+    };
+    gains.near[q as usize] = near + 1;
+    gains.last[q as usize] = gains.turn;
+}
+
+/// Counts one more in each partition in which node x, which node i reads, is near.
+fn count_source(n: &FlatNet, p: &Partitioning, gains: &mut Gains, i: u32, x: u32)
+    requires tracks { Tracks n.now.net p.now }
+    requires node { i < length n.now.net.nodes }
+    requires source { x < length n.now.net.nodes }
+    requires near_long { length gains.old.near.items ≡ p.now.count }
+    requires last_long { length gains.old.last.items ≡ p.now.count }
+    requires begun { gains.old.from < gains.old.turn }
+    requires turn { (q : ℕ) → last_in gains.old q < gains.old.turn }
+    requires few { (q : ℕ) → near_in gains.old q < 4294967294 }
+    ensures counted { gains.new.counted ≡ gains.old.counted }
+    ensures from { gains.new.from ≡ gains.old.from }
+    ensures turn { gains.new.turn ≡ gains.old.turn }
+    ensures near { (q : ℕ) → near_in gains.new q ≡ near_in gains.old q + one_if (is_near n.now.net p.now.of.items i q x) }
+    ensures kept { AreKept p.now.count gains.new }
+{
+    count_once(gains, part_of(n, p, x));
+    for y in p.readers.row(x) {
+        if *y != i {
+            count_once(gains, part_of(n, p, *y));
+        }
+    }
+}
+
+/// Counts the nodes that node i reads, from the first to one that has over eight times more readers than
+/// node i reads nodes.
+pub fn count_gains(n: &FlatNet, p: &Partitioning, gains: &mut Gains, i: u32)
+    requires tracks { Tracks n.now.net p.now }
+    requires node { i < length n.now.net.nodes }
+    requires begun { AreBegun p.now.count gains.old }
+    ensures gains { AreGains n.now.net p.now i gains.new }
+    ensures kept { AreKept p.now.count gains.new }
+{
+    let _nodes = nodes_of(n);
+    let row = p.sources.row(i);
+    for x in row {
+        if p.readers.row(*x).len() / 8 > row.len() {
+            return;
+        }
+        gains.turn += 1;
+        count_source(n, p, gains, i, *x);
+        gains.counted += 1;
+    }
+}
+
+/// How many of the counted nodes are not near in partition q.
+pub fn missed_in(n: &FlatNet, p: &Partitioning, gains: &Gains, i: u32, q: u32) -> u32
+    requires counted { IsCounted n.now.net p.now i gains.now }
+    requires partition { q < p.now.count }
+    ensures { result ≡ count_by (λ x. is_fresh n.now.net p.now.of.items i x q) (take gains.now.counted (slice_index_or p.now.sources i [])) }
+{
+    if gains.counted == 0 {
+        return 0;
+    }
+    if gains.from < gains.last[q as usize] {
+        gains.counted - gains.near[q as usize]
+    } else {
+        gains.counted
+    }
+}

@@ -1,0 +1,18 @@
+//! Where each node stands, and what is counted for it.
+
+use graph::Graph;
+use std::collections::HashMap;
+
+/// The partition of each node, and beside it for each node the other nodes that read it and those that
+/// it reads, and the wide ones among these; for each partition how many nodes it holds; and for each wide
+/// node and each partition how many other nodes read the node there.
+#[derive(Drop)]
+pub struct Partitioning {
+    pub count: u32,
+    pub of: Vec<u32>,
+    pub readers: Graph,
+    pub sources: Graph,
+    pub wide: Graph,
+    pub held: Vec<u32>,
+    pub counts: HashMap<(u32, u32), u32>,
+}

@@ -1,0 +1,111 @@
+//! The counts beside a partitioning, made from it.
+ghost use Rattle.std.specs.Prelude.{◌≡◌, ◌<◌, ◌==◌, ℕ, true, List, All, length, slice_index, count_by, IfOk, OnOk, if◌then◌else◌};
+ghost use Rattle.flat_net.specs.Net.{Net};
+ghost use Rattle.partitioner.specs.Private.Sources.{is_wide, AreReaders};
+ghost use Rattle.partitioner.specs.Private.Counting.{count_at};
+ghost use Rattle.partitioner.specs.Sizes.{held};
+ghost use Rattle.partitioner.specs.Private.Tracking.{Tracks, parts_of, reader_count};
+
+use crate::counts::counting::{count_at, set_count};
+use crate::counts::partitioning::Partitioning;
+use crate::reads::reading::{packed_readers_of, sources_of};
+use crate::reads::sorting::sorted_rows;
+use crate::reads::wide::{is_wide, wide_sources_of};
+use flat_net::{FlatNet, nodes_of};
+use graph::Graph;
+use std::alloc::Global;
+use std::collections::HashMap;
+use tmr_base::{OutOfMemory, Parts};
+
+/// The partition of each node.
+pub fn parts_list(alloc: Global, parts: &Parts) -> Result<Vec<u32>, OutOfMemory>
+    ensures same { IfOk result (λ of. of.items ≡ parts.now.of) }
+    ensures in_range { IfOk result (λ of. All (λ q. q < parts.now.count) of.items) }
+{
+    let mut of = Vec::new(alloc);
+    for i in 0..parts.len() {
+        of.push(parts.of(i))?;
+    }
+    Ok(of)
+}
+
+/// How many nodes each partition holds.
+fn held_of(alloc: Global, count: u32, of: &[u32]) -> Result<Vec<u32>, OutOfMemory>
+    requires in_range { All (λ q. q < count) of.now }
+    requires few { length of.now < 4294967295 }
+    ensures long { IfOk result (λ holds. length holds.items ≡ count) }
+    ensures held { IfOk result (λ holds. (q : ℕ) → q < count → slice_index holds.items q ≡ held of.now q) }
+{
+    let mut holds = vec![in alloc; 0u32; count as usize]?;
+    for q in of {
+        holds[*q as usize] += 1;
+    }
+    Ok(holds)
+}
+
+/// Counts the readers of node x, of which none is counted yet.
+fn count_row(
+    counts: &mut HashMap<(u32, u32), u32>,
+    of: &[u32],
+    x: u32,
+    row: &[u32],
+) -> Result<(), OutOfMemory>
+    requires in_range { All (λ y. y < length of.now) row.now }
+    requires few { length row.now < 4294967295 }
+    requires absent { (q : ℕ) → count_at counts.old x q ≡ 0 }
+    ensures { OnOk result ((z q : ℕ) → count_at counts.new z q ≡ (if x == z then count_by (λ y. slice_index of.now y == q) row.now else count_at counts.old z q)) }
+{
+    for y in row {
+        let p = of[*y as usize];
+        let count = count_at(counts, x, p);
+        set_count(counts, x, p, count + 1)?;
+    }
+    Ok(())
+}
+
+/// How many readers each wide node has in each partition.
+fn counts_of(
+    alloc: Global,
+    n: &FlatNet,
+    readers: &Graph,
+    of: &[u32],
+) -> Result<HashMap<(u32, u32), u32>, OutOfMemory>
+    requires readers { AreReaders n.now.net readers.now }
+    requires long { length of.now ≡ length n.now.net.nodes }
+    ensures { IfOk result (λ counts. (x q : ℕ) → x < length n.now.net.nodes → is_wide n.now.net x ≡ true → count_at counts x q ≡ reader_count n.now.net of.now x q) }
+{
+    let mut counts = HashMap::new(alloc);
+    for x in 0..nodes_of(n) {
+        if is_wide(n, readers, x) {
+            count_row(&mut counts, of, x, readers.row(x))?;
+        }
+    }
+    Ok(counts)
+}
+
+/// The partitioning with what is kept beside it. The nodes that a node reads stand in ascending order of
+/// how many nodes read them, so that a node's place is found among few partitions.
+pub fn track(alloc: Global, n: &FlatNet, parts: &Parts) -> Result<Partitioning, OutOfMemory>
+    requires { length parts.now.of ≡ length n.now.net.nodes }
+    ensures tracks { IfOk result (λ p. Tracks n.now.net p) }
+    ensures parts { IfOk result (λ p. parts_of p ≡ parts.now) }
+{
+    let nodes = nodes_of(n);
+    let count = parts.count();
+    let of = parts_list(alloc, parts)?;
+    let readers = packed_readers_of(alloc, n)?;
+    let ascending = sources_of(alloc, n, &readers)?;
+    let sources = sorted_rows(alloc, &ascending, &readers, nodes)?;
+    let wide = wide_sources_of(alloc, n, &readers, &ascending)?;
+    let held = held_of(alloc, count, of.as_slice())?;
+    let counts = counts_of(alloc, n, &readers, of.as_slice())?;
+    Ok(Partitioning {
+        count,
+        of,
+        readers,
+        sources,
+        wide,
+        held,
+        counts,
+    })
+}

@@ -1,0 +1,52 @@
+//! Readers in ascending order of how long other rows are.
+ghost use Rattle.std.specs.Prelude.{◌≡◌, ◌<◌, [], ℕ, length, slice_index_or, IfOk, OnOk, IsPermutation};
+
+use graph::{Graph, Readers};
+use std::alloc::Global;
+use tmr_base::OutOfMemory;
+
+/// How long each row is.
+fn lengths(alloc: Global, rows: &Graph, count: u32) -> Result<Vec<u32>, OutOfMemory>
+    requires { count ≡ length rows.now }
+{
+    let mut lengths = Vec::with_capacity(alloc, count as usize)?;
+    for x in 0..count {
+        lengths.push(u32::try_from(rows.row(x).len()).unwrap_or(u32::MAX))?;
+    }
+    Ok(lengths)
+}
+
+/// Makes `sorted` the numbers of a row in ascending order of their weights.
+fn set_by_weight(sorted: &mut Vec<u32>, row: &[u32], weights: &[u32]) -> Result<(), OutOfMemory>
+    ensures { OnOk result (IsPermutation row.now sorted.new.items) }
+{
+    sorted.clear();
+    sorted.extend_from_slice(row)?;
+    sorted.sort_unstable_by_key(|x| weights.get(*x as usize).copied().unwrap_or(0));
+    Ok(())
+}
+
+/// The same rows, each in ascending order of how long the rows of its numbers are in `by`.
+pub fn sorted_rows(
+    alloc: Global,
+    rows: &Readers,
+    by: &Graph,
+    count: u32,
+) -> Result<Graph, OutOfMemory>
+    requires rows { count ≡ length rows.now }
+    requires by { count ≡ length by.now }
+    ensures long { IfOk result (λ sorted. length sorted ≡ count) }
+    ensures each { IfOk result (λ sorted. (x : ℕ) → x < count → IsPermutation (slice_index_or rows.now x []) (slice_index_or sorted x [])) }
+{
+    let weights = lengths(alloc, by, count)?;
+    let room = weights
+        .iter()
+        .fold(0usize, |room, long| room.saturating_add(*long as usize));
+    let mut sorted = Graph::with_room(alloc, count as usize, room)?;
+    let mut row = Vec::new(alloc);
+    for x in 0..count {
+        set_by_weight(&mut row, rows.row(x), weights.as_slice())?;
+        sorted.push(row.as_slice())?;
+    }
+    Ok(sorted)
+}

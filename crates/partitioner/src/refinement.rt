@@ -1,0 +1,6 @@
+//! Moves of single nodes that lower the cost.
+
+pub mod minimal;
+pub mod moving;
+pub mod placing;
+pub mod refining;

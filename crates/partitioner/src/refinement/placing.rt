@@ -1,0 +1,258 @@
+//! Where a node goes.
+ghost use Rattle.std.specs.Prelude.{◌≡◌, ◌<◌, ◌≤◌, ◌==◌, ℕ, Bool, true, false, length, slice_index};
+ghost use Rattle.flat_net.specs.Net.{Net};
+ghost use Rattle.partitioner.specs.Private.Sources.{is_wide};
+ghost use Rattle.partitioner.specs.Private.Loss.{is_wanted};
+ghost use Rattle.partitioner.specs.Refining.{has_room, place};
+ghost use Rattle.partitioner.specs.Private.Tracking.{Tracks, parts_of};
+ghost use Rattle.partitioner.specs.Private.Spotting.{AreSpots};
+ghost use Rattle.partitioner.specs.Private.Ready.{IsReady};
+ghost use Rattle.partitioner.specs.Private.Gaining.{IsCounted};
+ghost use Rattle.partitioner.specs.Private.Leading.{HasNoRoom, IsLead, Leads, LeadsOpen, LeadsOrLoses, LeadsReaders, is_better, is_settled, start_of};
+
+use crate::costs::gains::{Gains, begin, count_gains};
+use crate::costs::losses::loss_up_to;
+use crate::counts::partitioning::Partitioning;
+use crate::counts::spots::Spots;
+use crate::reads::wide::is_wide;
+use flat_net::FlatNet;
+
+/// The best partition so far for a node, and the node's loss there.
+#[derive(Clone, Copy, Drop)]
+pub struct Lead {
+    pub place: u32,
+    pub loss: u64,
+}
+
+/// Where node x stands.
+pub fn part_of(n: &FlatNet, p: &Partitioning, x: u32) -> u32
+    requires tracks { Tracks n.now.net p.now }
+    requires node { x < length n.now.net.nodes }
+    ensures value { result ≡ slice_index p.now.of.items x }
+    ensures range { result < p.now.count }
+{
+    p.of[x as usize]
+}
+
+/// Partition q has room for a node that is not in it.
+pub fn has_room(n: &FlatNet, p: &Partitioning, size: u32, q: u32) -> bool
+    requires tracks { Tracks n.now.net p.now }
+    requires partition { q < p.now.count }
+    ensures { result ≡ has_room size (parts_of p.now) q }
+{
+    u64::from(p.held[q as usize]) < u64::from(size) + u64::from(size / 4)
+}
+
+/// A loss of `found` in partition q takes the lead.
+fn is_better(lead: Lead, start: u32, found: u64, q: u32) -> bool
+    ensures { result ≡ is_better lead start found q }
+{
+    found < lead.loss || (found == lead.loss && (lead.place != start && q < lead.place))
+}
+
+/// No partition that loses at least `tried` can take the lead.
+fn is_settled(lead: Lead, start: u32, tried: u64) -> bool
+    ensures { result ≡ is_settled lead start tried }
+{
+    lead.loss < tried || (lead.loss == tried && lead.place == start)
+}
+
+/// The lead after partition q is tried for node i. `wanted` says that the node is known to be read there by another.
+fn consider(
+    n: &FlatNet,
+    p: &Partitioning,
+    gains: &Gains,
+    size: u32,
+    i: u32,
+    lead: Lead,
+    q: u32,
+    wanted: bool,
+) -> Lead
+    requires counted { IsCounted n.now.net p.now i gains.now }
+    requires partition { q < p.now.count }
+    requires wanted { wanted ≡ true → is_wanted n.now.net p.now.of.items i q ≡ true }
+    requires lead { IsLead n.now.net size p.now i lead }
+    ensures lead { IsLead n.now.net size p.now i result }
+    ensures kept { (c : ℕ) → Leads n.now.net p.now i lead.place c → Leads n.now.net p.now i result.place c }
+    ensures tried { LeadsOpen n.now.net size p.now i result.place q }
+{
+    let start = p.of[i as usize];
+    if q == start || q == lead.place || !has_room(n, p, size, q) {
+        return lead;
+    }
+    let found = loss_up_to(n, p, gains, i, q, wanted, lead.loss);
+    if is_better(lead, start, found, q) {
+        Lead {
+            place: q,
+            loss: found,
+        }
+    } else {
+        lead
+    }
+}
+
+/// The lead after the partitions of all other readers of node x are tried for node i.
+fn consider_readers(
+    n: &FlatNet,
+    p: &Partitioning,
+    gains: &Gains,
+    size: u32,
+    i: u32,
+    lead: Lead,
+    x: u32,
+) -> Lead
+    requires counted { IsCounted n.now.net p.now i gains.now }
+    requires read { x < length n.now.net.nodes }
+    requires lead { IsLead n.now.net size p.now i lead }
+    ensures lead { IsLead n.now.net size p.now i result }
+    ensures kept { (c : ℕ) → Leads n.now.net p.now i lead.place c → Leads n.now.net p.now i result.place c }
+    ensures tried { LeadsReaders n.now.net size p.now i result.place x }
+{
+    let mut lead = lead;
+    for y in p.readers.row(x) {
+        lead = consider(n, p, gains, size, i, lead, part_of(n, p, *y), x == i);
+    }
+    lead
+}
+
+/// Some partition has room for a node that is not in it.
+pub fn some_room(n: &FlatNet, p: &Partitioning, size: u32) -> bool
+    requires { Tracks n.now.net p.now }
+    ensures { result ≡ false → HasNoRoom size (parts_of p.now) }
+{
+    for q in 0..p.count {
+        if has_room(n, p, size, q) {
+            return true;
+        }
+    }
+    false
+}
+
+/// The lead after the partitions with room in which wide node x is read are tried for node i, in
+/// ascending order, until none that is left can take the lead: those not met yet lose at least `tried`.
+fn consider_spots(
+    n: &FlatNet,
+    p: &Partitioning,
+    spots: &Spots,
+    gains: &Gains,
+    size: u32,
+    i: u32,
+    lead: Lead,
+    x: u32,
+    tried: u64,
+) -> Lead
+    requires counted { IsCounted n.now.net p.now i gains.now }
+    requires spots { AreSpots n.now.net size (parts_of p.now) spots.now }
+    requires read { x < length n.now.net.nodes }
+    requires wide { is_wide n.now.net x ≡ true }
+    requires lead { IsLead n.now.net size p.now i lead }
+    requires least { (c : ℕ) → c < p.now.count → has_room size (parts_of p.now) c ≡ true → LeadsOrLoses n.now.net p.now i lead.place tried c }
+    ensures lead { IsLead n.now.net size p.now i result }
+    ensures kept { (c : ℕ) → Leads n.now.net p.now i lead.place c → Leads n.now.net p.now i result.place c }
+    ensures tried { LeadsReaders n.now.net size p.now i result.place x }
+{
+    let mut lead = lead;
+    for q in spots.free.set(x).iter() {
+        if *q < p.count {
+            lead = consider(n, p, gains, size, i, lead, *q, false);
+            if lead.loss <= tried && lead.place <= *q {
+                return lead;
+            }
+        }
+    }
+    lead
+}
+
+/// The lead after the partitions of node x and of its other readers are tried for node i. Those not met
+/// yet lose at least `tried`.
+fn consider_source(
+    n: &FlatNet,
+    p: &Partitioning,
+    spots: &Spots,
+    gains: &Gains,
+    size: u32,
+    i: u32,
+    lead: Lead,
+    x: u32,
+    tried: u64,
+) -> Lead
+    requires counted { IsCounted n.now.net p.now i gains.now }
+    requires spots { AreSpots n.now.net size (parts_of p.now) spots.now }
+    requires read { x < length n.now.net.nodes }
+    requires lead { IsLead n.now.net size p.now i lead }
+    requires least { (c : ℕ) → c < p.now.count → has_room size (parts_of p.now) c ≡ true → LeadsOrLoses n.now.net p.now i lead.place tried c }
+    ensures lead { IsLead n.now.net size p.now i result }
+    ensures kept { (c : ℕ) → Leads n.now.net p.now i lead.place c → Leads n.now.net p.now i result.place c }
+    ensures own { LeadsOpen n.now.net size p.now i result.place (start_of p.now x) }
+    ensures tried { LeadsReaders n.now.net size p.now i result.place x }
+{
+    let lead = consider(n, p, gains, size, i, lead, part_of(n, p, x), false);
+    if is_wide(n, &p.readers, x) {
+        consider_spots(n, p, spots, gains, size, i, lead, x, tried)
+    } else {
+        consider_readers(n, p, gains, size, i, lead, x)
+    }
+}
+
+/// The partition that node i goes to, where this one leads at first.
+///
+/// A partition that was met by none of so many nodes that i reads loses at least as many pairs, so few
+/// of them need be tried.
+fn best_place(
+    n: &FlatNet,
+    p: &Partitioning,
+    spots: &Spots,
+    gains: &Gains,
+    size: u32,
+    i: u32,
+    lead: Lead,
+) -> u32
+    requires counted { IsCounted n.now.net p.now i gains.now }
+    requires spots { AreSpots n.now.net size (parts_of p.now) spots.now }
+    requires lead { IsLead n.now.net size p.now i lead }
+    ensures { result ≡ place n.now.net size (parts_of p.now) i }
+{
+    let start = part_of(n, p, i);
+    let mut lead = consider_readers(n, p, gains, size, i, lead, i);
+    let mut tried = 1;
+    for x in p.sources.row(i) {
+        if is_settled(lead, start, tried) {
+            return lead.place;
+        }
+        lead = consider_source(n, p, spots, gains, size, i, lead, *x, tried);
+        tried += 1;
+    }
+    lead.place
+}
+
+/// The partition that node i goes to, which is its own where no move lowers the cost.
+///
+/// Where the node loses more than a few pairs, what it gains in each partition is counted once, rather
+/// than in each partition that is tried.
+pub fn place_of(
+    n: &FlatNet,
+    p: &Partitioning,
+    spots: &Spots,
+    gains: &mut Gains,
+    size: u32,
+    i: u32,
+) -> u32
+    requires ready { IsReady n.now.net size p.now spots.now gains.old }
+    requires node { i < length n.now.net.nodes }
+    ensures place { result ≡ place n.now.net size (parts_of p.now) i }
+    ensures ready { IsReady n.now.net size p.now spots.now gains.new }
+{
+    let start = part_of(n, p, i);
+    begin(gains, p.count);
+    let lead = Lead {
+        place: start,
+        loss: loss_up_to(n, p, gains, i, start, false, u64::MAX),
+    };
+    if is_settled(lead, start, 0) {
+        return start;
+    }
+    if lead.loss > 8 {
+        count_gains(n, p, gains, i);
+    }
+    best_place(n, p, spots, gains, size, i, lead)
+}

@@ -1,0 +1,194 @@
+//! Passes of moves.
+ghost use Rattle.std.specs.Prelude.{◌≡◌, ◌<◌, ◌≤◌, ◌↔◌, ℕ, Bool, true, false, length, slice_index, IsTrue, OnOk, IfOk};
+ghost use Rattle.flat_net.specs.Net.{Net};
+ghost use Rattle.partitioner.specs.Cost.{cost};
+ghost use Rattle.partitioner.specs.Sizes.{KeepsSize};
+ghost use Rattle.partitioner.specs.Refining.{move, pass, place, refined, IsMinimal};
+ghost use Rattle.partitioner.specs.Private.Tracking.{Tracks, parts_of};
+ghost use Rattle.partitioner.specs.Private.Ready.{IsReady};
+
+use crate::costs::gains::{Gains, no_gains};
+use crate::costs::pairs::pairs_in;
+use crate::counts::partitioning::Partitioning;
+use crate::counts::spots::{Spots, shut_full, spots_of};
+use crate::counts::tracking::track;
+use crate::refinement::minimal::no_move_helps;
+use crate::refinement::moving::move_to;
+use crate::refinement::placing::{part_of, place_of, some_room};
+use flat_net::{FlatNet, nodes_of};
+use std::alloc::Global;
+use tmr_base::{OutOfMemory, Parts};
+
+/// Moves node i to where it goes. Says whether it moved.
+fn move_node(
+    n: &FlatNet,
+    p: &mut Partitioning,
+    spots: &mut Spots,
+    gains: &mut Gains,
+    size: u32,
+    i: u32,
+) -> Result<bool, OutOfMemory>
+    requires ready { IsReady n.now.net size p.old spots.old gains.old }
+    requires node { i < length n.now.net.nodes }
+    ensures ready { OnOk result (IsReady n.now.net size p.new spots.new gains.new) }
+    ensures parts { OnOk result (parts_of p.new ≡ move n.now.net size (parts_of p.old) i) }
+    ensures still { IfOk result (λ moved. moved ≡ false → parts_of p.new ≡ parts_of p.old) }
+    ensures stays { IfOk result (λ moved. moved ≡ false → place n.now.net size (parts_of p.old) i ≡ slice_index p.old.of.items i) }
+{
+    let place = place_of(n, p, spots, gains, size, i);
+    if place == part_of(n, p, i) {
+        return Ok(false);
+    }
+    move_to(n, p, spots, size, i, place)?;
+    Ok(true)
+}
+
+/// One pass over all nodes. Says whether a node moved.
+fn pass_once(
+    n: &FlatNet,
+    p: &mut Partitioning,
+    spots: &mut Spots,
+    gains: &mut Gains,
+    size: u32,
+) -> Result<bool, OutOfMemory>
+    requires ready { IsReady n.now.net size p.old spots.old gains.old }
+    ensures ready { OnOk result (IsReady n.now.net size p.new spots.new gains.new) }
+    ensures parts { OnOk result (parts_of p.new ≡ pass n.now.net size (parts_of p.old)) }
+    ensures still { IfOk result (λ moved. moved ≡ false → parts_of p.new ≡ parts_of p.old) }
+    ensures minimal { IfOk result (λ moved. moved ≡ false → IsMinimal n.now.net size (parts_of p.new)) }
+{
+    if !some_room(n, p, size) {
+        return Ok(false);
+    }
+    let mut moved = false;
+    for i in 0..nodes_of(n) {
+        if move_node(n, p, spots, gains, size, i)? {
+            moved = true;
+        }
+    }
+    Ok(moved)
+}
+
+/// So many passes, ended after a pass without moves. Says whether they ended so.
+fn pass_often(
+    n: &FlatNet,
+    p: &mut Partitioning,
+    spots: &mut Spots,
+    gains: &mut Gains,
+    size: u32,
+    passes: u32,
+) -> Result<bool, OutOfMemory>
+    requires ready { IsReady n.now.net size p.old spots.old gains.old }
+    ensures ready { OnOk result (IsReady n.now.net size p.new spots.new gains.new) }
+    ensures parts { OnOk result (parts_of p.new ≡ refined n.now.net size (parts_of p.old) passes) }
+    ensures minimal { IfOk result (λ settled. settled ≡ true → IsMinimal n.now.net size (parts_of p.new)) }
+{
+    let mut left = passes;
+    while left > 0 {
+        if !pass_once(n, p, spots, gains, size)? {
+            return Ok(true);
+        }
+        left -= 1;
+    }
+    Ok(false)
+}
+
+/// What passes of moves leave beside the parts, and whether the last one moved no node.
+#[derive(Drop)]
+struct Passed {
+    spots: Spots,
+    gains: Gains,
+    settled: bool,
+}
+
+/// So many passes of moves, with what is kept beside them.
+fn pass_all(
+    alloc: Global,
+    n: &FlatNet,
+    p: &mut Partitioning,
+    size: u32,
+    passes: u32,
+) -> Result<Passed, OutOfMemory>
+    requires { Tracks n.now.net p.old }
+    ensures ready { IfOk result (λ passed. IsReady n.now.net size p.new passed.spots passed.gains) }
+    ensures parts { OnOk result (parts_of p.new ≡ refined n.now.net size (parts_of p.old) passes) }
+    ensures minimal { IfOk result (λ passed. passed.settled ≡ true → IsMinimal n.now.net size (parts_of p.new)) }
+{
+    let mut spots = spots_of(alloc, n, p)?;
+    shut_full(n, p, &mut spots, size);
+    let mut gains = no_gains(alloc, p.count)?;
+    let settled = pass_often(n, p, &mut spots, &mut gains, size, passes)?;
+    Ok(Passed {
+        spots,
+        gains,
+        settled,
+    })
+}
+
+/// What refining gives: the parts, what they cost and what those did that were given, and whether no single
+/// move of a node to a partition with room lowers the cost further.
+#[derive(Drop)]
+pub struct Refined {
+    pub parts: Parts,
+    pub cost: u64,
+    pub before: u64,
+    pub minimal: bool,
+}
+
+/// The parts of `refine`, and what `cost` and `is_minimal` tell of them, from one reading of the design.
+pub fn refine_counted(
+    alloc: Global,
+    n: &FlatNet,
+    parts: &Parts,
+    size: u32,
+    passes: u32,
+) -> Result<Refined, OutOfMemory>
+    requires size { 0 < size }
+    requires parts { KeepsSize n.now.net size parts.now }
+    ensures exact { IfOk result (λ r. r.parts ≡ refined n.now.net size parts.now passes) }
+    ensures cost { IfOk result (λ r. r.cost ≡ cost n.now.net r.parts) }
+    ensures before { IfOk result (λ r. r.before ≡ cost n.now.net parts.now) }
+    ensures minimal { IfOk result (λ r. IsTrue r.minimal ↔ IsMinimal n.now.net size r.parts) }
+{
+    let mut p = track(alloc, n, parts)?;
+    let before = pairs_in(alloc, n, &p.readers, p.count, p.of.as_slice())?;
+    let mut passed = pass_all(alloc, n, &mut p, size, passes)?;
+    let cost = pairs_in(alloc, n, &p.readers, p.count, p.of.as_slice())?;
+    let minimal = no_move_helps(
+        n,
+        &p,
+        &passed.spots,
+        &mut passed.gains,
+        size,
+        passed.settled,
+    );
+    let Partitioning { count, of, .. } = p;
+    Ok(Refined {
+        parts: Parts::make(count, of),
+        cost,
+        before,
+        minimal,
+    })
+}
+
+/// The parts after so many passes of moves, in each of which every node in turn goes to the partition
+/// with room where the cost is lowest, the first of several, if that is lower than now.
+///
+/// `parts` keeps the rule of sizes, and so does what comes out, which never costs more. After want of
+/// memory the given parts are dropped.
+pub fn refine(
+    alloc: Global,
+    n: &FlatNet,
+    parts: Parts,
+    size: u32,
+    passes: u32,
+) -> Result<Parts, OutOfMemory>
+    requires size { 0 < size }
+    requires parts { KeepsSize n.now.net size parts }
+    ensures exact { IfOk result (λ after. after ≡ refined n.now.net size parts passes) }
+    ensures size { IfOk result (λ after. KeepsSize n.now.net size after) }
+    ensures cost { IfOk result (λ after. cost n.now.net after ≤ cost n.now.net parts) }
+{
+    let refined = refine_counted(alloc, n, &parts, size, passes)?;
+    Ok(refined.parts)
+}
