@@ -14,11 +14,11 @@ use Rattle.flat_net.specs.declared.wiring.Wiring.TheInside.{Inside}
 use Rattle.flat_net.proofs.PacksLaws.{IsAssembled}
 use Rattle.certificate.specs.declared.role.Role.{Role}
 use Rattle.certificate.specs.Cert.{PlainCert}
-use Rattle.triplicate.specs.Labels.{Labeling}
+use Rattle.triplicate.specs.Private.Labels.{Labeling}
 use Rattle.triplicate.specs.Form.{version_of}
 use Rattle.triplicate.specs.Blocks.{threefold, hardened_roles, hardened_clock}
-use Rattle.triplicate.specs.Numbers.{copy_net}
-use Rattle.triplicate.specs.Construction.{hardened_net, hardened_cert, three_copies, three_labels}
+use Rattle.triplicate.specs.Private.Numbers.{copy_net}
+use Rattle.triplicate.specs.Private.Construction.{hardened_net, hardened_cert, three_copies, three_labels}
 use Rattle.triplicate.proofs.Tripled.{length-hardened_inputs}
 use Rattle.triplicate.proofs.Places.{copy_net_more}
 

@@ -11,11 +11,11 @@ use Rattle.recovery_depth.specs.Extra.{is_extra, is_cut_or_extra}
 use Rattle.partitioner.specs.Sizes.{plain_parts}
 use Rattle.partitioner.specs.Refining.{refined}
 use Rattle.triplicate.specs.declared.hardened.Hardened.{Hardened}
-use Rattle.triplicate.specs.Labels.{labeling}
-use Rattle.triplicate.specs.Pins.{PlainVotes, pin_is_voted}
-use Rattle.triplicate.specs.Construction.{hardened_net, hardened_cert}
-use Rattle.triplicate.specs.Given.{IsGiven}
-use Rattle.triplicate.specs.Built.{IsBuilt}
+use Rattle.triplicate.specs.Private.Labels.{labeling}
+use Rattle.triplicate.specs.Private.Pins.{PlainVotes, pin_is_voted}
+use Rattle.triplicate.specs.Private.Construction.{hardened_net, hardened_cert}
+use Rattle.triplicate.specs.Private.Given.{IsGiven}
+use Rattle.triplicate.specs.Private.Built.{IsBuilt}
 use Rattle.triplicate.proofs.PartRanges.{AreRanged, ranged}
 use Rattle.triplicate.proofs.Votes.{votes, labels}
 use Rattle.triplicate.proofs.Certified.{cert_fits}

@@ -15,13 +15,13 @@ use Rattle.feedback_cut.specs.Cut.{ReadsUnvoted}
 use Rattle.recovery_depth.specs.Depths.{own_register, is_some_register, IsDepth}
 use Rattle.recovery_depth.specs.Walks.{IsReach}
 use Rattle.recovery_depth.specs.Hardened.{role_at, node_at, is_copy, ReadsCopy, own_original, original_of}
-use Rattle.triplicate.specs.Labels.{Labeling}
+use Rattle.triplicate.specs.Private.Labels.{Labeling}
 use Rattle.triplicate.specs.Voting.{ReadsNet}
 use Rattle.triplicate.specs.Blocks.{hardened_roles}
 use Rattle.triplicate.specs.Form.{IsGreatestLabel, AreLeastLabels}
-use Rattle.triplicate.specs.Numbers.{copy_net, voter_net}
-use Rattle.triplicate.specs.Construction.{pin_net, node_copy, hardened_net, hardened_cert}
-use Rattle.triplicate.specs.Given.{IsGiven}
+use Rattle.triplicate.specs.Private.Numbers.{copy_net, voter_net}
+use Rattle.triplicate.specs.Private.Construction.{pin_net, node_copy, hardened_net, hardened_cert}
+use Rattle.triplicate.specs.Private.Given.{IsGiven}
 use Rattle.triplicate.proofs.Tripled.{node_of_role, number_of, role_of_copy, part_of_node, part_at_node, label_listed, length-hardened_inputs}
 use Rattle.triplicate.proofs.Reading.{read_in_range, read_together, voted_role, unvoted_role, input_role}
 use Rattle.triplicate.proofs.Formed.{copy_pin}

@@ -8,7 +8,7 @@ use Rattle.std.proofs.lemmas.Option.{slice_get-get_or, slice_get_within, get_or_
 use Rattle.flat_net.specs.Net.{Net, Node, Table, Register, net_count, node_of, table_pins, IsTable, IsOrder, IsValid}
 use Rattle.flat_net.proofs.Slots.{slot_there, slot_below}
 use Rattle.recovery_depth.specs.Depths.{is_some_register}
-use Rattle.triplicate.specs.Construction.{is_register_net, net_order}
+use Rattle.triplicate.specs.Private.Construction.{is_register_net, net_order}
 use Rattle.triplicate.proofs.Lists.{get_before, get_after}
 use Rattle.triplicate.proofs.Orders.{kept_before, kept_at, kept_place, kept_rises}
 

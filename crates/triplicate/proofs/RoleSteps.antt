@@ -30,9 +30,9 @@ use Rattle.triplicate.specs.declared.tripling.Made.{Made}
 use Rattle.triplicate.specs.Blocks.{block, hardened_roles, hardened_inputs, role_name}
 use Rattle.triplicate.specs.Form.{majority_cover}
 use Rattle.std.proofs.lemmas.List.Concat.{flat_map-append}
-use Rattle.triplicate.specs.Numbers.{copy_net, voter_net}
-use Rattle.triplicate.specs.Construction.{pin_net, first_pins_to, role_node, node_copy, hardened_net}
-use Rattle.triplicate.specs.Made.{IsMade, HasRoom, IsNext, shifted_node}
+use Rattle.triplicate.specs.Private.Numbers.{copy_net, voter_net}
+use Rattle.triplicate.specs.Private.Construction.{pin_net, first_pins_to, role_node, node_copy, hardened_net}
+use Rattle.triplicate.specs.Private.Made.{IsMade, HasRoom, IsNext, shifted_node}
 use Rattle.flat_net.specs.Draft.{AreDistinct}
 use Rattle.partitioner.proofs.Numbers.{numbers_more}
 use Rattle.triplicate.proofs.Lists.{blocks_cut}

@@ -4,12 +4,12 @@ use Rattle.std.proofs.lemmas.List.{length-append, length-map}
 use Rattle.tmr_base.specs.Parts.{PlainParts}
 use Rattle.flat_net.specs.Net.{Net, net_names, node_name, net_count, name_of}
 use Rattle.flat_net.specs.Packs.{Packs}
-use Rattle.triplicate.specs.Labels.{Labeling}
+use Rattle.triplicate.specs.Private.Labels.{Labeling}
 use Rattle.triplicate.specs.declared.tripling.Made.{Made}
 use Rattle.triplicate.specs.Blocks.{hardened_roles, hardened_inputs, role_name}
-use Rattle.triplicate.specs.Construction.{role_node, hardened_net}
-use Rattle.triplicate.specs.Given.{IsGiven}
-use Rattle.triplicate.specs.Made.{IsMade, HasRoom}
+use Rattle.triplicate.specs.Private.Construction.{role_node, hardened_net}
+use Rattle.triplicate.specs.Private.Given.{IsGiven}
+use Rattle.triplicate.specs.Private.Made.{IsMade, HasRoom}
 use Rattle.triplicate.proofs.Formed.{map_map, map_agree, names_of_roles}
 use Rattle.triplicate.proofs.Named.{names_differ, hardened_count}
 use Rattle.triplicate.proofs.Tripled.{length-hardened_inputs}

@@ -14,7 +14,7 @@ use Rattle.flat_net.proofs.Slots.{slot_at, slice_get_there}
 use Rattle.feedback_cut.specs.Inner.{node_pins}
 use Rattle.partitioner.specs.Noting.{noted, ends_in}
 use Rattle.tmr_base.specs.declared.copies.CopyNo.TheVariants.{First, Second, Third}
-use Rattle.triplicate.specs.Noted.{pin_noted, pins_noted, nodes_noted, parts_noted, members}
+use Rattle.triplicate.specs.Private.Noted.{pin_noted, pins_noted, nodes_noted, parts_noted, members}
 use Rattle.triplicate.proofs.VoterRows.{length-pins_noted, length-parts_noted, rows_listed, none_listed, pin_in_range}
 use Rattle.triplicate.proofs.RoleSteps.{copy_pins}
 use Rattle.std.proofs.lemmas.List.Concat.{flat_map-append}
@@ -25,7 +25,7 @@ use Rattle.certificate.specs.declared.role.Role.{Role}
 use Rattle.certificate.specs.declared.role.Role.TheVariants.{Copy}
 use Rattle.triplicate.specs.Voting.{voting_parts}
 use Rattle.triplicate.specs.Blocks.{copies_of, voters_for, block, hardened_roles}
-use Rattle.triplicate.specs.Construction.{hardened_net, role_node}
+use Rattle.triplicate.specs.Private.Construction.{hardened_net, role_node}
 use Rattle.triplicate.specs.Result.{is_voter_role}
 use Rattle.triplicate.proofs.Lists.{blocks_more}
 use Rattle.triplicate.proofs.Numbering.{copies_of_node, copies_of_input, block_length}

@@ -9,7 +9,7 @@ use Rattle.certificate.proofs.Unmarked.{without_marks}
 use Rattle.recovery_depth.specs.Extra.{PlainExtra, is_extra, AreExtra}
 use Rattle.flat_net.specs.Free.{FreeDesign}
 use Rattle.partitioner.specs.Cost.{cost}
-use Rattle.triplicate.specs.Labels.{Labeling, labeling}
+use Rattle.triplicate.specs.Private.Labels.{Labeling, labeling}
 use Rattle.triplicate.specs.declared.hardened.Hardened.{Hardened}
 use Rattle.triplicate.specs.declared.hardened.HardenedFree.{HardenedFree}
 use Rattle.triplicate.specs.Blocks.{hardened_roles}
@@ -20,11 +20,11 @@ use Rattle.flat_net.specs.Net.{Net}
 use Rattle.partitioner.specs.Sizes.{plain_parts}
 use Rattle.partitioner.specs.Refining.{refined, IsMinimal}
 use Rattle.triplicate.specs.Voting.{none_extra}
-use Rattle.triplicate.specs.Pins.{pin_is_voted}
-use Rattle.triplicate.specs.Built.{IsBuilt}
+use Rattle.triplicate.specs.Private.Pins.{pin_is_voted}
+use Rattle.triplicate.specs.Private.Built.{IsBuilt}
 use Rattle.triplicate.specs.Form.{version_of, HasForm, BoundedForm, parts_of}
-use Rattle.triplicate.specs.Construction.{role_node, hardened_net, hardened_cert}
-use Rattle.triplicate.specs.Given.{IsGiven}
+use Rattle.triplicate.specs.Private.Construction.{role_node, hardened_net, hardened_cert}
+use Rattle.triplicate.specs.Private.Given.{IsGiven}
 use Rattle.triplicate.proofs.Corresponding.{corresponds}
 use Rattle.triplicate.proofs.Formed.{same_parts, is_tripled, votes_as_needed, cut_needed}
 use Rattle.triplicate.proofs.Labeled.{least_labels}

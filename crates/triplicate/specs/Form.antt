@@ -51,7 +51,8 @@ pub record IsTripled (n h : Net) (k : PlainCert) : Type 0 where
   pub clock : h.clock ≡ hardened_clock n.clock
   pub roles : k.roles ≡ hardened_roles n (parts_of k) (is_voted n h k)
   pub names : map node_name h.nodes ≡ map (role_name n) k.roles
-  pub voters : (g x p : ℕ) (c : CopyNo) → role_of k g ≡ Some (Voter (record { 0 = x }) (record { 0 = p }) c) → IsCoverOf (node_of h g) majority_cover
+  pub voters : (g x p : ℕ) (c : CopyNo) → role_of k g ≡ Some (Voter (record { 0 = x }) (record { 0 = p }) c)
+      → IsCoverOf (node_of h g) majority_cover
 
 -- the three copies of a node read voters at the same pins
 abbrev pub VotesAlike : Net → Net → PlainCert → Type 0
@@ -72,7 +73,8 @@ pub record IsGreatestLabel (k : PlainCert) (p depth : ℕ) : Type 0 where
 -- each label is the most registers of a walk of copies that ends in its copy, and each depth is the greatest label of its
 -- partition's copies: no smaller ones are possible
 pub record AreLeastLabels (h : Net) (k : PlainCert) : Type 0 where
-  pub labels : (g x : ℕ) (c : CopyNo) → role_at h k g ≡ Some (Copy (record { 0 = x }) c) → IsReach (ReadsCopy h k) (own_original h k) g (label_of k x c)
+  pub labels : (g x : ℕ) (c : CopyNo) → role_at h k g ≡ Some (Copy (record { 0 = x }) c)
+      → IsReach (ReadsCopy h k) (own_original h k) g (label_of k x c)
   pub depths : (p : ℕ) → p < length k.depth → IsGreatestLabel k p (depth_of k p)
 
 -- the version of a certificate: 2 where pins that read inputs are voted

@@ -1,13 +1,5 @@
 pub mod Voting
 pub mod Blocks
 pub mod Form
-pub mod Numbers
-pub mod Construction
-pub mod Pins
-pub mod Labels
-pub mod Given
-pub mod Noted
-pub mod Starts
-pub mod Made
-pub mod Built
 pub mod Result
+pub mod Private

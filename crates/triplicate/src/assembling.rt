@@ -4,13 +4,13 @@ ghost use Rattle.std.specs.List.{flat_map};
 ghost use Rattle.flat_net.specs.Net.{node_name, net_names, IsOrder, IsValid};
 ghost use Rattle.flat_net.specs.Packs.{Packs};
 ghost use Rattle.flat_net.specs.Nodes.{number_of};
-ghost use Rattle.triplicate.specs.Pins.{pin_is_voted};
+ghost use Rattle.triplicate.specs.Private.Pins.{pin_is_voted};
 ghost use Rattle.triplicate.specs.Blocks.{threefold, hardened_roles};
-ghost use Rattle.triplicate.specs.Numbers.{copy_net};
-ghost use Rattle.triplicate.specs.Construction.{hardened_net, hardened_cert, hardened_order};
-ghost use Rattle.triplicate.specs.Starts.{AreStarts};
-ghost use Rattle.triplicate.specs.Given.{IsGiven};
-ghost use Rattle.triplicate.specs.Labels.{labeling};
+ghost use Rattle.triplicate.specs.Private.Numbers.{copy_net, HasFewNets};
+ghost use Rattle.triplicate.specs.Private.Construction.{hardened_net, hardened_cert, hardened_order};
+ghost use Rattle.triplicate.specs.Private.Starts.{AreStarts};
+ghost use Rattle.triplicate.specs.Private.Given.{IsGiven};
+ghost use Rattle.triplicate.specs.Private.Labels.{labeling};
 
 use crate::certifying::{copies_of, depths_of, labels_of, of_version, partitions_of};
 use crate::naming::hardened_clock;
@@ -44,7 +44,7 @@ fn hardened_outputs(
     starts: &[u32],
 ) -> Result<Vec<NetId>, OutOfMemory>
     requires starts { AreStarts n.now.net parts.now (pin_is_voted n.now.net parts.now votes.now) starts.now }
-    requires few { 3 * length n.now.net.inputs + length (hardened_roles n.now.net parts.now (pin_is_voted n.now.net parts.now votes.now)) < 4294967295 }
+    requires few { HasFewNets n.now.net parts.now (pin_is_voted n.now.net parts.now votes.now) }
     ensures { IfOk result (λ outputs. map number_of outputs.items ≡ flat_map (λ x. threefold (copy_net n.now.net parts.now (pin_is_voted n.now.net parts.now votes.now) x)) n.now.net.outputs) }
 {
     let count = n.output_count();
@@ -68,7 +68,7 @@ pub fn assembled(
     nodes: PackedNodes,
 ) -> Result<FlatNet, OutOfMemory>
     requires starts { AreStarts n.now.net parts.now (pin_is_voted n.now.net parts.now votes.now) starts.now }
-    requires few { 3 * length n.now.net.inputs + length (hardened_roles n.now.net parts.now (pin_is_voted n.now.net parts.now votes.now)) < 4294967295 }
+    requires few { HasFewNets n.now.net parts.now (pin_is_voted n.now.net parts.now votes.now) }
     requires names { names.keys ≡ net_names (hardened_net n.now.net parts.now (pin_is_voted n.now.net parts.now votes.now)) }
     requires nodes { Packs (map node_name (hardened_net n.now.net parts.now (pin_is_voted n.now.net parts.now votes.now)).nodes) nodes (hardened_net n.now.net parts.now (pin_is_voted n.now.net parts.now votes.now)).nodes }
     requires valid { IsValid (hardened_net n.now.net parts.now (pin_is_voted n.now.net parts.now votes.now)) }

@@ -1,13 +1,14 @@
 //! Where in the hardened design each net's copies and voters stand.
 ghost use Rattle.std.specs.Prelude.{◌≡◌, ◌+◌, ◌*◌, ◌<◌, length, IfOk};
 ghost use Rattle.flat_net.specs.Net.{net_count};
-ghost use Rattle.triplicate.specs.Pins.{pin_is_voted};
-ghost use Rattle.triplicate.specs.Blocks.{copies_of, hardened_roles};
-ghost use Rattle.triplicate.specs.Starts.{AreVoterRows, AreStarts};
+ghost use Rattle.triplicate.specs.Private.Pins.{pin_is_voted};
+ghost use Rattle.triplicate.specs.Blocks.{copies_of};
+ghost use Rattle.triplicate.specs.Private.Starts.{AreVoterRows, AreStarts};
+ghost use Rattle.triplicate.specs.Private.Numbers.{HasFewNets};
 
 use crate::voting::VotedPins;
 use flat_net::{FlatNet, nodes_of};
-use partitioner::Packed;
+use graph::Graph;
 use std::alloc::Global;
 use tmr_base::{OutOfMemory, Parts};
 
@@ -24,10 +25,10 @@ pub fn block_starts(
     n: &FlatNet,
     parts: &Parts,
     votes: &VotedPins,
-    voters: &Packed,
+    voters: &Graph,
 ) -> Result<Vec<u32>, OutOfMemory>
     requires voters { AreVoterRows n.now.net parts.now (pin_is_voted n.now.net parts.now votes.now) voters.now }
-    requires few { 3 * length n.now.net.inputs + length (hardened_roles n.now.net parts.now (pin_is_voted n.now.net parts.now votes.now)) < 4294967295 }
+    requires few { HasFewNets n.now.net parts.now (pin_is_voted n.now.net parts.now votes.now) }
     ensures { IfOk result (λ starts. AreStarts n.now.net parts.now (pin_is_voted n.now.net parts.now votes.now) starts.items) }
 {
     let inputs = n.input_count();

@@ -2,15 +2,14 @@
 ghost use Rattle.std.specs.Prelude.{◌≡◌, ◌+◌, ◌*◌, ◌<◌, ◌≤◌, ◌^◌, All, length, map, IfOk, OnOk};
 ghost use Rattle.std.specs.List.{range_with_len};
 ghost use Rattle.tmr_base.specs.declared.copies.CopyNo.TheVariants.{First};
-ghost use Rattle.feedback_cut.specs.Cut.{CutMeets};
 ghost use Rattle.certificate.specs.Cert.{IsCert};
 ghost use Rattle.certificate.specs.Draft.{cert_of_draft};
 ghost use Rattle.certificate.specs.Threes.{three_of, three_ids};
-ghost use Rattle.triplicate.specs.Pins.{pin_is_voted};
-ghost use Rattle.triplicate.specs.Blocks.{hardened_roles};
-ghost use Rattle.triplicate.specs.Construction.{three_copies, three_labels, hardened_cert};
+ghost use Rattle.triplicate.specs.Private.Pins.{pin_is_voted};
+ghost use Rattle.triplicate.specs.Private.Construction.{three_copies, three_labels, hardened_cert};
 ghost use Rattle.triplicate.specs.Form.{version_of};
-ghost use Rattle.triplicate.specs.Starts.{AreStarts};
+ghost use Rattle.triplicate.specs.Private.Starts.{AreStarts};
+ghost use Rattle.triplicate.specs.Private.Numbers.{HasFewNets};
 
 use crate::pins::first_copy;
 use crate::voting::VotedPins;
@@ -68,7 +67,7 @@ pub fn copies_of(
     starts: &[u32],
 ) -> Result<Vec<[NetId; 3]>, OutOfMemory>
     requires starts { AreStarts n.now.net parts.now (pin_is_voted n.now.net parts.now votes.now) starts.now }
-    requires few { 3 * length n.now.net.inputs + length (hardened_roles n.now.net parts.now (pin_is_voted n.now.net parts.now votes.now)) < 4294967295 }
+    requires few { HasFewNets n.now.net parts.now (pin_is_voted n.now.net parts.now votes.now) }
     ensures { IfOk result (λ copies. map three_ids copies.items ≡ map (three_copies n.now.net parts.now (pin_is_voted n.now.net parts.now votes.now)) (range_with_len (length n.now.net.inputs) (length n.now.net.nodes))) }
 {
     let count = nodes_of(n);

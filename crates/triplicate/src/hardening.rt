@@ -1,12 +1,11 @@
 //! Hardening.
 ghost use Rattle.std.specs.Prelude.{◌≡◌, ◌+◌, ◌<◌, ◌≤◌, ◌⊎◌, length, IfOk};
 ghost use Rattle.flat_net.specs.Net.{net_count, pin_total};
-ghost use Rattle.feedback_cut.specs.Cut.{CutMeets};
-ghost use Rattle.triplicate.specs.Pins.{pin_is_voted};
-ghost use Rattle.triplicate.specs.Construction.{hardened_net, hardened_cert};
-ghost use Rattle.triplicate.specs.Given.{IsGiven};
-ghost use Rattle.triplicate.specs.Labels.{labeling};
-ghost use Rattle.triplicate.specs.Built.{IsBuilt};
+ghost use Rattle.triplicate.specs.Private.Pins.{pin_is_voted, AreVotesOf};
+ghost use Rattle.triplicate.specs.Private.Construction.{hardened_net, hardened_cert};
+ghost use Rattle.triplicate.specs.Private.Given.{IsGiven};
+ghost use Rattle.triplicate.specs.Private.Labels.{labeling};
+ghost use Rattle.triplicate.specs.Private.Built.{IsBuilt};
 ghost use Rattle.triplicate.specs.Result.{IsHardened, IsFreeHardened, IsBounded};
 
 use crate::assembling::{assembled, certified};
@@ -32,9 +31,7 @@ fn triplicate(
     votes: &VotedPins,
     extra: &Extra,
 ) -> Result<(FlatNet, Certificate), OutOfMemory>
-    requires parts { length parts.now.of ≡ length n.now.net.nodes }
-    requires cut { CutMeets n.now.net parts.now votes.now.cut }
-    requires marks { length votes.now.marks ≡ length n.now.net.nodes }
+    requires votes { AreVotesOf n.now.net parts.now votes.now }
     requires given { IsGiven n.now.net parts.now (pin_is_voted n.now.net parts.now votes.now) (labeling votes.now.inputs extra.now.table) }
     ensures net { IfOk result (λ r. r.0.net ≡ hardened_net n.now.net parts.now (pin_is_voted n.now.net parts.now votes.now)) }
     ensures cert { IfOk result (λ r. r.1 ≡ hardened_cert n.now.net parts.now (pin_is_voted n.now.net parts.now votes.now) (labeling votes.now.inputs extra.now.table)) }

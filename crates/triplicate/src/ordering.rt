@@ -3,9 +3,9 @@ ghost use Rattle.std.specs.Prelude.{◌≡◌, ◌+◌, ◌*◌, ◌<◌, ◌-�
 ghost use Rattle.std.specs.List.{range_with_len, flat_map};
 ghost use Rattle.flat_net.specs.Net.{net_count};
 ghost use Rattle.flat_net.specs.Nodes.{number_of};
-ghost use Rattle.triplicate.specs.Pins.{pin_is_voted};
-ghost use Rattle.triplicate.specs.Construction.{block_nets, is_register_net, is_of_kind, hardened_order};
-ghost use Rattle.triplicate.specs.Starts.{AreStarts};
+ghost use Rattle.triplicate.specs.Private.Pins.{pin_is_voted};
+ghost use Rattle.triplicate.specs.Private.Construction.{block_nets, is_register_net, is_of_kind, hardened_order};
+ghost use Rattle.triplicate.specs.Private.Starts.{AreStarts};
 
 use crate::blocks::room_of;
 use crate::voting::VotedPins;

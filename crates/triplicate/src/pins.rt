@@ -3,25 +3,23 @@ ghost use Rattle.std.specs.Prelude.{◌≡◌, ◌+◌, ◌*◌, ◌<◌, ◌≤
 ghost use Rattle.tmr_base.specs.declared.copies.CopyNo.TheVariants.{First};
 ghost use Rattle.flat_net.specs.Net.{net_count};
 ghost use Rattle.feedback_cut.specs.Inner.{node_pins};
-ghost use Rattle.feedback_cut.specs.Cut.{CutMeets};
-ghost use Rattle.triplicate.specs.Pins.{pin_is_voted};
-ghost use Rattle.triplicate.specs.Construction.{pin_net, first_pins_to};
+ghost use Rattle.triplicate.specs.Private.Pins.{pin_is_voted, AreVotesOf};
+ghost use Rattle.triplicate.specs.Private.Construction.{pin_net, first_pins_to};
 ghost use Rattle.triplicate.specs.Voting.{needs_voter};
-ghost use Rattle.triplicate.specs.Blocks.{hardened_roles};
-ghost use Rattle.triplicate.specs.Numbers.{copy_net, voter_net};
-ghost use Rattle.triplicate.specs.Starts.{AreVoterRows, AreStarts};
+ghost use Rattle.triplicate.specs.Private.Numbers.{copy_net, voter_net, HasFewNets};
+ghost use Rattle.triplicate.specs.Private.Starts.{AreVoterRows, AreStarts};
 
 use crate::blocks::copies;
 use crate::voting::{VotedPins, is_voted};
 use flat_net::{FlatNet, nodes_of};
-use partitioner::Packed;
+use graph::Graph;
 use tmr_base::{NetId, OutOfMemory, Parts};
 
 /// The first copy of net x.
 pub fn first_copy(n: &FlatNet, parts: &Parts, votes: &VotedPins, starts: &[u32], x: u32) -> u32
     requires starts { AreStarts n.now.net parts.now (pin_is_voted n.now.net parts.now votes.now) starts.now }
     requires net { x < net_count n.now.net }
-    requires few { 3 * length n.now.net.inputs + length (hardened_roles n.now.net parts.now (pin_is_voted n.now.net parts.now votes.now)) < 4294967295 }
+    requires few { HasFewNets n.now.net parts.now (pin_is_voted n.now.net parts.now votes.now) }
     ensures { result ≡ copy_net n.now.net parts.now (pin_is_voted n.now.net parts.now votes.now) x First }
 {
     let _nodes = nodes_of(n);
@@ -51,7 +49,7 @@ fn first_voter(
     parts: &Parts,
     votes: &VotedPins,
     starts: &[u32],
-    voters: &Packed,
+    voters: &Graph,
     x: u32,
     p: u32,
 ) -> u32
@@ -60,7 +58,7 @@ fn first_voter(
     requires net { x < net_count n.now.net }
     requires part { p < parts.now.count }
     requires needed { needs_voter n.now.net parts.now (pin_is_voted n.now.net parts.now votes.now) x p ≡ true }
-    requires few { 3 * length n.now.net.inputs + length (hardened_roles n.now.net parts.now (pin_is_voted n.now.net parts.now votes.now)) < 4294967295 }
+    requires few { HasFewNets n.now.net parts.now (pin_is_voted n.now.net parts.now votes.now) }
     ensures { result ≡ voter_net n.now.net parts.now (pin_is_voted n.now.net parts.now votes.now) x p First }
 {
     let _nodes = nodes_of(n);
@@ -76,18 +74,16 @@ fn first_pin(
     parts: &Parts,
     votes: &VotedPins,
     starts: &[u32],
-    voters: &Packed,
+    voters: &Graph,
     y: u32,
     j: u32,
 ) -> u32
-    requires parts { length parts.now.of ≡ length n.now.net.nodes }
-    requires cut { CutMeets n.now.net parts.now votes.now.cut }
-    requires marks { length votes.now.marks ≡ length n.now.net.nodes }
+    requires votes { AreVotesOf n.now.net parts.now votes.now }
     requires starts { AreStarts n.now.net parts.now (pin_is_voted n.now.net parts.now votes.now) starts.now }
     requires voters { AreVoterRows n.now.net parts.now (pin_is_voted n.now.net parts.now votes.now) voters.now }
     requires node { y < length n.now.net.nodes }
     requires pin { j < length (node_pins n.now.net y) }
-    requires few { 3 * length n.now.net.inputs + length (hardened_roles n.now.net parts.now (pin_is_voted n.now.net parts.now votes.now)) < 4294967295 }
+    requires few { HasFewNets n.now.net parts.now (pin_is_voted n.now.net parts.now votes.now) }
     ensures { result ≡ pin_net n.now.net parts.now (pin_is_voted n.now.net parts.now votes.now) y First j (slice_index (node_pins n.now.net y) j) }
 {
     let _nodes = nodes_of(n);
@@ -108,17 +104,15 @@ pub fn first_pins(
     parts: &Parts,
     votes: &VotedPins,
     starts: &[u32],
-    voters: &Packed,
+    voters: &Graph,
     y: u32,
     pins: &mut Vec<u32>,
 ) -> Result<(), OutOfMemory>
-    requires parts { length parts.now.of ≡ length n.now.net.nodes }
-    requires cut { CutMeets n.now.net parts.now votes.now.cut }
-    requires marks { length votes.now.marks ≡ length n.now.net.nodes }
+    requires votes { AreVotesOf n.now.net parts.now votes.now }
     requires starts { AreStarts n.now.net parts.now (pin_is_voted n.now.net parts.now votes.now) starts.now }
     requires voters { AreVoterRows n.now.net parts.now (pin_is_voted n.now.net parts.now votes.now) voters.now }
     requires node { y < length n.now.net.nodes }
-    requires few { 3 * length n.now.net.inputs + length (hardened_roles n.now.net parts.now (pin_is_voted n.now.net parts.now votes.now)) < 4294967295 }
+    requires few { HasFewNets n.now.net parts.now (pin_is_voted n.now.net parts.now votes.now) }
     ensures { OnOk result (pins.new.items ≡ first_pins_to n.now.net parts.now (pin_is_voted n.now.net parts.now votes.now) y (length (node_pins n.now.net y))) }
 {
     pins.clear();

@@ -8,16 +8,15 @@ ghost use Rattle.flat_net.specs.Nodes.{number_of};
 ghost use Rattle.flat_net.specs.Packs.{Packs};
 ghost use Rattle.flat_net.specs.Faults.{is_among};
 ghost use Rattle.feedback_cut.specs.Inner.{node_pins};
-ghost use Rattle.feedback_cut.specs.Cut.{CutMeets};
 ghost use Rattle.certificate.specs.declared.role.Role.TheVariants.{Copy, Voter};
-ghost use Rattle.triplicate.specs.Pins.{pin_is_voted};
+ghost use Rattle.triplicate.specs.Private.Pins.{pin_is_voted, AreVotesOf};
 ghost use Rattle.triplicate.specs.Form.{majority_cover};
 ghost use Rattle.table_cover.specs.Pushing.{with_row};
 ghost use Rattle.triplicate.specs.Blocks.{copies_of, voters_for, block, hardened_roles};
-ghost use Rattle.triplicate.specs.Starts.{AreVoterRows, AreStarts};
-ghost use Rattle.triplicate.specs.Numbers.{copy_net};
-ghost use Rattle.triplicate.specs.Construction.{first_pins_to};
-ghost use Rattle.triplicate.specs.Made.{IsMade, HasRoom, IsNext, shifted_node};
+ghost use Rattle.triplicate.specs.Private.Starts.{AreVoterRows, AreStarts};
+ghost use Rattle.triplicate.specs.Private.Numbers.{copy_net};
+ghost use Rattle.triplicate.specs.Private.Construction.{first_pins_to};
+ghost use Rattle.triplicate.specs.Private.Made.{IsMade, HasRoom, IsNext, shifted_node, PushesNode};
 
 use crate::blocks::room_of;
 use crate::naming::input_names;
@@ -25,8 +24,8 @@ use crate::pins::{first_copy, first_pins};
 use crate::voting::VotedPins;
 use certificate::Role;
 use flat_net::{FlatNet, Kind, PackedNodes, nodes_of, push_register, push_table};
+use graph::Graph;
 use indexmap::IndexSet;
-use partitioner::Packed;
 use std::alloc::Global;
 use table_cover::Cover;
 use tmr_base::{CopyNo, Name, NetId, OutOfMemory, PartId, Parts, copy_name, voter_name};
@@ -66,7 +65,7 @@ fn push_table_copy(
     requires table { IsTable (node_of n.now.net x.0) }
     requires few { All (λ p. p + 3 < 4294967296) pins.now }
     requires room { length nodes.old.pins.items + length pins.now < 4294967296 }
-    ensures { OnOk result ((names : List (List ℕ)) (done : List Node) → Packs names nodes.old done → Packs (names ++ node_name (shifted_node c pins.now (node_of n.now.net x.0)) ∷ []) nodes.new (done ++ shifted_node c pins.now (node_of n.now.net x.0) ∷ [])) }
+    ensures { OnOk result (PushesNode nodes.old nodes.new (shifted_node c pins.now (node_of n.now.net x.0))) }
 {
     let shifted = shifted(alloc, pins, c)?;
     let cover = n.cover(x).copy(alloc)?;
@@ -89,7 +88,7 @@ fn push_register_copy(
     requires pins { 0 < length pins.now }
     requires room { length nodes.old.pins.items + length pins.now < 4294967296 }
     requires registers { nodes.old.registers + 1 < 4294967296 }
-    ensures { OnOk result ((names : List (List ℕ)) (done : List Node) → Packs names nodes.old done → Packs (names ++ node_name (shifted_node c pins.now (node_of n.now.net x.0)) ∷ []) nodes.new (done ++ shifted_node c pins.now (node_of n.now.net x.0) ∷ [])) }
+    ensures { OnOk result (PushesNode nodes.old nodes.new (shifted_node c pins.now (node_of n.now.net x.0))) }
 {
     let pin = pins[0] + c.number();
     push_register(nodes, n.init(x), NetId(pin))?;
@@ -111,7 +110,7 @@ fn push_node_copy(
     requires pins { length pins.now ≡ length (pins_at (node_of n.now.net x.0)) }
     requires room { length nodes.old.pins.items + length pins.now < 4294967296 }
     requires registers { nodes.old.registers + 1 < 4294967296 }
-    ensures { OnOk result ((names : List (List ℕ)) (done : List Node) → Packs names nodes.old done → Packs (names ++ node_name (shifted_node c pins.now (node_of n.now.net x.0)) ∷ []) nodes.new (done ++ shifted_node c pins.now (node_of n.now.net x.0) ∷ [])) }
+    ensures { OnOk result (PushesNode nodes.old nodes.new (shifted_node c pins.now (node_of n.now.net x.0))) }
 {
     match n.kind(x) {
         Kind::Input => Ok(()),
@@ -306,15 +305,13 @@ fn push_own_copies(
     n: &FlatNet,
     parts: &Parts,
     votes: &VotedPins,
-    voters: &Packed,
+    voters: &Graph,
     starts: &[u32],
     x: u32,
     pins: &mut Vec<u32>,
     made: &mut Made,
 ) -> Result<(), OutOfMemory>
-    requires parts { length parts.now.of ≡ length n.now.net.nodes }
-    requires cut { CutMeets n.now.net parts.now votes.now.cut }
-    requires marks { length votes.now.marks ≡ length n.now.net.nodes }
+    requires votes { AreVotesOf n.now.net parts.now votes.now }
     requires starts { AreStarts n.now.net parts.now (pin_is_voted n.now.net parts.now votes.now) starts.now }
     requires voters { AreVoterRows n.now.net parts.now (pin_is_voted n.now.net parts.now votes.now) voters.now }
     requires range { x < net_count n.now.net }
@@ -341,16 +338,14 @@ fn push_block(
     n: &FlatNet,
     parts: &Parts,
     votes: &VotedPins,
-    voters: &Packed,
+    voters: &Graph,
     starts: &[u32],
     x: u32,
     cover: &Cover,
     pins: &mut Vec<u32>,
     made: &mut Made,
 ) -> Result<(), OutOfMemory>
-    requires parts { length parts.now.of ≡ length n.now.net.nodes }
-    requires cut { CutMeets n.now.net parts.now votes.now.cut }
-    requires marks { length votes.now.marks ≡ length n.now.net.nodes }
+    requires votes { AreVotesOf n.now.net parts.now votes.now }
     requires starts { AreStarts n.now.net parts.now (pin_is_voted n.now.net parts.now votes.now) starts.now }
     requires voters { AreVoterRows n.now.net parts.now (pin_is_voted n.now.net parts.now votes.now) voters.now }
     requires range { x < net_count n.now.net }
@@ -417,12 +412,10 @@ pub fn make_tripled(
     n: &FlatNet,
     parts: &Parts,
     votes: &VotedPins,
-    voters: &Packed,
+    voters: &Graph,
     starts: &[u32],
 ) -> Result<Made, OutOfMemory>
-    requires parts { length parts.now.of ≡ length n.now.net.nodes }
-    requires cut { CutMeets n.now.net parts.now votes.now.cut }
-    requires marks { length votes.now.marks ≡ length n.now.net.nodes }
+    requires votes { AreVotesOf n.now.net parts.now votes.now }
     requires starts { AreStarts n.now.net parts.now (pin_is_voted n.now.net parts.now votes.now) starts.now }
     requires voters { AreVoterRows n.now.net parts.now (pin_is_voted n.now.net parts.now votes.now) voters.now }
     requires room { HasRoom n.now.net parts.now (pin_is_voted n.now.net parts.now votes.now) }

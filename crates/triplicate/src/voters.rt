@@ -2,24 +2,24 @@
 ghost use Rattle.std.specs.Prelude.{◌≡◌, ◌+◌, ◌<◌, ℕ, [], length, All, IfOk, OnOk, slice_index_or};
 ghost use Rattle.flat_net.specs.Net.{net_count};
 ghost use Rattle.feedback_cut.specs.Inner.{node_pins};
-ghost use Rattle.feedback_cut.specs.Cut.{CutMeets};
 ghost use Rattle.partitioner.specs.Noting.{Lists};
-ghost use Rattle.triplicate.specs.Pins.{pin_is_voted};
-ghost use Rattle.triplicate.specs.Noted.{is_in, needs, pin_noted, pins_noted, nodes_noted, parts_noted};
+ghost use Rattle.triplicate.specs.Private.Pins.{pin_is_voted, AreVotesOf};
+ghost use Rattle.triplicate.specs.Private.Noted.{is_in, needs, pin_noted, pins_noted, nodes_noted, parts_noted};
 
 use crate::voting::{VotedPins, is_voted};
 use flat_net::{FlatNet, nodes_of};
-use partitioner::{Packed, Rows, note, packed_rows};
+use graph::{Graph, Readers};
+use partitioner::note;
 use std::alloc::Global;
 use tmr_base::{NetId, OutOfMemory, Parts};
 
 /// For each partition its nodes, in ascending order.
 #[tactic(auto, using(crate::proofs::VoterRows::member_noted, crate::proofs::VoterRows::no_members))]
-fn members(alloc: Global, n: &FlatNet, parts: &Parts) -> Result<Rows, OutOfMemory>
+fn members(alloc: Global, n: &FlatNet, parts: &Parts) -> Result<Readers, OutOfMemory>
     requires { length parts.now.of ≡ length n.now.net.nodes }
     ensures { IfOk result (λ rows. Lists (is_in parts.now) (length n.now.net.nodes) parts.now.count rows) }
 {
-    let mut rows = Rows::empty(alloc, parts.count())?;
+    let mut rows = Readers::empty(alloc, parts.count())?;
     for y in 0..nodes_of(n) {
         let part = parts.of(y);
         note(&mut rows, part, y)?;
@@ -32,13 +32,11 @@ fn note_pin(
     n: &FlatNet,
     parts: &Parts,
     votes: &VotedPins,
-    rows: &mut Rows,
+    rows: &mut Readers,
     y: u32,
     j: u32,
 ) -> Result<(), OutOfMemory>
-    requires parts { length parts.now.of ≡ length n.now.net.nodes }
-    requires cut { CutMeets n.now.net parts.now votes.now.cut }
-    requires marks { length votes.now.marks ≡ length n.now.net.nodes }
+    requires votes { AreVotesOf n.now.net parts.now votes.now }
     requires node { y < length n.now.net.nodes }
     requires pin { j < length (node_pins n.now.net y) }
     requires rows { length rows.old ≡ net_count n.now.net }
@@ -61,12 +59,10 @@ fn note_pins(
     n: &FlatNet,
     parts: &Parts,
     votes: &VotedPins,
-    rows: &mut Rows,
+    rows: &mut Readers,
     y: u32,
 ) -> Result<(), OutOfMemory>
-    requires parts { length parts.now.of ≡ length n.now.net.nodes }
-    requires cut { CutMeets n.now.net parts.now votes.now.cut }
-    requires marks { length votes.now.marks ≡ length n.now.net.nodes }
+    requires votes { AreVotesOf n.now.net parts.now votes.now }
     requires node { y < length n.now.net.nodes }
     requires rows { length rows.old ≡ net_count n.now.net }
     ensures { OnOk result (rows.new ≡ pins_noted n.now.net parts.now (pin_is_voted n.now.net parts.now votes.now) y (length (node_pins n.now.net y)) rows.old) }
@@ -84,12 +80,10 @@ fn note_members(
     n: &FlatNet,
     parts: &Parts,
     votes: &VotedPins,
-    rows: &mut Rows,
+    rows: &mut Readers,
     members: &[u32],
 ) -> Result<(), OutOfMemory>
-    requires parts { length parts.now.of ≡ length n.now.net.nodes }
-    requires cut { CutMeets n.now.net parts.now votes.now.cut }
-    requires marks { length votes.now.marks ≡ length n.now.net.nodes }
+    requires votes { AreVotesOf n.now.net parts.now votes.now }
     requires nodes { All (λ y. y < length n.now.net.nodes) members.now }
     requires rows { length rows.old ≡ net_count n.now.net }
     ensures { OnOk result (rows.new ≡ nodes_noted n.now.net parts.now (pin_is_voted n.now.net parts.now votes.now) members.now rows.old) }
@@ -107,15 +101,13 @@ fn noted_parts(
     n: &FlatNet,
     parts: &Parts,
     votes: &VotedPins,
-) -> Result<Rows, OutOfMemory>
-    requires parts { length parts.now.of ≡ length n.now.net.nodes }
-    requires cut { CutMeets n.now.net parts.now votes.now.cut }
-    requires marks { length votes.now.marks ≡ length n.now.net.nodes }
+) -> Result<Readers, OutOfMemory>
+    requires votes { AreVotesOf n.now.net parts.now votes.now }
     ensures { IfOk result (λ rows. Lists (needs n.now.net parts.now (pin_is_voted n.now.net parts.now votes.now)) parts.now.count (net_count n.now.net) rows) }
 {
     let members = members(alloc, n, parts)?;
     let nets = n.input_count() + nodes_of(n);
-    let mut rows = Rows::empty(alloc, nets)?;
+    let mut rows = Readers::empty(alloc, nets)?;
     let count = parts.count();
     for p in 0..count {
         note_members(n, parts, votes, &mut rows, members.row(p))?;
@@ -129,14 +121,11 @@ pub fn voting_parts(
     n: &FlatNet,
     parts: &Parts,
     votes: &VotedPins,
-) -> Result<Packed, OutOfMemory>
-    requires parts { length parts.now.of ≡ length n.now.net.nodes }
-    requires cut { CutMeets n.now.net parts.now votes.now.cut }
-    requires marks { length votes.now.marks ≡ length n.now.net.nodes }
+) -> Result<Graph, OutOfMemory>
+    requires votes { AreVotesOf n.now.net parts.now votes.now }
     ensures { IfOk result (λ rows. Lists (needs n.now.net parts.now (pin_is_voted n.now.net parts.now votes.now)) parts.now.count (net_count n.now.net) rows) }
 {
     let rows = noted_parts(alloc, n, parts, votes)?;
-    let nets = n.input_count() + nodes_of(n);
-    let packed = packed_rows(alloc, &rows, nets)?;
+    let packed = rows.packed(alloc)?;
     Ok(packed)
 }

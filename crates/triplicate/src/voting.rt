@@ -2,9 +2,8 @@
 ghost use Rattle.std.specs.Prelude.{◌≡◌, ◌<◌, ℕ, length};
 ghost use Rattle.graph.specs.Rows.{row};
 ghost use Rattle.feedback_cut.specs.Inner.{node_pins};
-ghost use Rattle.feedback_cut.specs.Cut.{CutMeets};
 ghost use Rattle.recovery_depth.specs.Extra.{is_cut_or_extra};
-ghost use Rattle.triplicate.specs.Pins.{pin_is_voted};
+ghost use Rattle.triplicate.specs.Private.Pins.{pin_is_voted, AreVotesOf};
 
 use feedback_cut::CutPins;
 use flat_net::{FlatNet, nodes_of};
@@ -21,7 +20,7 @@ pub struct VotedPins<'a> {
 }
 
 impl<'a> Model for VotedPins<'a> {
-    ghost use Rattle.triplicate.specs.Pins.{PlainVotes};
+    ghost use Rattle.triplicate.specs.Private.Pins.{PlainVotes};
 
     ghost Value = { PlainVotes };
 
@@ -41,9 +40,7 @@ fn is_own_voted(votes: &VotedPins, y: u32, j: u32) -> bool
 /// Pin j of node y is voted: it reads an input, and those pins are, or a node of another partition, or it is
 /// cut or extra.
 pub fn is_voted(n: &FlatNet, parts: &Parts, votes: &VotedPins, y: u32, j: u32) -> bool
-    requires parts { length parts.now.of ≡ length n.now.net.nodes }
-    requires cut { CutMeets n.now.net parts.now votes.now.cut }
-    requires marks { length votes.now.marks ≡ length n.now.net.nodes }
+    requires votes { AreVotesOf n.now.net parts.now votes.now }
     requires node { y < length n.now.net.nodes }
     requires pin { j < length (node_pins n.now.net y) }
     ensures { result ≡ pin_is_voted n.now.net parts.now votes.now y j }

@@ -2,8 +2,8 @@ use Rattle.std.proofs.Common.{◌*◌, ℕ, List, map, sym, subst, ap, ◌∙◌
 use Rattle.flat_net.specs.Net.{Net, Design, IsOrder}
 use Rattle.flat_net.specs.Nodes.{number_of}
 use Rattle.flat_net.proofs.PacksLaws.{net_assembled, wiring_assembled, unordered_from_valid}
-use Rattle.triplicate.specs.Pins.{pin_is_voted}
-use Rattle.triplicate.specs.Construction.{hardened_net}
+use Rattle.triplicate.specs.Private.Pins.{pin_is_voted}
+use Rattle.triplicate.specs.Private.Construction.{hardened_net}
 use Rattle.triplicate.proofs.Assembly.{assembles}
 use Rattle.triplicate.proofs.assembling.assembled.Goals as goal
 

@@ -1,9 +1,9 @@
 use Rattle.std.proofs.Common.{◌*◌, map, sym, subst, ap, ◌∙◌}
 use Rattle.certificate.specs.Cert.{PlainCert, IsCert}
 use Rattle.certificate.specs.Threes.{three_of, three_ids}
-use Rattle.triplicate.specs.Labels.{labeling}
+use Rattle.triplicate.specs.Private.Labels.{labeling}
 use Rattle.triplicate.specs.Form.{version_of}
-use Rattle.triplicate.specs.Pins.{PlainVotes, pin_is_voted}
+use Rattle.triplicate.specs.Private.Pins.{PlainVotes, pin_is_voted}
 use Rattle.triplicate.proofs.Certified.{is_cert}
 use Rattle.triplicate.proofs.Assembly.{cert_is}
 use Rattle.triplicate.proofs.assembling.certified.Goals as goal

@@ -1,6 +1,6 @@
 use Rattle.std.proofs.Common.{map, arith}
 use Rattle.flat_net.specs.Nodes.{number_of}
-use Rattle.triplicate.specs.Pins.{pin_is_voted}
+use Rattle.triplicate.specs.Private.Pins.{pin_is_voted}
 use Rattle.triplicate.proofs.Places.{copy_few}
 use Rattle.triplicate.proofs.Assembly.{outputs_more}
 use Rattle.triplicate.proofs.assembling.hardened_outputs.Goals as goal

@@ -4,8 +4,8 @@ use Rattle.std.proofs.lemmas.List.{map-append}
 use Rattle.std.proofs.lemmas.List.FromFn.{map-range_with_len_more}
 use Rattle.tmr_base.specs.Copies.{Three}
 use Rattle.certificate.specs.Threes.{three_ids}
-use Rattle.triplicate.specs.Pins.{pin_is_voted}
-use Rattle.triplicate.specs.Construction.{three_copies}
+use Rattle.triplicate.specs.Private.Pins.{pin_is_voted}
+use Rattle.triplicate.specs.Private.Construction.{three_copies}
 use Rattle.triplicate.proofs.Places.{copy_few, three_is}
 use Rattle.triplicate.proofs.certifying.copies_of.Goals as goal
 

@@ -1,8 +1,8 @@
 use Rattle.std.proofs.Common.{◌≡◌, map, length}
 use Rattle.std.specs.List.{range_with_len}
 use Rattle.certificate.specs.Threes.{three_ids}
-use Rattle.triplicate.specs.Pins.{pin_is_voted}
-use Rattle.triplicate.specs.Construction.{three_copies}
+use Rattle.triplicate.specs.Private.Pins.{pin_is_voted}
+use Rattle.triplicate.specs.Private.Construction.{three_copies}
 use Rattle.triplicate.proofs.certifying.copies_of.Given as goal
 
 abbrev pub invariant-loop-y : goal.invariant-loop-y

@@ -1,6 +1,6 @@
 use Rattle.std.proofs.Common.{◌≡◌, ◌<◌, ℕ, take, map, get_or}
 use Rattle.certificate.specs.Threes.{three_of}
-use Rattle.triplicate.specs.Construction.{three_labels}
+use Rattle.triplicate.specs.Private.Construction.{three_labels}
 use Rattle.triplicate.proofs.certifying.labels_of.Given as goal
 
 abbrev pub invariant-loop-y : goal.invariant-loop-y

@@ -4,7 +4,7 @@ use Rattle.flat_net.specs.Net.{Net}
 use Rattle.partitioner.specs.Cost.{cost}
 use Rattle.partitioner.specs.Sizes.{plain_parts}
 use Rattle.partitioner.specs.Refining.{refined}
-use Rattle.triplicate.specs.Pins.{PlainVotes, pin_is_voted}
+use Rattle.triplicate.specs.Private.Pins.{PlainVotes, pin_is_voted}
 use Rattle.triplicate.proofs.Building.{ranges_of, given_of}
 use Rattle.triplicate.proofs.Sizes.{roles_counted}
 use Rattle.triplicate.proofs.Whole.{nodes_long}
@@ -20,10 +20,14 @@ bound-requires-clause-parts c =
     let exact : c.in_ok-refined.refined.parts ≡ refined c.args.n.now.net c.args.size (plain_parts c.args.n.now.net c.args.size) 8 = c.in_ok-refined.ensures.exact ∙ ap (λ (p : PlainParts). refined c.args.n.now.net c.args.size p 8) c.in_ok-start.ensures.exact in
     (ranges_of c.args.n.now.net c.args.size c.in_ok-refined.refined.parts c.requires.size exact).long
 
-pub triplicate-requires-clause-parts : goal.triplicate-requires-clause-parts
-triplicate-requires-clause-parts c =
+pub triplicate-requires-clause-votes : goal.triplicate-requires-clause-votes
+triplicate-requires-clause-votes c =
     let exact : c.in_ok-refined.refined.parts ≡ refined c.args.n.now.net c.args.size (plain_parts c.args.n.now.net c.args.size) 8 = c.in_ok-refined.ensures.exact ∙ ap (λ (p : PlainParts). refined c.args.n.now.net c.args.size p 8) c.in_ok-start.ensures.exact in
-    (ranges_of c.args.n.now.net c.args.size c.in_ok-refined.refined.parts c.requires.size exact).long
+    record {
+      parts_long = (ranges_of c.args.n.now.net c.args.size c.in_ok-refined.refined.parts c.requires.size exact).long;
+      cut = c.in_ok-cut.ensures;
+      marks = c.in_ok-extra.ensures.marks;
+    }
 
 pub triplicate-requires-clause-given : goal.triplicate-requires-clause-given
 triplicate-requires-clause-given c =

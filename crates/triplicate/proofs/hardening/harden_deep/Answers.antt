@@ -2,7 +2,7 @@ use Rattle.std.proofs.Common.{◌+◌, ◌≤◌, List, Bool, refl, sym, ◌∙�
 use Rattle.std.specs.Prelude.{◌==◌}
 use Rattle.flat_net.specs.Net.{Design, net_count, pin_total}
 use Rattle.flat_net.specs.Free.{FreeDesign, AreMarks}
-use Rattle.triplicate.specs.Built.{IsBuilt}
+use Rattle.triplicate.specs.Private.Built.{IsBuilt}
 use Rattle.triplicate.proofs.Building.{built_fits, built_marks}
 use Rattle.triplicate.proofs.Whole.{bounded_is}
 use Rattle.triplicate.proofs.hardening.harden_deep.Goals as goal

@@ -1,6 +1,6 @@
-use Rattle.triplicate.specs.Labels.{labeling}
-use Rattle.triplicate.specs.Pins.{pin_is_voted}
-use Rattle.triplicate.specs.Construction.{hardened_order}
+use Rattle.triplicate.specs.Private.Labels.{labeling}
+use Rattle.triplicate.specs.Private.Pins.{pin_is_voted}
+use Rattle.triplicate.specs.Private.Construction.{hardened_order}
 use Rattle.triplicate.proofs.Rooms.{room, made_names, made_nodes}
 use Rattle.triplicate.proofs.Valid.{is_valid}
 use Rattle.triplicate.proofs.HardenedOrder.{is_order}

@@ -2,8 +2,8 @@ use Rattle.std.proofs.Common.{◌≡◌, ◌++◌, [], List, ℕ, map, filter, l
 use Rattle.std.specs.List.{flat_map, range_with_len}
 use Rattle.std.proofs.lemmas.List.Concat.{flat_map-append}
 use Rattle.flat_net.specs.Nodes.{number_of}
-use Rattle.triplicate.specs.Pins.{pin_is_voted}
-use Rattle.triplicate.specs.Construction.{block_nets, is_register_net, hardened_order}
+use Rattle.triplicate.specs.Private.Pins.{pin_is_voted}
+use Rattle.triplicate.specs.Private.Construction.{block_nets, is_register_net, hardened_order}
 use Rattle.triplicate.proofs.ordering.hardened_order.Goals as goal
 
 pub returns : goal.returns

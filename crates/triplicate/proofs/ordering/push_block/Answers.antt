@@ -2,8 +2,8 @@ use Rattle.std.proofs.Common.{◌≡◌, ◌+◌, ◌-◌, ◌++◌, ℕ, List, 
 use Rattle.std.specs.Prelude.{slice_index}
 use Rattle.std.specs.List.{range_with_len}
 use Rattle.flat_net.specs.Nodes.{number_of}
-use Rattle.triplicate.specs.Pins.{pin_is_voted}
-use Rattle.triplicate.specs.Numbers.{block_start}
+use Rattle.triplicate.specs.Private.Pins.{pin_is_voted}
+use Rattle.triplicate.specs.Private.Numbers.{block_start}
 use Rattle.triplicate.specs.Blocks.{block}
 use Rattle.triplicate.proofs.Numbering.{block_length}
 use Rattle.triplicate.proofs.Places.{start_more}

@@ -1,7 +1,7 @@
 use Rattle.std.proofs.Common.{map}
 use Rattle.flat_net.specs.Nodes.{number_of}
-use Rattle.triplicate.specs.Pins.{pin_is_voted}
-use Rattle.triplicate.specs.Construction.{block_nets}
+use Rattle.triplicate.specs.Private.Pins.{pin_is_voted}
+use Rattle.triplicate.specs.Private.Construction.{block_nets}
 use Rattle.triplicate.proofs.Pushing.{blocks_one_more}
 use Rattle.triplicate.proofs.ordering.push_inputs.Goals as goal
 

@@ -1,8 +1,8 @@
 use Rattle.std.proofs.Common.{◌≡◌, ◌++◌, map}
 use Rattle.std.specs.List.{range_with_len, flat_map}
 use Rattle.flat_net.specs.Nodes.{number_of}
-use Rattle.triplicate.specs.Pins.{pin_is_voted}
-use Rattle.triplicate.specs.Construction.{block_nets}
+use Rattle.triplicate.specs.Private.Pins.{pin_is_voted}
+use Rattle.triplicate.specs.Private.Construction.{block_nets}
 use Rattle.triplicate.proofs.ordering.push_inputs.Given as goal
 
 abbrev pub invariant-loop-x : goal.invariant-loop-x

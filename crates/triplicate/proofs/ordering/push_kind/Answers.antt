@@ -3,8 +3,8 @@ use Rattle.std.specs.List.{flat_map}
 use Rattle.std.proofs.lemmas.List.{take_all}
 use Rattle.flat_net.specs.Nodes.{number_of}
 use Rattle.flat_net.proofs.Orders.{length-order}
-use Rattle.triplicate.specs.Pins.{pin_is_voted}
-use Rattle.triplicate.specs.Construction.{block_nets, is_of_kind}
+use Rattle.triplicate.specs.Private.Pins.{pin_is_voted}
+use Rattle.triplicate.specs.Private.Construction.{block_nets, is_of_kind}
 use Rattle.triplicate.proofs.Pushing.{kept_one_more}
 use Rattle.triplicate.proofs.ordering.push_kind.Goals as goal
 

@@ -1,8 +1,8 @@
 use Rattle.std.proofs.Common.{◌≡◌, ◌++◌, map, filter, take}
 use Rattle.std.specs.List.{flat_map}
 use Rattle.flat_net.specs.Nodes.{number_of}
-use Rattle.triplicate.specs.Pins.{pin_is_voted}
-use Rattle.triplicate.specs.Construction.{block_nets, is_of_kind}
+use Rattle.triplicate.specs.Private.Pins.{pin_is_voted}
+use Rattle.triplicate.specs.Private.Construction.{block_nets, is_of_kind}
 use Rattle.triplicate.proofs.ordering.push_kind.Given as goal
 
 abbrev pub invariant-loop-i : goal.invariant-loop-i

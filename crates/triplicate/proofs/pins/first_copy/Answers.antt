@@ -1,6 +1,6 @@
 use Rattle.std.proofs.Common.{sym, ◌∙◌, arith}
 use Rattle.tmr_base.specs.declared.copies.CopyNo.TheVariants.{First}
-use Rattle.triplicate.specs.Pins.{pin_is_voted}
+use Rattle.triplicate.specs.Private.Pins.{pin_is_voted}
 use Rattle.triplicate.proofs.Numbering.{copy_net_input}
 use Rattle.triplicate.proofs.Places.{first_is_start}
 use Rattle.triplicate.proofs.pins.first_copy.Goals as goal

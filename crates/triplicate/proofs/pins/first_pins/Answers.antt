@@ -3,8 +3,8 @@ use Rattle.std.specs.Prelude.{slice_index}
 use Rattle.std.proofs.lemmas.List.FromFn.{map-range_with_len_more}
 use Rattle.tmr_base.specs.declared.copies.CopyNo.TheVariants.{First}
 use Rattle.feedback_cut.specs.Inner.{node_pins}
-use Rattle.triplicate.specs.Pins.{pin_is_voted}
-use Rattle.triplicate.specs.Construction.{pin_net, first_pins_to}
+use Rattle.triplicate.specs.Private.Pins.{pin_is_voted}
+use Rattle.triplicate.specs.Private.Construction.{pin_net, first_pins_to}
 use Rattle.triplicate.proofs.pins.first_pins.Goals as goal
 
 pub loop-j-preserved : goal.loop-j-preserved

@@ -1,6 +1,6 @@
 use Rattle.std.proofs.Common.{◌≡◌}
-use Rattle.triplicate.specs.Pins.{pin_is_voted}
-use Rattle.triplicate.specs.Construction.{first_pins_to}
+use Rattle.triplicate.specs.Private.Pins.{pin_is_voted}
+use Rattle.triplicate.specs.Private.Construction.{first_pins_to}
 use Rattle.triplicate.proofs.pins.first_pins.Given as goal
 
 abbrev pub invariant-loop-j : goal.invariant-loop-j

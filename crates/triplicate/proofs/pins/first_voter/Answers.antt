@@ -1,7 +1,7 @@
 use Rattle.std.proofs.Common.{◌≡◌, ◌+◌, ◌<◌, ◌≤◌, ℕ, List, length, sym, ap, ◌∙◌, subst, arith, get_or}
 use Rattle.std.specs.Prelude.{slice_index, Contains}
 use Rattle.tmr_base.specs.declared.copies.CopyNo.TheVariants.{First}
-use Rattle.triplicate.specs.Pins.{pin_is_voted}
+use Rattle.triplicate.specs.Private.Pins.{pin_is_voted}
 use Rattle.triplicate.specs.Voting.{needs_voter, voting_parts}
 use Rattle.triplicate.proofs.Numbering.{voter_net_is}
 use Rattle.triplicate.proofs.Places.{passing_ascends, part_listed, rank_is, start_more, start_few}

@@ -1,5 +1,5 @@
 use Rattle.std.proofs.Common.{arith}
-use Rattle.triplicate.specs.Pins.{pin_is_voted}
+use Rattle.triplicate.specs.Private.Pins.{pin_is_voted}
 use Rattle.triplicate.proofs.RoleSteps.{next_block, block_more, all_blocks}
 use Rattle.triplicate.proofs.tripling.make_tripled.Goals as goal
 

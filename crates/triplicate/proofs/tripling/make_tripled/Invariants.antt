@@ -1,8 +1,8 @@
 use Rattle.std.proofs.Common.{◌≡◌}
 use Rattle.std.specs.List.{flat_map, range_with_len}
-use Rattle.triplicate.specs.Pins.{pin_is_voted}
+use Rattle.triplicate.specs.Private.Pins.{pin_is_voted}
 use Rattle.triplicate.specs.Blocks.{block}
-use Rattle.triplicate.specs.Made.{IsMade}
+use Rattle.triplicate.specs.Private.Made.{IsMade}
 use Rattle.triplicate.proofs.tripling.make_tripled.Given as goal
 
 abbrev pub invariant-loop-x : goal.invariant-loop-x

@@ -1,5 +1,5 @@
 use Rattle.std.proofs.Common.{arith}
-use Rattle.triplicate.specs.Pins.{pin_is_voted}
+use Rattle.triplicate.specs.Private.Pins.{pin_is_voted}
 use Rattle.triplicate.proofs.Places.{copy_few}
 use Rattle.triplicate.proofs.tripling.push_block.Goals as goal
 

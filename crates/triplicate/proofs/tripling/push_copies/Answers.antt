@@ -2,8 +2,8 @@ use Rattle.std.proofs.Common.{List, [], ◌∷◌, subst}
 use Rattle.tmr_base.specs.declared.copies.CopyNo.TheVariants.{First, Second, Third}
 use Rattle.certificate.specs.declared.role.Role.{Role}
 use Rattle.certificate.specs.declared.role.Role.TheVariants.{Copy}
-use Rattle.triplicate.specs.Pins.{pin_is_voted}
-use Rattle.triplicate.specs.Made.{IsNext}
+use Rattle.triplicate.specs.Private.Pins.{pin_is_voted}
+use Rattle.triplicate.specs.Private.Made.{IsNext}
 use Rattle.triplicate.proofs.Numbering.{copies_of_node}
 use Rattle.triplicate.proofs.RoleSteps.{next_head, next_tail}
 use Rattle.triplicate.proofs.tripling.push_copies.Goals as goal

@@ -8,9 +8,9 @@ use Rattle.tmr_base.specs.Names.{copy_text}
 use Rattle.flat_net.specs.Net.{node_of, node_name, pins_at}
 use Rattle.feedback_cut.specs.Inner.{node_pins}
 use Rattle.certificate.specs.declared.role.Role.TheVariants.{Copy}
-use Rattle.triplicate.specs.Pins.{pin_is_voted}
-use Rattle.triplicate.specs.Construction.{pin_net}
-use Rattle.triplicate.specs.Made.{shifted_node}
+use Rattle.triplicate.specs.Private.Pins.{pin_is_voted}
+use Rattle.triplicate.specs.Private.Construction.{pin_net}
+use Rattle.triplicate.specs.Private.Made.{shifted_node}
 use Rattle.triplicate.proofs.RoleSteps.{made_more, room_for_pins, copy_pins, copy_named, shifted_is}
 use Rattle.triplicate.proofs.tripling.push_copy.Goals as goal
 

@@ -1,8 +1,8 @@
 use Rattle.std.proofs.Common.{◌≡◌, ◌+◌, ◌-◌, ◌<◌, ℕ, List, All, length, sym, subst, ◌∙◌, arith}
 use Rattle.std.specs.Prelude.{slice_index}
 use Rattle.feedback_cut.specs.Inner.{node_pins}
-use Rattle.triplicate.specs.Pins.{pin_is_voted}
-use Rattle.triplicate.specs.Construction.{first_pins_to}
+use Rattle.triplicate.specs.Private.Pins.{pin_is_voted}
+use Rattle.triplicate.specs.Private.Construction.{first_pins_to}
 use Rattle.triplicate.proofs.RoleSteps.{pins_few}
 use Rattle.triplicate.proofs.tripling.push_own_copies.Goals as goal
 

@@ -2,7 +2,7 @@ use Rattle.std.proofs.Common.{◌+◌, ◌++◌, [], ◌∷◌, subst, ap}
 use Rattle.std.specs.Prelude.{slice_index}
 use Rattle.flat_net.specs.Net.{Node, node_of, node_name}
 use Rattle.flat_net.specs.Packs.{Packs}
-use Rattle.triplicate.specs.Made.{shifted_node}
+use Rattle.triplicate.specs.Private.Made.{shifted_node}
 use Rattle.triplicate.proofs.RoleSteps.{register_copied}
 use Rattle.triplicate.proofs.tripling.push_register_copy.Goals as goal
 

@@ -3,7 +3,7 @@ use Rattle.table_cover.specs.Cover.{PlainCover}
 use Rattle.flat_net.specs.Net.{Node, node_of, node_name, IsCoverOf}
 use Rattle.flat_net.specs.Nodes.{number_of}
 use Rattle.flat_net.specs.Packs.{Packs}
-use Rattle.triplicate.specs.Made.{shifted_node}
+use Rattle.triplicate.specs.Private.Made.{shifted_node}
 use Rattle.triplicate.proofs.RoleSteps.{table_copied}
 use Rattle.triplicate.proofs.tripling.push_table_copy.Goals as goal
 

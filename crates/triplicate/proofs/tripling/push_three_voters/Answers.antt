@@ -1,7 +1,7 @@
 use Rattle.std.proofs.Common.{[], ◌∷◌}
 use Rattle.tmr_base.specs.declared.copies.CopyNo.TheVariants.{First, Second, Third}
 use Rattle.certificate.specs.declared.role.Role.TheVariants.{Voter}
-use Rattle.triplicate.specs.Pins.{pin_is_voted}
+use Rattle.triplicate.specs.Private.Pins.{pin_is_voted}
 use Rattle.triplicate.proofs.RoleSteps.{next_head, next_tail}
 use Rattle.triplicate.proofs.tripling.push_three_voters.Goals as goal
 

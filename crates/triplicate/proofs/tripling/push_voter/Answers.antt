@@ -4,7 +4,7 @@ use Rattle.indexmap.specs.IndexSet.{insert_key}
 use Rattle.tmr_base.specs.Names.{voter_text}
 use Rattle.flat_net.specs.Net.{Table, name_of, node_name}
 use Rattle.certificate.specs.declared.role.Role.TheVariants.{Voter}
-use Rattle.triplicate.specs.Pins.{pin_is_voted}
+use Rattle.triplicate.specs.Private.Pins.{pin_is_voted}
 use Rattle.triplicate.proofs.RoleSteps.{made_more, room_for_pins, voter_is}
 use Rattle.triplicate.proofs.tripling.push_voter.Goals as goal
 

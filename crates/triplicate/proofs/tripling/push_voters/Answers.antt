@@ -1,4 +1,4 @@
-use Rattle.triplicate.specs.Pins.{pin_is_voted}
+use Rattle.triplicate.specs.Private.Pins.{pin_is_voted}
 use Rattle.triplicate.specs.Blocks.{voters_for}
 use Rattle.triplicate.proofs.RoleSteps.{next_in_row}
 use Rattle.triplicate.proofs.tripling.push_voters.Goals as goal

@@ -1,8 +1,8 @@
 use Rattle.std.proofs.Common.{◌≡◌, ◌++◌, take}
 use Rattle.std.specs.List.{flat_map}
-use Rattle.triplicate.specs.Pins.{pin_is_voted}
+use Rattle.triplicate.specs.Private.Pins.{pin_is_voted}
 use Rattle.triplicate.specs.Blocks.{voters_for}
-use Rattle.triplicate.specs.Made.{IsMade}
+use Rattle.triplicate.specs.Private.Made.{IsMade}
 use Rattle.triplicate.proofs.tripling.push_voters.Given as goal
 
 abbrev pub invariant-loop-p : goal.invariant-loop-p

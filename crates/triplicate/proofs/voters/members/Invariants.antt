@@ -1,5 +1,5 @@
 use Rattle.partitioner.specs.Noting.{Lists}
-use Rattle.triplicate.specs.Noted.{is_in}
+use Rattle.triplicate.specs.Private.Noted.{is_in}
 use Rattle.triplicate.proofs.voters.members.Given as goal
 
 abbrev pub invariant-loop-y : goal.invariant-loop-y

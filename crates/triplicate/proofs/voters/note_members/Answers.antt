@@ -1,7 +1,7 @@
 use Rattle.std.proofs.Common.{length, take, get_or, sym, ap, ◌∙◌}
 use Rattle.feedback_cut.specs.Inner.{node_pins}
-use Rattle.triplicate.specs.Pins.{pin_is_voted}
-use Rattle.triplicate.specs.Noted.{pins_noted}
+use Rattle.triplicate.specs.Private.Pins.{pin_is_voted}
+use Rattle.triplicate.specs.Private.Noted.{pins_noted}
 use Rattle.triplicate.proofs.VoterRows.{length-nodes_noted, nodes_none, nodes_step}
 use Rattle.triplicate.proofs.voters.note_members.Goals as goal
 

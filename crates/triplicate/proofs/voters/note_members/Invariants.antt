@@ -1,6 +1,6 @@
 use Rattle.std.proofs.Common.{◌≡◌, take}
-use Rattle.triplicate.specs.Pins.{pin_is_voted}
-use Rattle.triplicate.specs.Noted.{nodes_noted}
+use Rattle.triplicate.specs.Private.Pins.{pin_is_voted}
+use Rattle.triplicate.specs.Private.Noted.{nodes_noted}
 use Rattle.triplicate.proofs.voters.note_members.Given as goal
 
 abbrev pub invariant-loop-y : goal.invariant-loop-y

@@ -2,7 +2,7 @@ use Rattle.std.proofs.Common.{◌≡◌, ◌+◌, ℕ, true, false, subst, ◌�
 use Rattle.std.specs.Prelude.{slice_index}
 use Rattle.flat_net.specs.Net.{node_of, pins_at}
 use Rattle.feedback_cut.specs.Inner.{node_pins}
-use Rattle.triplicate.specs.Pins.{pin_is_voted}
+use Rattle.triplicate.specs.Private.Pins.{pin_is_voted}
 use Rattle.triplicate.proofs.VoterRows.{pin_passed, pin_is_noted}
 use Rattle.triplicate.proofs.voters.note_pin.Goals as goal
 

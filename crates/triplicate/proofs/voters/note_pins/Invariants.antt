@@ -1,6 +1,6 @@
 use Rattle.std.proofs.Common.{◌≡◌}
-use Rattle.triplicate.specs.Pins.{pin_is_voted}
-use Rattle.triplicate.specs.Noted.{pins_noted}
+use Rattle.triplicate.specs.Private.Pins.{pin_is_voted}
+use Rattle.triplicate.specs.Private.Noted.{pins_noted}
 use Rattle.triplicate.proofs.voters.note_pins.Given as goal
 
 abbrev pub invariant-loop-j : goal.invariant-loop-j

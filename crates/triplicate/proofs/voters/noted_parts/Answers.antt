@@ -2,8 +2,8 @@ use Rattle.std.proofs.Common.{◌≡◌, ◌+◌, ◌<◌, ℕ, List, [], length
 use Rattle.std.proofs.lemmas.List.{length-replicate}
 use Rattle.flat_net.specs.Net.{net_count}
 use Rattle.partitioner.specs.Noting.{Lists}
-use Rattle.triplicate.specs.Pins.{pin_is_voted}
-use Rattle.triplicate.specs.Noted.{needs, members, nodes_noted, parts_noted}
+use Rattle.triplicate.specs.Private.Pins.{pin_is_voted}
+use Rattle.triplicate.specs.Private.Noted.{needs, members, nodes_noted, parts_noted}
 use Rattle.triplicate.proofs.VoterRows.{length-parts_noted, parts_none, parts_step, members_below, rows_listed, none_listed, pin_in_range}
 use Rattle.triplicate.proofs.voters.noted_parts.Goals as goal
 

@@ -1,7 +1,7 @@
 use Rattle.std.proofs.Common.{◌≡◌, [], replicate}
 use Rattle.flat_net.specs.Net.{net_count}
-use Rattle.triplicate.specs.Pins.{pin_is_voted}
-use Rattle.triplicate.specs.Noted.{parts_noted}
+use Rattle.triplicate.specs.Private.Pins.{pin_is_voted}
+use Rattle.triplicate.specs.Private.Noted.{parts_noted}
 use Rattle.triplicate.proofs.voters.noted_parts.Given as goal
 
 abbrev pub invariant-loop-p : goal.invariant-loop-p

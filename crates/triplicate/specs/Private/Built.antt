@@ -1,4 +1,4 @@
--- Only private functions cite this: a hardened design as it is made, whatever its version.
+-- A hardened design as it is made, whatever its version.
 use Rattle.std.specs.Prelude.{◌≡◌, ◌↔◌, ℕ, ◌+◌, ◌*◌, ◌<◌, Bool, false, IsTrue, length}
 use Rattle.tmr_base.specs.Parts.{PlainParts}
 use Rattle.flat_net.specs.Net.{Net}
@@ -8,10 +8,10 @@ use Rattle.partitioner.specs.Cost.{cost}
 use Rattle.partitioner.specs.Sizes.{plain_parts}
 use Rattle.partitioner.specs.Refining.{refined, IsMinimal}
 use Rattle.triplicate.specs.declared.hardened.Hardened.{Hardened}
-use Rattle.triplicate.specs.Labels.{labeling}
-use Rattle.triplicate.specs.Pins.{PlainVotes, pin_is_voted}
-use Rattle.triplicate.specs.Construction.{hardened_net, hardened_cert}
-use Rattle.triplicate.specs.Given.{IsGiven}
+use Rattle.triplicate.specs.Private.Labels.{labeling}
+use Rattle.triplicate.specs.Private.Pins.{PlainVotes, pin_is_voted}
+use Rattle.triplicate.specs.Private.Construction.{hardened_net, hardened_cert}
+use Rattle.triplicate.specs.Private.Given.{IsGiven}
 
 -- what it is made from, and that it is what is made from that; no label is above `most`
 pub record IsBuilt (n : Net) (size : ℕ) (inputs : Bool) (most : ℕ) (r : Hardened) : Type 0 where

@@ -1,16 +1,17 @@
--- Only private functions cite this: a part of the hardened design: names, nodes and roles.
-use Rattle.std.specs.Prelude.{◌≡◌, ℕ, ◌+◌, ◌*◌, ◌<◌, Bool, false, List, [], ◌++◌, length, map, slice_index, Option, Some, None}
+-- A part of the hardened design: names, nodes and roles.
+use Rattle.std.specs.Prelude.{◌≡◌, ℕ, ◌+◌, ◌*◌, ◌<◌, Bool, false, List, [], ◌∷◌, ◌++◌, length, map, slice_index, Option, Some, None}
 use Rattle.tmr_base.specs.declared.copies.CopyNo.{CopyNo}
 use Rattle.tmr_base.specs.Copies.{copy_number}
 use Rattle.tmr_base.specs.Names.{copy_text}
 use Rattle.tmr_base.specs.Parts.{PlainParts}
-use Rattle.flat_net.specs.Net.{Net, Node, Table, Register, pin_total}
+use Rattle.flat_net.specs.Net.{Net, Node, Table, Register, node_name, pin_total}
 use Rattle.flat_net.specs.Draft.{AreDistinct}
 use Rattle.flat_net.specs.Packs.{Packs}
+use Rattle.flat_net.specs.declared.nodes.PackedNodes.{PackedNodes}
 use Rattle.certificate.specs.declared.role.Role.{Role}
 use Rattle.triplicate.specs.declared.tripling.Made.{Made}
 use Rattle.triplicate.specs.Blocks.{hardened_roles, hardened_inputs, role_name}
-use Rattle.triplicate.specs.Construction.{role_node, hardened_net}
+use Rattle.triplicate.specs.Private.Construction.{role_node, hardened_net}
 
 -- the names and nodes are those of the roles
 pub record IsMade (n : Net) (parts : PlainParts) (voted : ℕ → ℕ → Bool) (made : Made) : Type 0 where
@@ -33,3 +34,8 @@ abbrev pub shifted_node : CopyNo → List ℕ → Option Node → Node
 shifted_node c ps None = Register [] false 0
 shifted_node c ps (Some (Table name cover pins)) = Table (copy_text name c) cover (map (λ p. p + copy_number c) ps)
 shifted_node c ps (Some (Register name init pin)) = Register (copy_text name c) init (slice_index ps 0 + copy_number c)
+
+-- behind the nodes that are packed comes this one
+abbrev pub PushesNode : PackedNodes → PackedNodes → Node → Type 0
+PushesNode old new node =
+    (names : List (List ℕ)) (done : List Node) → Packs names old done → Packs (names ++ node_name node ∷ []) new (done ++ node ∷ [])

@@ -1,8 +1,9 @@
--- Only private functions cite this: which pins hardening votes.
-use Rattle.std.specs.Prelude.{ℕ, ◌-◌, ◌==◌, ◌||◌, not, nat_lt, Bool, List, length, slice_index, if◌then◌else◌}
+-- Which pins hardening votes.
+use Rattle.std.specs.Prelude.{◌≡◌, ℕ, ◌-◌, ◌==◌, ◌||◌, not, nat_lt, Bool, List, length, slice_index, if◌then◌else◌}
 use Rattle.tmr_base.specs.Parts.{PlainParts}
 use Rattle.flat_net.specs.Net.{Net}
 use Rattle.feedback_cut.specs.Inner.{node_pins}
+use Rattle.feedback_cut.specs.Cut.{CutMeets}
 use Rattle.recovery_depth.specs.Extra.{is_cut_or_extra}
 
 -- whether pins that read inputs are voted, a cut, and for each node whether it is a register whose pin is extra
@@ -20,3 +21,9 @@ read_is_voted n parts inputs y own x =
 -- pin j of node y: it reads an input, and those are voted, or a node of another partition, or it is cut or extra
 unfoldable pub pin_is_voted : Net → PlainParts → PlainVotes → ℕ → ℕ → Bool
 pin_is_voted n parts votes y j = read_is_voted n parts votes.inputs y (is_cut_or_extra votes.cut votes.marks y j) (slice_index (node_pins n y) j)
+
+-- the cut is one of all loops inside these partitions of the nodes, and there is a mark for each node
+pub record AreVotesOf (n : Net) (parts : PlainParts) (votes : PlainVotes) : Type 0 where
+  pub parts_long : length parts.of ≡ length n.nodes
+  pub cut : CutMeets n parts votes.cut
+  pub marks : length votes.marks ≡ length n.nodes

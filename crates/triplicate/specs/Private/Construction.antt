@@ -1,4 +1,4 @@
--- Only private functions cite this: the hardened design and its certificate, made of lists.
+-- The hardened design and its certificate, made of lists.
 use Rattle.std.specs.Prelude.{ℕ, ◌-◌, ◌*◌, Bool, true, not, List, [], ◌++◌, length, map, filter, slice_index, Option, Some, None, if◌then◌else◌, false}
 use Rattle.std.specs.List.{flat_map, range_with_len}
 use Rattle.tmr_base.specs.declared.copies.CopyNo.{CopyNo}
@@ -12,10 +12,10 @@ use Rattle.certificate.specs.declared.role.Role.TheVariants.{Copy, Voter}
 use Rattle.certificate.specs.Cert.{PlainCert}
 use Rattle.feedback_cut.specs.Inner.{node_pins}
 use Rattle.recovery_depth.specs.Depths.{is_some_register}
-use Rattle.triplicate.specs.Labels.{Labeling}
+use Rattle.triplicate.specs.Private.Labels.{Labeling}
 use Rattle.triplicate.specs.Blocks.{threefold, block, hardened_roles, hardened_inputs, hardened_clock}
 use Rattle.triplicate.specs.Form.{majority_cover, version_of}
-use Rattle.triplicate.specs.Numbers.{block_start, copy_net, voter_net}
+use Rattle.triplicate.specs.Private.Numbers.{block_start, copy_net, voter_net}
 
 -- what copy c of node y reads at pin j, where node y reads net x there
 abbrev pub pin_net : Net → PlainParts → (ℕ → ℕ → Bool) → ℕ → CopyNo → ℕ → ℕ → ℕ

@@ -1,12 +1,12 @@
--- Only private functions cite this: what the hardened design is made from.
+-- What the hardened design is made from.
 use Rattle.std.specs.Prelude.{◌≡◌, ℕ, ◌+◌, ◌*◌, ◌<◌, ◌≤◌, Bool, List, length}
 use Rattle.tmr_base.specs.Parts.{PlainParts, AreParts}
 use Rattle.flat_net.specs.Net.{Net, pin_total, IsValid}
 use Rattle.triplicate.specs.Voting.{VotesFor}
 use Rattle.triplicate.specs.Blocks.{hardened_roles}
 use Rattle.recovery_depth.specs.Depths.{AreDepths}
-use Rattle.triplicate.specs.Labels.{Labeling, depths_in}
-use Rattle.triplicate.specs.Construction.{hardened_net}
+use Rattle.triplicate.specs.Private.Labels.{Labeling, depths_in}
+use Rattle.triplicate.specs.Private.Construction.{hardened_net}
 
 -- a valid design with partitions of its nodes, pins that are to be voted, with labels for them; and the hardened design has
 -- nets, pins and outputs that are few enough for their numbers

@@ -1,4 +1,4 @@
--- Only private functions cite this: what a certificate is made of besides partitions and roles.
+-- What a certificate is made of besides partitions and roles.
 use Rattle.std.specs.Prelude.{ℕ, Bool, List}
 use Rattle.recovery_depth.specs.Depths.{PlainDepths}
 

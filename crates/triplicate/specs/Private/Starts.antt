@@ -1,10 +1,10 @@
--- Only private functions cite this: where each net's copies and voters stand, and which partitions need voters, as lists.
+-- Where each net's copies and voters stand, and which partitions need voters, as lists.
 use Rattle.std.specs.Prelude.{◌≡◌, ℕ, ◌+◌, ◌≤◌, Bool, List, length, slice_index}
 use Rattle.tmr_base.specs.Parts.{PlainParts}
 use Rattle.flat_net.specs.Net.{Net, net_count}
 use Rattle.partitioner.specs.Noting.{Lists}
-use Rattle.triplicate.specs.Numbers.{block_start}
-use Rattle.triplicate.specs.Noted.{needs}
+use Rattle.triplicate.specs.Private.Numbers.{block_start}
+use Rattle.triplicate.specs.Private.Noted.{needs}
 
 -- for each net the partitions that need a voter of it, ascending
 abbrev pub AreVoterRows : Net → PlainParts → (ℕ → ℕ → Bool) → List (List ℕ) → Type 0

@@ -1,4 +1,4 @@
--- Only private functions cite this: how the partitions that need voters are noted: partition by partition, node by node, pin by pin.
+-- How the partitions that need voters are noted: partition by partition, node by node, pin by pin.
 use Rattle.std.specs.Prelude.{ℕ, zero, suc, ◌==◌, Bool, List, [], ◌∷◌, length, filter, slice_index, if◌then◌else◌}
 use Rattle.std.specs.List.{range_with_len}
 use Rattle.tmr_base.specs.Parts.{PlainParts}

@@ -1,0 +1,9 @@
+pub mod Numbers
+pub mod Construction
+pub mod Pins
+pub mod Labels
+pub mod Given
+pub mod Noted
+pub mod Starts
+pub mod Made
+pub mod Built
