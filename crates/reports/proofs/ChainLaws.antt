@@ -12,7 +12,7 @@ use Rattle.recovery_depth.specs.Walks.{Walk, starts, goes_on}
 use Rattle.recovery_depth.specs.Hardened.{role_at, node_at, original_of, own_original}
 use Rattle.recovery_depth.specs.Chains.{HasWalk, IsDeep}
 use Rattle.recovery_depth.specs.Least.{AreDeep}
-use Rattle.reports.specs.Left.{AreNets}
+use Rattle.reports.specs.Private.Left.{AreNets}
 
 walk_all : (P : ℕ → Type 0) (Next : ℕ → ℕ → Type 0) (own : ℕ → List ℕ) → ((g : ℕ) → All P (own g)) → (g : ℕ) (seen : List ℕ) → Walk Next own g seen → All P seen
 walk_all P Next own each _ _ (starts x) = each x

@@ -17,7 +17,7 @@ use Rattle.recovery_depth.specs.Walks.{is_marked}
 use Rattle.partitioner.specs.Below.{count_below, one_if}
 use Rattle.partitioner.proofs.BelowLaws.{count_none, count_same, count_le}
 use Rattle.reports.specs.Counts.{partitions, count_in, heads_loop}
-use Rattle.reports.specs.Left.{AreCountsOf}
+use Rattle.reports.specs.Private.Left.{AreCountsOf}
 
 -- ---- numbers of a partition
 

@@ -14,7 +14,7 @@ use Rattle.certificate.specs.Text.{line_text}
 use Rattle.feedback_cut.specs.Components.{PlainGroups}
 use Rattle.recovery_depth.specs.declared.deep.Deep.{Deep}
 use Rattle.reports.specs.Report.{part_words, part_line, part_lines, head_lines, report_text}
-use Rattle.reports.specs.Left.{parts_left, AreCounted}
+use Rattle.reports.specs.Private.Left.{parts_left, AreCounted}
 use Rattle.reports.proofs.WordLaws.{drop_all}
 
 pub five_put : (old a b c d e : List ℕ) (x y z v w : List (List ℕ)) → a ≡ old ++ line_text x → b ≡ a ++ line_text y → c ≡ b ++ line_text z → d ≡ c ++ line_text v → e ≡ d ++ line_text w → e ≡ old ++ flat_map line_text (x ∷ y ∷ z ∷ v ∷ w ∷ [])

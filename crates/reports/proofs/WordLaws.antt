@@ -9,7 +9,7 @@ use Rattle.reports.specs.Counts.{is_border_voter, is_feedback_voter, is_input_vo
 use Rattle.reports.specs.Report.{input_words, voters_line}
 use Rattle.std.proofs.lemmas.List.{nil_from_length, length-drop}
 use Rattle.certificate.specs.Text.{line_text}
-use Rattle.reports.specs.Left.{spaced}
+use Rattle.reports.specs.Private.Left.{spaced}
 
 pub joined : (w : List ℕ) (ws : List (List ℕ)) → join_with_byte 32 (w ∷ ws) ≡ w ++ spaced ws
 joined w [] = sym (append-nil w)

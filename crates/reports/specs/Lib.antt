@@ -1,3 +1,3 @@
 pub mod Counts
 pub mod Report
-pub mod Left
+pub mod Private

@@ -5,7 +5,7 @@ ghost use Rattle.certificate.specs.Rules.{AllHold};
 ghost use Rattle.feedback_cut.specs.Components.{AreComponents};
 ghost use Rattle.reports.specs.Counts.{partitions};
 ghost use Rattle.reports.specs.Report.{IsReport};
-ghost use Rattle.reports.specs.Left.{AreCounted};
+ghost use Rattle.reports.specs.Private.Left.{AreCounted};
 
 use crate::counting::{counts, every_node};
 use crate::loops::loop_heads;

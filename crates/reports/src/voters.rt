@@ -3,7 +3,7 @@ ghost use Rattle.std.specs.Prelude.{◌≡◌, ◌<◌, ◌+◌, length, count_b
 ghost use Rattle.std.specs.Option.{option_map};
 ghost use Rattle.certificate.specs.Cert.{Fits, part_of, RoleIsInRange};
 ghost use Rattle.reports.specs.Counts.{is_border_voter, is_feedback_voter, is_input_voter};
-ghost use Rattle.reports.specs.Left.{part_number};
+ghost use Rattle.reports.specs.Private.Left.{part_number};
 
 use crate::counting::one_if;
 use certificate::{Certificate, Role};

@@ -5,7 +5,7 @@ ghost use Rattle.certificate.specs.Plain.{texts};
 ghost use Rattle.certificate.specs.Text.{line_text};
 ghost use Rattle.flat_net.specs.Net.{net_count, name_of};
 ghost use Rattle.flat_net.specs.Nodes.{number_of};
-ghost use Rattle.reports.specs.Left.{spaced};
+ghost use Rattle.reports.specs.Private.Left.{spaced};
 
 use flat_net::FlatNet;
 use std::alloc::{AllocError, Global};

@@ -4,7 +4,7 @@ use Rattle.recovery_depth.specs.declared.deep.Deep.{Deep}
 use Rattle.std.specs.List.{flat_map}
 use Rattle.certificate.specs.Text.{line_text}
 use Rattle.reports.specs.Report.{head_lines}
-use Rattle.reports.specs.Left.{AreNets, parts_left}
+use Rattle.reports.specs.Private.Left.{AreNets, parts_left}
 use Rattle.reports.proofs.ChainLaws.{chains_are_nets}
 use Rattle.reports.proofs.LineLaws.{text_put}
 use Rattle.reports.proofs.reporting.report.Goals as goal

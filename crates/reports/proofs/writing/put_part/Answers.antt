@@ -4,7 +4,7 @@ use Rattle.tmr_base.specs.declared.ids.NetId.{NetId}
 use Rattle.flat_net.specs.Net.{name_of}
 use Rattle.flat_net.specs.Nodes.{number_of}
 use Rattle.reports.specs.Report.{part_words, chain_words}
-use Rattle.reports.specs.Left.{spaced}
+use Rattle.reports.specs.Private.Left.{spaced}
 use Rattle.reports.proofs.WordLaws.{long_line_put}
 use Rattle.reports.proofs.LineLaws.{words_are}
 use Rattle.reports.proofs.writing.put_part.Goals as goal

@@ -1,5 +1,5 @@
 use Rattle.std.proofs.Common.{◌≡◌, ◌++◌}
-use Rattle.reports.specs.Left.{parts_left}
+use Rattle.reports.specs.Private.Left.{parts_left}
 use Rattle.reports.proofs.LineLaws.{part_put}
 use Rattle.reports.proofs.writing.put_parts.Given as goal
 

@@ -1,4 +1,4 @@
--- Pieces of a report that is being written. Private functions alone cite it.
+-- Pieces of a report that is being written.
 use Rattle.std.specs.Prelude.{◌≡◌, ℕ, ◌<◌, Bool, List, [], ◌∷◌, ◌++◌, drop, length, map, All, slice_get, slice_index, Some}
 use Rattle.std.specs.List.{flat_map}
 use Rattle.tmr_base.specs.declared.ids.PartId.{PartId}
