@@ -9,11 +9,11 @@ use Rattle.std.proofs.lemmas.List.Quantifiers.{position-Some}
 use Rattle.std.proofs.lemmas.List.Sums.{sum_by_more}
 use Rattle.std.proofs.lemmas.Slice.Eq.{bytes_eq-Decides}
 use Rattle.std.proofs.Math.Nat.{mul-le-mul_left}
-use Rattle.hierarchy.specs.declared.count.Count.{Count}
+use Rattle.hierarchy.specs.declared.lengths.count.Count.{Count}
 use Rattle.blif_text.specs.Kind.{is_among}
 use Rattle.hierarchy.specs.Graph.{number_named}
 use Rattle.hierarchy.specs.FlatText.{capped}
-use Rattle.hierarchy.specs.Counts.{Use, Formal, use_of, own_length, own_one, formal_one, formal_length, by_formal, limited, used, Adds, times_of, sum_of, bound_of}
+use Rattle.hierarchy.specs.Private.Counts.{Use, Formal, use_of, own_length, own_one, formal_one, formal_length, by_formal, limited, used, Adds, times_of, sum_of, bound_of}
 
 -- ---- products that are kept as far as 64 bits hold them
 

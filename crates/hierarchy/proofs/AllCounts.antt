@@ -11,15 +11,15 @@ use Rattle.blif_text.specs.Kind.{is_among}
 use Rattle.blif_text.specs.Models.{PlainElement, Table, Register, Instance, PlainModel}
 use Rattle.blif_text.specs.declared.library.BlifModel.{BlifModel}
 use Rattle.blif_text.specs.Views.{plain_model}
-use Rattle.hierarchy.specs.declared.count.Count.{Count}
+use Rattle.hierarchy.specs.declared.lengths.count.Count.{Count}
 use Rattle.hierarchy.specs.Graph.{graph, names_of, number_named, placed_by, placed_in, placed_of, row, Reached}
 use Rattle.hierarchy.specs.Library.{IsPlaceable}
 use Rattle.hierarchy.specs.Found.{IsOrder}
 use Rattle.hierarchy.specs.Faults.{element_fault}
 use Rattle.hierarchy.specs.Ports.{ports_of}
-use Rattle.hierarchy.specs.Walk.{model_at}
+use Rattle.hierarchy.specs.Private.Walk.{model_at}
 use Rattle.hierarchy.specs.Flat.{no_model}
-use Rattle.hierarchy.specs.Counts.{Use, is_formal, uses_with, fixed_with, uses_to, fixed_to, uses_in, fixed_in, count_at, count_named, IsTold, IsCount, IsOutcome, AreCounted, AreCounts, ArePlaces}
+use Rattle.hierarchy.specs.Private.Counts.{Use, is_formal, uses_with, fixed_with, uses_to, fixed_to, uses_in, fixed_in, count_at, count_named, IsTold, IsCount, IsOutcome, AreCounted, AreCounts, ArePlaces}
 use Rattle.hierarchy.proofs.SoundStatements.{IsSoundPlacing, placing_sound, each_faultless}
 use Rattle.hierarchy.proofs.Moved.{at_model}
 

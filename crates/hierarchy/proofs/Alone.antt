@@ -1,13 +1,14 @@
 -- A main model that places no models is its own flat model, and no two of its nets share a text.
-use Rattle.std.proofs.Common.{◌≡◌, ℕ, Bool, true, false, List, [], ◌∷◌, ◌++◌, length, map, refl, sym, ap, subst, Option, Some, None, nat_eq, cond}
-use Rattle.std.specs.Prelude.{find, flat_map}
+use Rattle.std.proofs.Common.{◌≡◌, ℕ, Bool, true, false, List, [], ◌∷◌, ◌++◌, length, map, refl, sym, ap, subst, ◌∙◌, ◌&&◌, not, Option, Some, None}
+use Rattle.std.specs.Prelude.{flat_map}
+use Rattle.std.specs.Str.{bytes_eq}
+use Rattle.std.proofs.lemmas.Slice.Eq.{bytes_eq-Decides}
 use Rattle.tmr_base.specs.declared.ids.Edge.{Edge}
 use Rattle.blif_text.specs.Models.{PlainElement, Table, Register, Instance, PlainModel}
-use Rattle.hierarchy.specs.Flat.{Level, PlacedNet, NetElement, named, named_control, resolved_control, net_text, resolve, main_level, main_of, elements_with, elements_to, flat_elements, flat_model}
-use Rattle.hierarchy.specs.Clash.{nets_of, main_net, walked, clash_after, is_taken, has_text, same_net, name_clash, control_nets}
-use Rattle.hierarchy.specs.Alone.{places_nothing}
-use Rattle.hierarchy.proofs.NetNames.{same_by_length, found_has}
-use Rattle.hierarchy.proofs.WholeModel.{main_resolved, main_texts, main_nets}
+use Rattle.hierarchy.specs.Flat.{Level, PlacedNet, NetElement, named, named_control, resolved_control, path_text, net_text, actual_of, resolve, main_level, main_of, elements_with, elements_to, flat_elements, flat_model}
+use Rattle.hierarchy.specs.Clash.{nets_of, main_net, walked, clash_after, is_taken, clashes, same_net, name_clash, control_nets}
+use Rattle.hierarchy.specs.Private.Alone.{places_nothing}
+use Rattle.hierarchy.proofs.WholeModel.{main_resolved, main_nets}
 
 abbrev IsMain : PlacedNet → Type 0
 IsMain net = net.path ≡ []
@@ -24,11 +25,18 @@ control_named : (control : Option (Edge × List ℕ)) → named_control (resolve
 control_named None = refl
 control_named (Some (edge, name)) = rw (main_resolved name) refl
 
+texts_same : (names : List (List ℕ)) → map net_text (map main_net names) ≡ names
+texts_same [] = refl
+texts_same (name ∷ names) = ap (λ ns. name ∷ ns) (texts_same names)
+
+main_texts : (names : List (List ℕ)) → map net_text (map (resolve (main_level ∷ [])) names) ≡ names
+main_texts names = ap (map net_text) (main_nets (main_level ∷ []) names refl) ∙ texts_same names
+
 module _ (inner : List Level → List ℕ → List NetElement) where
   own_elements : (number : ℕ) (elements : List PlainElement) → places_nothing elements ≡ true → map named (elements_with inner (main_level ∷ []) number elements) ≡ elements
   unfolding places_nothing elements_with
   own_elements number [] e = refl
-  own_elements number (Table pins out cover ∷ elements) e = rw (main_texts (main_level ∷ []) pins refl, main_resolved out, own_elements number elements e) refl
+  own_elements number (Table pins out cover ∷ elements) e = rw (main_texts pins, main_resolved out, own_elements number elements e) refl
   own_elements number (Register pin out control init ∷ elements) e = rw (main_resolved pin, main_resolved out, control_named control, own_elements number elements e) refl
   own_elements number (Instance model bindings ∷ elements) e = absurd cc
 
@@ -50,23 +58,20 @@ module _ (inner : List Level → List ℕ → List NetElement) where
   own_nets number (Register pin out control init ∷ elements) e = (ap (λ n. n.path) (main_resolved pin), (ap (λ n. n.path) (main_resolved out), join _ _ (own_control control) (own_nets number elements e)))
   own_nets number (Instance model bindings ∷ elements) e = absurd cc
 
-found_step : (text : List ℕ) (net other : PlacedNet) (rest : Option PlacedNet) (v : Bool) → IsMain net → (rest ≡ Some other → IsMain other) → cond v (Some net) rest ≡ Some other → IsMain other
-found_step text net other rest true own later e = let same : net ≡ other = cc in subst IsMain same own
-found_step text net other rest false own later e = later e
-
-found_main : (text : List ℕ) (nets : List PlacedNet) (other : PlacedNet) → AreMain nets → find (has_text text) nets ≡ Some other → IsMain other
-found_main text [] other all e = absurd cc
-found_main text (net ∷ nets) other all e = found_step text net other (find (has_text text) nets) (has_text text net) all.0 (λ f. found_main text nets other all.1 f) e
+-- a net of the main model that has the text of another is the other
+apart : (net other : PlacedNet) → IsMain net → IsMain other → clashes net other ≡ false
+apart net other own main = go (bytes_eq (net_text other) (net_text net)) refl
+  where
+    go : (v : Bool) → bytes_eq (net_text other) (net_text net) ≡ v → (v && not (same_net other net)) ≡ false
+    go false e = refl
+    go true e =
+        let texts : path_text other.path ++ other.name ≡ path_text net.path ++ net.name = (bytes_eq-Decides (net_text other) (net_text net)).0 e in
+        let names : other.name ≡ net.name = ap (λ p. path_text p ++ other.name) (sym main) ∙ (texts ∙ ap (λ p. path_text p ++ net.name) own) in
+        rw ((bytes_eq-Decides other.path net.path).1 (main ∙ sym own), (bytes_eq-Decides other.name net.name).1 names) refl
 
 untaken : (before : List PlacedNet) (net : PlacedNet) → AreMain before → IsMain net → is_taken before net ≡ false
-untaken before net all own = go (find (has_text (net_text net)) before) refl
-  where
-    go : (o : Option PlacedNet) → find (has_text (net_text net)) before ≡ o → is_taken before net ≡ false
-    go None f = rw f refl
-    go (Some other) f =
-        let path : other.path ≡ [] = found_main (net_text net) before other all f in
-        let same : same_net other net ≡ nat_eq (length other.path) (length net.path) = same_by_length other net (found_has (net_text net) before other f) in
-        rw f (rw same (rw (path, own) refl))
+untaken [] net all own = refl
+untaken (other ∷ before) net all own = rw (apart net other own all.0, untaken before net all.1 own) refl
 
 no_clash : (before nets : List PlacedNet) → AreMain before → AreMain nets → clash_after before nets ≡ None
 unfolding clash_after

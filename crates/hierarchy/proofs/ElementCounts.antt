@@ -3,8 +3,8 @@ use Rattle.std.proofs.Common.{◌≡◌, ℕ, ◌+◌, ◌<◌, ◌≤◌, Bool,
 use Rattle.std.specs.List.{sum_by}
 use Rattle.std.proofs.lemmas.List.Sums.{sum_by-cons, sum_by-append}
 use Rattle.blif_text.specs.Models.{PlainElement, Table, Register, Instance}
-use Rattle.hierarchy.specs.declared.count.Count.{Count}
-use Rattle.hierarchy.specs.Counts.{Use, Formal, Own, use_of, placed_use, control_names, control_fixed, element_names, uses_with, fixed_with, least, IsTold, IsAdded, Adds, sum_of, number_after, KeepsFormals}
+use Rattle.hierarchy.specs.declared.lengths.count.Count.{Count}
+use Rattle.hierarchy.specs.Private.Counts.{Use, Formal, Own, use_of, placed_use, control_names, control_fixed, element_names, uses_with, fixed_with, least, IsTold, IsAdded, Adds, sum_of, number_after, KeepsFormals}
 use Rattle.std.specs.Prelude.{All}
 use Rattle.blif_text.specs.Kind.{is_among}
 use Rattle.hierarchy.proofs.Items.{item_has}
@@ -17,7 +17,7 @@ use Rattle.std.proofs.lemmas.List.{length-append, drop_all}
 use Rattle.tmr_base.specs.declared.ids.Edge.{Edge}
 use Rattle.table_cover.specs.Cover.{PlainCover}
 use Rattle.blif_text.specs.declared.library.Init.{Init}
-use Rattle.hierarchy.specs.Walk.{IsInstance}
+use Rattle.hierarchy.specs.Private.Walk.{IsInstance}
 use Rattle.hierarchy.proofs.Additions.{adds_then, adds_none}
 
 pub plain_uses : (is_formal : List ℕ → Bool) (uses : List ℕ → List Use) (number : ℕ) (e : PlainElement) (rest : List PlainElement) → ¬ IsInstance e → uses_with is_formal uses number (e ∷ rest) ≡ map (use_of is_formal) (element_names e) ++ uses_with is_formal uses number rest

@@ -7,7 +7,7 @@ use Rattle.std.proofs.lemmas.Option.{slice_get-map, slice_get-get_or}
 use Rattle.blif_text.specs.Models.{PlainModel}
 use Rattle.blif_text.specs.declared.library.BlifModel.{BlifModel}
 use Rattle.blif_text.specs.Views.{plain_model, plain_element}
-use Rattle.hierarchy.specs.declared.fault.PlacingFault.{PlacingFault}
+use Rattle.hierarchy.specs.declared.placed.fault.PlacingFault.{PlacingFault}
 use Rattle.hierarchy.specs.Ports.{PlainPorts, ports_of}
 use Rattle.hierarchy.specs.Graph.{graph, names_of, Reached}
 use Rattle.hierarchy.specs.Faults.{model_fault, elements_fault}

@@ -8,9 +8,10 @@ use Rattle.std.proofs.lemmas.List.Sums.{sum_by-cons, sum_by-append}
 use Rattle.std.proofs.lemmas.List.Elements.{All-head, All-tail}
 use Rattle.tmr_base.specs.declared.ids.Edge.{Edge}
 use Rattle.blif_text.specs.Models.{PlainElement, Table, Register, Instance}
-use Rattle.hierarchy.specs.Flat.{Level, NetElement, NetTable, NetRegister, net_text, resolve, resolved_control, named, named_control, path_of, step, actual_of, elements_with}
+use Rattle.hierarchy.specs.Flat.{Level, NetElement, NetTable, NetRegister, resolve, resolved_control, path_of, step, actual_of}
+use Rattle.hierarchy.specs.Private.Texts.{net_text, named, named_control, elements_with}
 use Rattle.hierarchy.specs.FlatText.{spaced, all_spaced, control_length, element_length}
-use Rattle.hierarchy.specs.Counts.{Use, Formal, Own, use_of, placed_use, control_names, control_fixed, uses_with, fixed_with, is_formal}
+use Rattle.hierarchy.specs.Private.Counts.{Use, Formal, Own, use_of, placed_use, control_names, control_fixed, uses_with, fixed_with, is_formal}
 use Rattle.hierarchy.proofs.Sums.{sum_same, sum_mapped}
 
 -- a blank and the text of a net of a model placed at these levels

@@ -18,7 +18,8 @@ use Rattle.hierarchy.specs.FlatText.{spaced, all_spaced, element_length, text_le
 use Rattle.hierarchy.specs.Drafted.{drafted, draft_of}
 use Rattle.hierarchy.specs.declared.flat_fault.FlatFault.{FlatFault}
 use Rattle.hierarchy.specs.declared.flat_fault.FlatFault.TheVariants.{UnknownModel, UnboundInput, UnknownFormal, DuplicateFormal, BothWays, Recursive, TooLarge, NameClash, Net, Memory}
-use Rattle.hierarchy.specs.Flatten.{IsSound, IsSoundFault, IsTextFault, IsFlatFault}
+use Rattle.hierarchy.specs.Flatten.{IsSound, IsFlatFault}
+use Rattle.hierarchy.specs.Private.Stages.{IsSoundFault, IsTextFault}
 
 as_many : (levels : List Level) (pins : List (List ℕ)) → length (map net_text (map (resolve levels) pins)) ≡ length pins
 as_many levels pins = length-map (map (resolve levels) pins) net_text ∙ length-map pins (resolve levels)

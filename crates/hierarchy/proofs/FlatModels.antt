@@ -14,7 +14,8 @@ use Rattle.hierarchy.specs.Flat.{main_of, flat_model}
 use Rattle.hierarchy.specs.FlatText.{text_length}
 use Rattle.hierarchy.specs.Clash.{name_clash}
 use Rattle.hierarchy.specs.Drafted.{draft_of, open_marks}
-use Rattle.hierarchy.specs.Flatten.{IsSound, Fits, IsFlatModel, IsFlatFault, IsFreeFlat}
+use Rattle.hierarchy.specs.Flatten.{IsSound, Fits, IsFlatFault, IsFreeFlat}
+use Rattle.hierarchy.specs.Private.Stages.{IsFlatModel}
 use Rattle.hierarchy.proofs.FlatKeeps.{flat_fits, flat_inputs, flat_outputs}
 use Rattle.hierarchy.proofs.Marks.{free_flat}
 
@@ -56,9 +57,6 @@ pub ruleset flat_designs = (model_design, model_fault)
 
 -- ---- the main model
 
-first_of : (models : List BlifModel) (main : BlifModel) → 0 < length (map plain_model models) → main ≡ slice_index_or models 0 main → plain_model main ≡ main_of (map plain_model models)
+pub first_of : (models : List BlifModel) (main : BlifModel) → 0 < length models → main ≡ slice_index_or models 0 main → plain_model main ≡ main_of (map plain_model models)
 first_of [] main some is = absurd (omega arith)
 first_of (m ∷ models) main some is = ap plain_model is
-
-pub first_taken : (library : List PlainModel) (models : List BlifModel) (main : BlifModel) → map plain_model models ≡ library → IsLibrary library → main ≡ slice_index_or models 0 main → plain_model main ≡ main_of library
-first_taken library models main is kept taken = first_of models main (subst (λ (l : List PlainModel). 0 < length l) (sym is) kept.some) taken ∙ ap main_of is

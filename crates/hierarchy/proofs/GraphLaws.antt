@@ -9,7 +9,7 @@ use Rattle.std.proofs.lemmas.List.Elements.{All-append, All-cons, All-nil}
 use Rattle.blif_text.specs.Models.{PlainElement, Table, Register, Instance, PlainModel}
 use Rattle.blif_text.specs.Library.{name_of}
 use Rattle.hierarchy.specs.Graph.{names_of, number_named, placed_by, placed_in, placed_of, graph}
-use Rattle.hierarchy.specs.Rows.{AreWithin}
+use Rattle.hierarchy.specs.Private.Rows.{AreWithin}
 use Rattle.hierarchy.proofs.Items.{all_map}
 
 pub number_within : (names : List (List ℕ)) (name : List ℕ) (x : ℕ) → number_named names name ≡ Some x → x < length names

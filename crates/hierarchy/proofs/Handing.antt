@@ -8,11 +8,11 @@ use Rattle.std.proofs.lemmas.List.Folds.{list_any-append, list_any_at}
 use Rattle.std.proofs.lemmas.List.Quantifiers.{position-Some}
 use Rattle.std.proofs.lemmas.Slice.Eq.{bytes_eq-Decides}
 use Rattle.blif_text.specs.Kind.{is_among}
-use Rattle.hierarchy.specs.declared.count.Count.{Count}
+use Rattle.hierarchy.specs.declared.lengths.count.Count.{Count}
 use Rattle.hierarchy.specs.Graph.{number_named}
-use Rattle.hierarchy.specs.Counts.{used}
+use Rattle.hierarchy.specs.Private.Counts.{used}
 use Rattle.hierarchy.specs.Flat.{actual_of}
-use Rattle.hierarchy.specs.Chains.{IsHandedOn}
+use Rattle.hierarchy.specs.Private.Chains.{IsHandedOn}
 use Rattle.hierarchy.proofs.Binding.{one_more}
 
 -- each name among these that stands somewhere is bound to itself, and no name to another
@@ -120,3 +120,7 @@ if_found (Err e) P Q f h = tt
 pub if_ok : {A E : Type 0} (r : Result A E) (P Q : A → Type 0) → ((a : A) → P a → Q a) → IfOk r P → IfOk r Q
 if_ok (Ok a) P Q f h = f a h
 if_ok (Err e) P Q f h = tt
+
+pub both_ok : {A E : Type 0} (r : Result A E) (P Q R : A → Type 0) → ((a : A) → P a → Q a → R a) → IfOk r P → IfOk r Q → IfOk r R
+both_ok (Ok a) P Q R f p q = f a p q
+both_ok (Err e) P Q R f p q = tt

@@ -1,5 +1,5 @@
 -- What holds of each plain form holds of an item's.
-use Rattle.std.proofs.Common.{◌≡◌, ℕ, ◌<◌, ◌+◌, List, [], ◌∷◌, ◌++◌, length, get_or, drop, map, sym, ap, ◌∙◌, subst, arith, suc, add-one, append_assoc}
+use Rattle.std.proofs.Common.{◌≡◌, ℕ, zero, ◌<◌, ◌≤◌, ◌+◌, List, [], ◌∷◌, ◌++◌, length, get_or, drop, map, sym, ap, ◌∙◌, subst, arith, suc, add-one, append_assoc}
 use Rattle.std.specs.Prelude.{All, flat_map}
 use Rattle.std.proofs.Math.Seq.{drop-cons}
 use Rattle.std.proofs.lemmas.List.{get_or-map, length-map}
@@ -27,3 +27,17 @@ flat_more f g xs i x old new whole below is more so_far = ap (λ n. n ++ flat_ma
 
     rest : f (g x) ++ flat_map f (map g (drop (i + 1) xs)) ≡ flat_map f (map g (drop i xs))
     rest = sym (ap (λ ys. flat_map f (map g ys)) here)
+
+-- the first of the items that are left, and those behind it
+pub next_left : {X : Type 0} (n : ℕ) (all : List X) (first default : X) (rest : List X) → first ∷ rest ≡ drop n all → (n < length all) × (get_or all n default ≡ first) × (rest ≡ drop (suc n) all)
+next_left zero [] first default rest e = absurd cc
+next_left zero (x ∷ all) first default rest e = (omega arith, cc, cc)
+next_left (suc n) [] first default rest e = absurd cc
+next_left (suc n) (x ∷ all) first default rest e = let r = next_left n all first default rest e in ((let b = r.0 in omega arith), r.1, r.2)
+
+-- none is left
+pub none_left : {X : Type 0} (n : ℕ) (all : List X) → [] ≡ drop n all → length all ≤ n
+none_left zero [] e = omega arith
+none_left zero (x ∷ all) e = absurd cc
+none_left (suc n) [] e = omega arith
+none_left (suc n) (x ∷ all) e = let r = none_left n all e in omega arith

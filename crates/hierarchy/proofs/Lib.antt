@@ -20,6 +20,9 @@ pub mod NetNames
 pub mod Passing
 pub mod WholeModel
 pub mod Alone
+pub mod SameTexts
+pub mod PathsApart
+pub mod SameClash
 pub mod FlatKeeps
 pub mod Sums
 pub mod Additions
@@ -38,6 +41,7 @@ pub mod Handing
 pub mod Ways
 pub mod StandIns
 pub mod OneFirst
+pub mod DepthLaw
 pub mod OrderOrLoop
 pub mod OneDraftFault
 pub mod OneAnswer

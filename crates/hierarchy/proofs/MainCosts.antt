@@ -12,16 +12,17 @@ use Rattle.std.proofs.lemmas.List.Folds.{Any-from_list_any}
 use Rattle.std.proofs.lemmas.Bool.{ne_eqb, eqb-true}
 use Rattle.std.proofs.lemmas.Option.{slice_get-get_or, get_or_from_slice_get, slice_get_within}
 use Rattle.blif_text.specs.Models.{PlainElement, Table, Register, Instance, PlainModel}
-use Rattle.hierarchy.specs.declared.count.Count.{Count}
+use Rattle.hierarchy.specs.declared.lengths.count.Count.{Count}
 use Rattle.hierarchy.specs.Graph.{graph, names_of, number_named, model_named, placed_of, row, Places, Reached, main, placed}
 use Rattle.hierarchy.specs.Library.{IsPlaceable}
 use Rattle.hierarchy.specs.Found.{IsOrder}
 use Rattle.hierarchy.specs.Faults.{element_fault}
 use Rattle.hierarchy.specs.Ports.{ports_of}
-use Rattle.hierarchy.specs.Flat.{Level, named as named_net, no_model, main_of, main_level, path_of, step, actual_of, elements_with, elements_to, flat_elements, flat_model}
+use Rattle.hierarchy.specs.Flat.{Level, no_model, main_of, main_level, path_of, step, actual_of}
+use Rattle.hierarchy.specs.Private.Texts.{named as named_net, elements_with, elements_to, flat_elements, flat_model}
 use Rattle.hierarchy.specs.FlatText.{capped, element_length, header_length, text_length}
-use Rattle.hierarchy.specs.Walk.{model_at}
-use Rattle.hierarchy.specs.Counts.{Use, Formal, Own, use_of, placed_use, control_names, uses_with, fixed_with, is_formal, uses_to, fixed_to, uses_in, fixed_in, least, own_length, IsCount, IsOutcome, AreCounted, ArePlaces, count_at}
+use Rattle.hierarchy.specs.Private.Walk.{model_at}
+use Rattle.hierarchy.specs.Private.Counts.{Use, Formal, Own, use_of, placed_use, control_names, uses_with, fixed_with, is_formal, uses_to, fixed_to, uses_in, fixed_in, least, own_length, IsCount, IsOutcome, AreCounted, ArePlaces, count_at}
 use Rattle.hierarchy.proofs.Totals.{first_model}
 use Rattle.hierarchy.proofs.SoundStatements.{IsSoundPlacing, placing_sound}
 use Rattle.hierarchy.proofs.AllCounts.{placed_there, row_at, statements_sound}

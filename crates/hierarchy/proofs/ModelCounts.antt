@@ -7,8 +7,8 @@ use Rattle.std.proofs.lemmas.List.Sums.{sum_by-le-sum_by}
 use Rattle.blif_text.specs.Kind.{is_among}
 use Rattle.blif_text.specs.declared.library.Element.{Element}
 use Rattle.blif_text.specs.Views.{plain_element}
-use Rattle.hierarchy.specs.declared.count.Count.{Count}
-use Rattle.hierarchy.specs.Counts.{Use, Formal, Own, own_length, own_one, formal_one, by_formal, least, fixed_with, uses_with, IsCount, IsEmptyCount, IsTold, IsAdded, Adds, sum_of}
+use Rattle.hierarchy.specs.declared.lengths.count.Count.{Count}
+use Rattle.hierarchy.specs.Private.Counts.{Use, Formal, Own, own_length, own_one, formal_one, by_formal, least, fixed_with, uses_with, IsCount, IsEmptyCount, IsTold, IsAdded, Adds, sum_of}
 use Rattle.hierarchy.proofs.Sums.{sum_same, sum_both}
 use Rattle.hierarchy.proofs.PlacedCounts.{lengths_below}
 

@@ -5,7 +5,7 @@ use Rattle.std.proofs.lemmas.List.{get_or_default}
 use Rattle.graph.specs.Rows.{Stands, Follows}
 use Rattle.graph.specs.Orders.{IsCycle, is_root, is_read, Reached as IsReached, IsOrder as IsRowOrder}
 use Rattle.hierarchy.specs.Graph.{row, Places, Reached, main, placed}
-use Rattle.hierarchy.specs.Rows.{AreWithin}
+use Rattle.hierarchy.specs.Private.Rows.{AreWithin}
 use Rattle.hierarchy.specs.Library.{IsLoop}
 use Rattle.hierarchy.specs.Found.{IsOrder}
 

@@ -7,20 +7,21 @@ use Rattle.blif_text.specs.declared.library.BlifModel.{BlifModel}
 use Rattle.blif_text.specs.declared.library.Element.{Element}
 use Rattle.blif_text.specs.Views.{plain_model, plain_element}
 use Rattle.hierarchy.specs.Flat.{no_model}
-use Rattle.hierarchy.specs.Walk.{no_element}
-use Rattle.hierarchy.specs.declared.walk.Frame.{Frame}
-use Rattle.hierarchy.specs.declared.walk.Walk.{Walk}
-use Rattle.hierarchy.specs.declared.links.Row.{Row}
-use Rattle.hierarchy.specs.declared.links.Link.{Link}
+use Rattle.hierarchy.specs.Private.Walk.{no_element}
+use Rattle.hierarchy.specs.declared.walking.walk.Frame.{Frame}
+use Rattle.hierarchy.specs.declared.walking.walk.Walk.{Walk}
+use Rattle.hierarchy.specs.declared.walking.links.Row.{Row}
+use Rattle.hierarchy.specs.declared.walking.links.Link.{Link}
 use Rattle.hierarchy.specs.Graph.{names_of, model_named}
-use Rattle.hierarchy.specs.Flat.{Level, step, resolve, elements_to}
-use Rattle.hierarchy.specs.Links.{target_of, bindings_of, IsBare}
+use Rattle.hierarchy.specs.Flat.{Level, step, resolve}
+use Rattle.hierarchy.specs.Private.Texts.{elements_to}
+use Rattle.hierarchy.specs.Private.Links.{target_of, bindings_of, Binds, IsBare}
 use Rattle.hierarchy.specs.Flat.{actual_of}
 use Rattle.indexmap.specs.IndexMap.{get}
 use mathlib.Core.Path.{fun_ext}
 use Rattle.std.specs.Prelude.{option_and_then}
 use Rattle.std.specs.Str.{bytes_eq}
-use Rattle.hierarchy.specs.Walk.{model_at, element_at, innermost_first, AreFrames, IsInstance, IsReady, IsMoved, IsNext, IsPathText, IsWalking, IsNetWithin, AreKnown, known_net, bound_by, coming, coming_from, levels_of, level_of, placed_element, moves}
+use Rattle.hierarchy.specs.Private.Walk.{model_at, element_at, innermost_first, AreFrames, IsInstance, IsReady, IsMoved, IsNext, IsPathText, IsWalking, IsNetWithin, AreKnown, known_net, bound_by, coming, coming_from, levels_of, level_of, placed_element, moves}
 use Rattle.hierarchy.proofs.Coming.{placed_name, no_target, target_is, skipped, skipped_frames, passed_fewer, left, left_fewer, frames_weaken, passed, entered, entered_frames, entered_known, entered_fewer}
 use Rattle.hierarchy.proofs.PathTexts.{path_more}
 use Rattle.hierarchy.proofs.Linked.{link_of, some_row}
@@ -91,11 +92,11 @@ target_at library rows r x i link below at = go (some_row library (names_of libr
     go (row, e) = (link_of library (names_of library) r.holds rows r.links x i row link e (at row e)).target
 
 -- what the link of an element says that it binds
-pub actuals_at : (library : List PlainModel) (rows : List Row) (r : IsReady library rows) (x i : ℕ) (link : Link) (name : List ℕ) → x < length library → ((row : Row) → slice_get rows x ≡ Some row → slice_get row.links.items i ≡ Some link) → get bytes_eq link.actuals name ≡ actual_of (bindings_of (element_at library x i)) name
-actuals_at library rows r x i link name below at = go (some_row library (names_of library) r.holds rows r.links x below)
+pub binds_at : (library : List PlainModel) (rows : List Row) (r : IsReady library rows) (x i : ℕ) (link : Link) → x < length library → ((row : Row) → slice_get rows x ≡ Some row → slice_get row.links.items i ≡ Some link) → Binds link.actuals (bindings_of (element_at library x i))
+binds_at library rows r x i link below at = go (some_row library (names_of library) r.holds rows r.links x below)
   where
-    go : (row : Row) × (slice_get rows x ≡ Some row) → get bytes_eq link.actuals name ≡ actual_of (bindings_of (element_at library x i)) name
-    go (row, e) = (link_of library (names_of library) r.holds rows r.links x i row link e (at row e)).actuals name
+    go : (row : Row) × (slice_get rows x ≡ Some row) → Binds link.actuals (bindings_of (element_at library x i))
+    go (row, e) = (link_of library (names_of library) r.holds rows r.links x i row link e (at row e)).actuals
 
 pub nothing_there : (library : List PlainModel) (rows : List Row) (r : IsReady library rows) (e : PlainElement) → target_of (names_of library) r.holds e ≡ None → IsInstance e → (depth : ℕ) (levels : List Level) → elements_to library depth levels (placed_name e) ≡ []
 nothing_there library rows r e none i depth levels = no_target library r.holds r.bare e none i depth levels

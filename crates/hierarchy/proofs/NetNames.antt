@@ -10,12 +10,14 @@ use Rattle.std.proofs.lemmas.Slice.Eq.{bytes_eq-Decides}
 use Rattle.tmr_base.specs.declared.ids.Edge.{Edge}
 use Rattle.table_cover.specs.Cover.{PlainCover}
 use Rattle.blif_text.specs.declared.library.Init.{Init}
-use Rattle.hierarchy.specs.Flat.{PlacedNet, net_text, NetElement, NetTable, NetRegister}
-use Rattle.hierarchy.specs.Clash.{same_net, has_text, is_taken, nets_of, control_nets}
-use Rattle.hierarchy.specs.Naming.{path_length, IsNamed, AreNamed, Clashes, IsNamingFault}
-use Rattle.hierarchy.specs.declared.naming.NamingFault.{NamingFault}
-use Rattle.hierarchy.specs.declared.naming.NamingFault.TheVariants.{Clash, Memory}
-use Rattle.hierarchy.specs.Clash.{clash_after}
+use Rattle.hierarchy.specs.Flat.{PlacedNet, NetElement, NetTable, NetRegister}
+use Rattle.hierarchy.specs.Private.Texts.{net_text}
+use Rattle.hierarchy.specs.Clash.{same_net, nets_of, control_nets}
+use Rattle.hierarchy.specs.Private.Texts.{has_text, is_taken}
+use Rattle.hierarchy.specs.Private.Naming.{path_length, IsNamed, AreNamed, Clashes, IsNamingFault}
+use Rattle.hierarchy.specs.declared.walking.naming.NamingFault.{NamingFault}
+use Rattle.hierarchy.specs.declared.walking.naming.NamingFault.TheVariants.{Clash, Memory}
+use Rattle.hierarchy.specs.Private.Texts.{clash_after}
 
 pub taken_long : (path : List ℕ) (end : ℕ) → end ≤ length path → length (take end path) ≡ end
 taken_long path end l = omega (arith, length-take end path)

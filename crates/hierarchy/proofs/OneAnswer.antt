@@ -9,8 +9,8 @@ use Rattle.flat_net.specs.Net.{Net}
 use Rattle.flat_net.specs.Faults.{IsFaultOf}
 use Rattle.flat_net.specs.declared.fault.NetFault.{NetFault}
 use Rattle.flat_net.specs.declared.fault.NetFault.TheVariants as net
-use Rattle.hierarchy.specs.declared.fault.PlacingFault.{PlacingFault}
-use Rattle.hierarchy.specs.declared.fault.PlacingFault.TheVariants as placing
+use Rattle.hierarchy.specs.declared.placed.fault.PlacingFault.{PlacingFault}
+use Rattle.hierarchy.specs.declared.placed.fault.PlacingFault.TheVariants as placing
 use Rattle.hierarchy.specs.declared.flat_fault.FlatFault.{FlatFault}
 use Rattle.hierarchy.specs.declared.flat_fault.FlatFault.TheVariants.{UnknownModel, UnboundInput, UnknownFormal, DuplicateFormal, BothWays, Recursive, TooLarge, NameClash, Net as NetOf, Memory}
 use Rattle.hierarchy.specs.Graph.{graph}
@@ -19,7 +19,8 @@ use Rattle.hierarchy.specs.Flat.{flat_model}
 use Rattle.hierarchy.specs.FlatText.{text_length}
 use Rattle.hierarchy.specs.Clash.{name_clash}
 use Rattle.hierarchy.specs.Drafted.{draft_of}
-use Rattle.hierarchy.specs.Flatten.{IsSound, Fits, IsFlat, IsFlatFault, IsSameFault, same, of_models, flat_fault_of}
+use Rattle.hierarchy.specs.Flatten.{IsSound, Fits, IsFlat, IsFlatFault, IsSameFault, same, of_models}
+use Rattle.hierarchy.specs.Private.Stages.{flat_fault_of}
 use Rattle.hierarchy.proofs.OrderOrLoop.{no_model_loop}
 use Rattle.hierarchy.proofs.OneDraftFault.{none_or_one, one_net_fault}
 

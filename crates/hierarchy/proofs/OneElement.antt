@@ -7,9 +7,9 @@ use Rattle.std.proofs.lemmas.List.{get_or-map}
 use Rattle.blif_text.specs.Models.{PlainElement}
 use Rattle.blif_text.specs.declared.library.Element.{Element}
 use Rattle.blif_text.specs.Views.{plain_element}
-use Rattle.hierarchy.specs.Links.{is_bare_element}
-use Rattle.hierarchy.specs.Walk.{no_element}
-use Rattle.hierarchy.specs.Chains.{IsOnly}
+use Rattle.hierarchy.specs.Private.Links.{is_bare_element}
+use Rattle.hierarchy.specs.Private.Walk.{no_element}
+use Rattle.hierarchy.specs.Private.Chains.{IsOnly}
 
 -- of the first elements, all or all but one are bare
 abbrev pub IsOnlyBefore : List (List ℕ) → List Bool → List PlainElement → ℕ → Option ℕ → Type 0

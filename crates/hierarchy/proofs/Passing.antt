@@ -5,11 +5,12 @@ use Rattle.std.proofs.lemmas.List.{map-append}
 use Rattle.std.proofs.lemmas.Grind.{flat_map-append}
 use Rattle.blif_text.specs.declared.library.Element.{Element}
 use Rattle.blif_text.specs.Views.{plain_element}
-use Rattle.hierarchy.specs.declared.naming.NamingFault.{NamingFault}
-use Rattle.hierarchy.specs.declared.naming.NamingFault.TheVariants.{Clash, Memory}
-use Rattle.hierarchy.specs.Flat.{NetElement, named}
+use Rattle.hierarchy.specs.declared.walking.naming.NamingFault.{NamingFault}
+use Rattle.hierarchy.specs.declared.walking.naming.NamingFault.TheVariants.{Clash, Memory}
+use Rattle.hierarchy.specs.Flat.{NetElement}
+use Rattle.hierarchy.specs.Private.Texts.{named}
 use Rattle.hierarchy.specs.Clash.{nets_of}
-use Rattle.hierarchy.specs.Naming.{AreNamed, Clashes, IsNamingFault}
+use Rattle.hierarchy.specs.Private.Naming.{AreNamed, Clashes, IsNamingFault}
 use Rattle.hierarchy.proofs.NetNames.{named_join, clash_join, clash_more}
 
 pub split_more : (passed placed rest before whole : List NetElement) → before ≡ placed ++ rest → passed ++ before ≡ whole → (passed ++ placed) ++ rest ≡ whole

@@ -8,7 +8,7 @@ use Rattle.tmr_base.specs.Names.{is_name, is_name_byte}
 use Rattle.tmr_base.proofs.NameLaws.{list_all-append, name_behind}
 use Rattle.std.proofs.lemmas.List.Folds.{list_all-append as all_append}
 use Rattle.hierarchy.specs.Flat.{step}
-use Rattle.hierarchy.specs.Walk.{IsPathText}
+use Rattle.hierarchy.specs.Private.Walk.{IsPathText}
 
 both : (a b : Bool) → (a && b) ≡ true → (a ≡ true) × (b ≡ true)
 both true b e = (refl, e)

@@ -7,12 +7,12 @@ use Rattle.std.proofs.lemmas.List.{length-append}
 use Rattle.std.proofs.lemmas.List.Sums.{sum_by-cons}
 use Rattle.std.proofs.lemmas.Slice.Eq.{bytes_eq-Decides}
 use Rattle.blif_text.specs.Kind.{is_among}
-use Rattle.hierarchy.specs.declared.count.Count.{Count}
+use Rattle.hierarchy.specs.declared.lengths.count.Count.{Count}
 use Rattle.hierarchy.specs.Graph.{number_named}
 use Rattle.hierarchy.specs.Faults.{formal_of}
 use Rattle.hierarchy.specs.Flat.{step, actual_of}
 use Rattle.hierarchy.specs.FlatText.{capped, spaced}
-use Rattle.hierarchy.specs.Counts.{Use, Formal, Own, use_of, placed_use, own_length, own_one, formal_one, formal_length, by_formal, limited, used, IsCount, IsGrown, Adds, AreApart, sum_of, bound_of}
+use Rattle.hierarchy.specs.Private.Counts.{Use, Formal, Own, use_of, placed_use, own_length, own_one, formal_one, formal_length, by_formal, limited, used, IsCount, IsGrown, Adds, AreApart, sum_of, bound_of}
 use Rattle.hierarchy.proofs.Sums.{sum_same, sum_both, sum_scaled, sum_mapped, sum_none}
 use Rattle.hierarchy.proofs.Additions.{eq_other}
 

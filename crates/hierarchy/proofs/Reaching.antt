@@ -9,9 +9,9 @@ use Rattle.std.proofs.lemmas.List.Elements.{Contains-append_left, Contains-appen
 use Rattle.std.proofs.lemmas.List.Folds.{list_any_at}
 use Rattle.indexmap.proofs.CallerLemmas.{Contains-list_any}
 use Rattle.indexmap.specs.IndexSet.{insert_key}
-use Rattle.hierarchy.specs.Growth.{Gains}
+use Rattle.hierarchy.specs.Private.Growth.{Gains}
 use Rattle.hierarchy.specs.Graph.{Reached, main, placed, row}
-use Rattle.hierarchy.specs.Rows.{AreWithin}
+use Rattle.hierarchy.specs.Private.Rows.{AreWithin}
 
 nat_same : (x y : ℕ) → nat_eq x y ≡ true → x ≡ y
 nat_same x y e = eqb-true x y e

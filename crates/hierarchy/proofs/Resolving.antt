@@ -3,14 +3,12 @@ use Rattle.std.proofs.Common.{◌≡◌, ℕ, ◌+◌, ◌-◌, ◌<◌, ◌≤�
 use Rattle.std.specs.Prelude.{reverse}
 use Rattle.std.proofs.lemmas.List.{take_more, take_all, reverse-append, take-append-drop, length-reverse, length-take}
 use Rattle.blif_text.specs.Models.{PlainModel}
-use Rattle.hierarchy.specs.declared.walk.Frame.{Frame}
-use Rattle.hierarchy.specs.declared.walk.Walk.{Walk}
+use Rattle.hierarchy.specs.declared.walking.walk.Frame.{Frame}
+use Rattle.hierarchy.specs.declared.walking.walk.Walk.{Walk}
 use Rattle.hierarchy.specs.Flat.{Level, PlacedNet, actual_of, resolve}
-use Rattle.hierarchy.specs.Walk.{level_of, levels_of, bound_by, innermost_first, known_net, AreFrames, AreKnown, IsPlacing, IsWalking, IsNetWithin, AreWithin}
+use Rattle.hierarchy.specs.Private.Walk.{level_of, levels_of, bound_by, innermost_first, known_net, AreFrames, AreKnown, IsPlacing, IsWalking, IsNetWithin, AreWithin}
 use Rattle.std.specs.Str.{bytes_eq}
 use Rattle.std.proofs.lemmas.Slice.Eq.{bytes_eq-Decides}
-use Rattle.indexmap.specs.IndexMap.{get}
-use Rattle.hierarchy.specs.declared.links.Link.{Link}
 
 bound_name : (level : Level) (outer : List Level) (name actual : List ℕ) → actual_of level.bindings name ≡ Some actual → resolve (level ∷ outer) name ≡ resolve outer actual
 unfolding resolve
@@ -93,13 +91,13 @@ module _ (library : List PlainModel) (w : Walk) (depth : ℕ) (f : Frame) (found
       go (low, same) = (low, sym so_far ∙ (ap (λ fs. resolve (map (level_of library w.path.items) fs) found) (cut_frames w.frames.items depth f some within is) ∙ same))
 
 -- one formal more has its net
-pub within_more : (library : List PlainModel) (w : Walk) (link : Link) (old new : List ℕ → Option (ℕ × List ℕ)) (formal actual : List ℕ) (end : ℕ) (net : List ℕ) → get bytes_eq link.actuals formal ≡ Some actual → IsNetWithin library w actual end net → ((q : List ℕ) → new q ≡ cond (bytes_eq formal q) (Some (end, net)) (old q)) → AreWithin library w link old → AreWithin library w link new
-within_more library w link old new formal actual end net bound right updates before q e n is = go (bytes_eq formal q) refl (sym (updates q) ∙ is)
+pub within_more : (library : List PlainModel) (w : Walk) (bindings : List (List ℕ × List ℕ)) (old new : List ℕ → Option (ℕ × List ℕ)) (formal actual : List ℕ) (end : ℕ) (net : List ℕ) → actual_of bindings formal ≡ Some actual → IsNetWithin library w actual end net → ((q : List ℕ) → new q ≡ cond (bytes_eq formal q) (Some (end, net)) (old q)) → AreWithin library w bindings old → AreWithin library w bindings new
+within_more library w bindings old new formal actual end net bound right updates before q e n is = go (bytes_eq formal q) refl (sym (updates q) ∙ is)
   where
-    go : (b : Bool) → bytes_eq formal q ≡ b → cond b (Some (end, net)) (old q) ≡ Some (e, n) → (a : List ℕ) × (get bytes_eq link.actuals q ≡ Some a) × IsNetWithin library w a e n
+    go : (b : Bool) → bytes_eq formal q ≡ b → cond b (Some (end, net)) (old q) ≡ Some (e, n) → (a : List ℕ) × (actual_of bindings q ≡ Some a) × IsNetWithin library w a e n
     go false f same = before q e n same
     go true f same =
         let pair : ◌≡◌ {A = ℕ × List ℕ} (end, net) (e, n) = cc in
         let ends : end ≡ e = ap (λ (p : ℕ × List ℕ). p.0) pair in
         let nets : net ≡ n = ap (λ (p : ℕ × List ℕ). p.1) pair in
-        (actual, subst (λ k. get bytes_eq link.actuals k ≡ Some actual) ((bytes_eq-Decides formal q).0 f) bound, subst (λ k. IsNetWithin library w actual k n) ends (subst (λ m. IsNetWithin library w actual end m) nets right))
+        (actual, subst (λ k. actual_of bindings k ≡ Some actual) ((bytes_eq-Decides formal q).0 f) bound, subst (λ k. IsNetWithin library w actual k n) ends (subst (λ m. IsNetWithin library w actual end m) nets right))

@@ -7,13 +7,13 @@ use Rattle.std.proofs.lemmas.List.Folds.{list_any-append}
 use Rattle.std.proofs.lemmas.Slice.Eq.{bytes_eq-Decides}
 use Rattle.blif_text.specs.Kind.{is_among}
 use Rattle.blif_text.specs.Models.{PlainElement, Instance, PlainModel}
-use Rattle.hierarchy.specs.declared.fault.PlacingFault.{PlacingFault}
-use Rattle.hierarchy.specs.declared.fault.PlacingFault.TheVariants.{UnknownFormal, DuplicateFormal}
+use Rattle.hierarchy.specs.declared.placed.fault.PlacingFault.{PlacingFault}
+use Rattle.hierarchy.specs.declared.placed.fault.PlacingFault.TheVariants.{UnknownFormal, DuplicateFormal}
 use Rattle.hierarchy.specs.Graph.{names_of, number_named}
 use Rattle.hierarchy.specs.Ports.{PlainPorts, ports_of}
 use Rattle.hierarchy.specs.Faults.{◌or_else◌, both_ways, formal_fault, formals_fault, known_fault, placing_fault, element_fault, elements_fault, unbound_input, formal_of}
 use Rattle.hierarchy.specs.Flat.{actual_of}
-use Rattle.hierarchy.specs.Counts.{AreApart}
+use Rattle.hierarchy.specs.Private.Counts.{AreApart}
 use Rattle.hierarchy.proofs.Additions.{eq_other}
 
 both_none : (a b : Option PlacingFault) → (a or_else b) ≡ None → (a ≡ None) × (b ≡ None)

@@ -6,10 +6,11 @@ use Rattle.blif_text.specs.Models.{PlainElement, Table, Register, Instance, Plai
 use Rattle.hierarchy.specs.Graph.{graph, names_of, number_named}
 use Rattle.hierarchy.specs.Found.{IsOrder}
 use Rattle.hierarchy.specs.Library.{IsPlaceable}
-use Rattle.hierarchy.specs.Flat.{Level, NetTable, NetRegister, step, path_of, resolve, resolved_control, main_of, main_level, elements_with, elements_to, flat_elements, flat_model}
-use Rattle.hierarchy.specs.Clash.{walked, clash_after}
-use Rattle.hierarchy.specs.Walk.{model_at, no_element}
-use Rattle.hierarchy.specs.Chains.{IsSameFlat}
+use Rattle.hierarchy.specs.Flat.{Level, NetTable, NetRegister, step, path_of, resolve, resolved_control, main_of, main_level}
+use Rattle.hierarchy.specs.Private.Texts.{elements_with, elements_to, flat_elements, flat_model}
+use Rattle.hierarchy.specs.Private.Texts.{walked, clash_after}
+use Rattle.hierarchy.specs.Private.Walk.{model_at, no_element}
+use Rattle.hierarchy.specs.Private.Chains.{IsSameFlat}
 use Rattle.hierarchy.proofs.Substitutes.{StandFor, AreStandIns, IsStandIn}
 use Rattle.hierarchy.proofs.Totals.{first_model}
 use Rattle.hierarchy.proofs.MainCosts.{few_placed, main_place}
@@ -118,4 +119,8 @@ module _ (library : List PlainModel) (order : List ℕ) (ordered : IsOrder (grap
       clash = ap (clash_after []) walked_same;
     }
 
-pub ruleset stand_in_laws = (same_flat)
+-- models stand for themselves
+pub flat_itself : (library : List PlainModel) → IsSameFlat library library
+flat_itself library = record { names = refl; long = refl; flat = refl; clash = refl }
+
+pub ruleset stand_in_laws = (flat_itself)

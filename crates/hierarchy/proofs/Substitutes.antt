@@ -2,8 +2,9 @@
 use Rattle.std.specs.Prelude.{◌≡◌, ◌≤◌, ◌<◌, ℕ, List, length, slice_index, slice_index_or, Some}
 use Rattle.blif_text.specs.Models.{PlainElement, Instance, PlainModel}
 use Rattle.hierarchy.specs.Graph.{names_of, number_named}
-use Rattle.hierarchy.specs.Flat.{Level, elements_with, elements_to}
-use Rattle.hierarchy.specs.Walk.{model_at, no_element}
+use Rattle.hierarchy.specs.Flat.{Level}
+use Rattle.hierarchy.specs.Private.Texts.{elements_with, elements_to}
+use Rattle.hierarchy.specs.Private.Walk.{model_at, no_element}
 
 -- these elements may stand for those of the model at this place of the order: they are the same flat elements, and place
 -- models that stand before it alone

@@ -1,10 +1,11 @@
 -- What is still to come before the first element of a walk.
 use Rattle.std.proofs.Common.{◌≡◌, ◌-◌, List, [], ◌∷◌, length, refl, ap, ◌∙◌, arith, append-nil, None}
 use Rattle.blif_text.specs.Models.{PlainModel}
-use Rattle.hierarchy.specs.declared.walk.Walk.{Walk}
-use Rattle.hierarchy.specs.declared.walk.Frame.{Frame}
-use Rattle.hierarchy.specs.Flat.{main_of, main_level, elements_with, elements_to, flat_elements}
-use Rattle.hierarchy.specs.Walk.{model_at, coming, coming_from, innermost_first}
+use Rattle.hierarchy.specs.declared.walking.walk.Walk.{Walk}
+use Rattle.hierarchy.specs.declared.walking.walk.Frame.{Frame}
+use Rattle.hierarchy.specs.Flat.{main_of, main_level}
+use Rattle.hierarchy.specs.Private.Texts.{elements_with, elements_to, flat_elements}
+use Rattle.hierarchy.specs.Private.Walk.{model_at, coming, coming_from, innermost_first}
 
 -- before the first element all elements are still to come
 root : Frame

@@ -4,7 +4,7 @@ use Rattle.std.specs.Prelude.{slice_get, slice_index_or, option_and_then, IfSome
 use Rattle.std.specs.List.{position_or_len}
 use Rattle.std.specs.Str.{bytes_eq}
 use Rattle.std.proofs.lemmas.Bool.{cases_lt, cond-true, lt-ltb, false_from_ne_true}
-use Rattle.std.proofs.lemmas.List.{get_or-map, get_or_append_left, get_or_push, get_or_past, length_push, length-map, map-append}
+use Rattle.std.proofs.lemmas.List.{get_or-map, get_or_append_left, get_or_push, get_or_past, get_or_default, length_push, length-map, map-append}
 use Rattle.std.proofs.lemmas.List.Sums.{position_or_len_is}
 use Rattle.std.proofs.lemmas.Option.{slice_get-get_or, slice_get_within, get_or_from_slice_get}
 use Rattle.std.proofs.lemmas.Slice.Eq.{bytes_eq-Decides}
@@ -13,15 +13,15 @@ use Rattle.blif_text.specs.Library.{name_of, Differ}
 use Rattle.blif_text.specs.declared.library.BlifModel.{BlifModel}
 use Rattle.blif_text.specs.declared.library.Element.{Element}
 use Rattle.blif_text.specs.Views.{plain_model, plain_element}
-use Rattle.hierarchy.specs.declared.chains.Way.{Way}
+use Rattle.hierarchy.specs.declared.cutting.chains.Way.{Way}
 use Rattle.hierarchy.specs.Graph.{graph, names_of, number_named}
 use Rattle.hierarchy.specs.Found.{IsOrder}
 use Rattle.hierarchy.specs.Flat.{no_model}
-use Rattle.hierarchy.specs.declared.count.Count.{Count}
-use Rattle.hierarchy.specs.Counts.{ArePlaces, AreCounts, count_at}
-use Rattle.hierarchy.specs.Links.{IsBare}
-use Rattle.hierarchy.specs.Walk.{model_at, no_element}
-use Rattle.hierarchy.specs.Chains.{IsOnly, IsHandedWay, IsEndWay, IsWay, AreWays, way_at, way_named, AreElementsFor, IsShort}
+use Rattle.hierarchy.specs.declared.lengths.count.Count.{Count}
+use Rattle.hierarchy.specs.Private.Counts.{ArePlaces, AreCounts, count_at}
+use Rattle.hierarchy.specs.Private.Links.{IsBare}
+use Rattle.hierarchy.specs.Private.Walk.{model_at, no_element}
+use Rattle.hierarchy.specs.Private.Chains.{IsOnly, IsHandedWay, IsEndWay, IsWay, AreWays, way_at, way_named, IsOfWay, IsShort}
 use Rattle.hierarchy.proofs.Substitutes.{StandFor, AreStandIns}
 use Rattle.hierarchy.proofs.Moved.{at_model}
 use Rattle.hierarchy.proofs.OneElement.{element_is}
@@ -95,9 +95,12 @@ named_itself library y differ below = cond-true (ltb (position_or_len (bytes_eq 
         (λ l. (bytes_eq-Decides name (get_or (names_of library) y [])).1 (sym there))
 
 module _ (library : List PlainModel) (order positions : List ℕ) (ways : List (Option Way)) (ordered : IsOrder (graph library) order) (places : ArePlaces order positions) (all : AreWays library order ways) (differ : Differ (names_of library)) where
-  elements_stand : (place x : ℕ) (elements : List PlainElement) → place < length order → get_or order place 0 ≡ x → AreElementsFor library positions ways x elements → StandFor library order place elements
+  name_at : (y : ℕ) → y < length (names_of library) → get_or (names_of library) y [] ≡ (model_at library y).name
+  name_at y below = get_or-map name_of library y no_model [] (omega (arith, length-map library name_of))
+
+  elements_stand : (place x : ℕ) (elements : List PlainElement) → place < length order → get_or order place 0 ≡ x → (elements ≡ (model_at library x).elements) ⊎ IsOfWay (names_of library) positions ways x elements → StandFor library order place elements
   elements_stand place x elements below at (inl same) = subst (StandFor library order place) (ap (λ v. (model_at library v).elements) at ∙ sym same) (itself_stands library order ordered place below)
-  elements_stand place x elements below at (inr w) = subst (StandFor library order place) (sym w.is) (way_stands library order ordered place w.way (model_at library w.way.base).name (all place w.way there) (λ e. w.other (sym e ∙ at)) (named_itself library w.way.base differ w.within))
+  elements_stand place x elements below at (inr w) = subst (StandFor library order place) (sym (w.is ∙ ap (λ n. Instance n w.way.nets.items ∷ []) (name_at w.way.base w.within))) (way_stands library order ordered place w.way (model_at library w.way.base).name (all place w.way there) (λ e. w.other (sym e ∙ at)) (named_itself library w.way.base differ (let b = w.within in omega (arith, length-map library name_of))))
     where
       found : get_or ways place None ≡ Some w.way
       found = sym (ap (option_and_then (λ p. get_or ways p None)) (subst (λ v. slice_get positions v ≡ Some place) at (places place below))) ∙ w.at
@@ -112,7 +115,7 @@ module _ (library : List PlainModel) (order positions : List ℕ) (ways : List (
       there : slice_get ways place ≡ Some (Some w.way)
       there = slice_get-get_or ways place None within ∙ ap (λ o. Some o) found
 
-  pub stand_ins_are : (models : List PlainModel) → length models ≡ length library → ((x : ℕ) → x < length library → IsShort library positions ways x (model_at models x)) → AreStandIns library order models
+  pub stand_ins_are : (models : List PlainModel) → length models ≡ length library → ((x : ℕ) → x < length library → IsShort (names_of library) positions ways x (model_at library x) (model_at models x)) → AreStandIns library order models
   stand_ins_are models long each = record {
     long = long;
     each = λ x l. record {
@@ -124,24 +127,38 @@ module _ (library : List PlainModel) (order positions : List ℕ) (ways : List (
   }
 
 -- the statement of a way, in the words of the call
-pub of_way : (models : List BlifModel) (positions : List ℕ) (ways : List (Option Way)) (x : ℕ) (way : Way) (item : BlifModel) (name : List ℕ) (nets : List (List ℕ × List ℕ)) (elements : List PlainElement) → Some way ≡ way_at positions ways x → way.base ≢ x → way.base < length models → item ≡ get_or models way.base item → name ≡ item.name → nets ≡ way.nets.items → elements ≡ Instance name nets ∷ [] → AreElementsFor (map plain_model models) positions ways x elements
-of_way models positions ways x way item name nets elements at other below is named bound made = inr (record {
+pub of_way : (names : List (List ℕ)) (positions : List ℕ) (ways : List (Option Way)) (x : ℕ) (way : Way) (name : List ℕ) (nets : List (List ℕ × List ℕ)) (elements : List PlainElement) → Some way ≡ way_at positions ways x → way.base ≢ x → way.base < length names → name ≡ get_or names way.base name → nets ≡ way.nets.items → elements ≡ Instance name nets ∷ [] → IsOfWay names positions ways x elements
+of_way names positions ways x way name nets elements at other below is bound made = record {
   way = way;
   at = sym at;
   other = other;
-  within = omega (arith, length-map models plain_model);
-  is = made ∙ (ap (λ n. Instance n nets ∷ []) (named ∙ sym (ap (λ m. m.name) (at_model models way.base item below is))) ∙ ap (λ b. Instance (model_at (map plain_model models) way.base).name b ∷ []) bound);
-})
+  within = below;
+  is = made ∙ (ap (λ n. Instance n nets ∷ []) (is ∙ get_or_default names way.base name [] below) ∙ ap (λ b. Instance (get_or names way.base []) b ∷ []) bound);
+}
+
+-- a model stands for itself, and so does one with the statement of its way
+pub short_itself : (names : List (List ℕ)) (positions : List ℕ) (ways : List (Option Way)) (x : ℕ) (m : PlainModel) → IsShort names positions ways x m m
+short_itself names positions ways x m = record { name = refl; inputs = refl; outputs = refl; elements = inl refl }
+
+pub short_way : (names : List (List ℕ)) (positions : List ℕ) (ways : List (Option Way)) (x : ℕ) (m short : PlainModel) (elements : List PlainElement) → short ≡ record m { elements = elements } → IsOfWay names positions ways x elements → IsShort names positions ways x m short
+short_way names positions ways x m short elements is way = record {
+  name = ap (λ k. k.name) is;
+  inputs = ap (λ k. k.inputs) is;
+  outputs = ap (λ k. k.outputs) is;
+  elements = inr (subst (IsOfWay names positions ways x) (sym (ap (λ k. k.elements) is)) way);
+}
+
+pub ruleset short_laws = (short_itself, short_way)
 
 -- one model more
-pub shorts_more : (library : List PlainModel) (found : List BlifModel) (positions : List ℕ) (ways : List (Option Way)) (n : ℕ) (m : BlifModel) → length found ≡ n → ((k : ℕ) → k < n → IsShort library positions ways k (model_at (map plain_model found) k)) → IsShort library positions ways n (plain_model m) → (k : ℕ) → k < n + 1 → IsShort library positions ways k (model_at (map plain_model (found ++ m ∷ [])) k)
-shorts_more library found positions ways n m long each one k below = subst (λ ms. IsShort library positions ways k (model_at ms k)) (sym (map-append plain_model found (m ∷ []))) (go (cases_lt k n))
+pub shorts_more : (library : List PlainModel) (found : List BlifModel) (names : List (List ℕ)) (positions : List ℕ) (ways : List (Option Way)) (n : ℕ) (own m : BlifModel) → length found ≡ n → model_at library n ≡ plain_model own → ((k : ℕ) → k < n → IsShort names positions ways k (model_at library k) (model_at (map plain_model found) k)) → IsShort names positions ways n (plain_model own) (plain_model m) → (k : ℕ) → k < n + 1 → IsShort names positions ways k (model_at library k) (model_at (map plain_model (found ++ m ∷ [])) k)
+shorts_more library found names positions ways n own m long is each one k below = subst (λ ms. IsShort names positions ways k (model_at library k) (model_at ms k)) (sym (map-append plain_model found (m ∷ []))) (go (cases_lt k n))
   where
     all : length (map plain_model found) ≡ n
     all = length-map found plain_model ∙ long
 
-    go : (k < n) ⊎ (n ≤ k) → IsShort library positions ways k (model_at (map plain_model found ++ plain_model m ∷ []) k)
-    go (inl l) = subst (IsShort library positions ways k) (sym (get_or_append_left (map plain_model found) (plain_model m ∷ []) no_model k (let a = all in omega arith))) (each k l)
+    go : (k < n) ⊎ (n ≤ k) → IsShort names positions ways k (model_at library k) (model_at (map plain_model found ++ plain_model m ∷ []) k)
+    go (inl l) = subst (IsShort names positions ways k (model_at library k)) (sym (get_or_append_left (map plain_model found) (plain_model m ∷ []) no_model k (let a = all in omega arith))) (each k l)
     go (inr l) =
         let end : n ≡ k = omega arith in
-        subst (λ v. IsShort library positions ways v (model_at (map plain_model found ++ plain_model m ∷ []) v)) end (subst (IsShort library positions ways n) (sym (get_or_push (map plain_model found) (plain_model m) no_model n all)) one)
+        subst (λ v. IsShort names positions ways v (model_at library v) (model_at (map plain_model found ++ plain_model m ∷ []) v)) end (subst (IsShort names positions ways n (model_at library n)) (sym (get_or_push (map plain_model found) (plain_model m) no_model n all)) (subst (λ own. IsShort names positions ways n own (plain_model m)) (sym is) one))

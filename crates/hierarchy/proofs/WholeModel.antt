@@ -4,13 +4,15 @@ use Rattle.std.specs.Prelude.{flat_map}
 use Rattle.std.specs.Str.{bytes_eq}
 use Rattle.std.specs.Map.{lookup}
 use Rattle.blif_text.specs.Models.{PlainElement, PlainModel}
-use Rattle.hierarchy.specs.declared.naming.NamingFault.{NamingFault}
-use Rattle.hierarchy.specs.declared.naming.NamingFault.TheVariants.{Clash, Memory}
-use Rattle.hierarchy.specs.declared.walk.Walk.{Walk}
-use Rattle.hierarchy.specs.Flat.{Level, named, net_text, resolve, actual_of, main_level, main_of, flat_elements, flat_model}
-use Rattle.hierarchy.specs.Clash.{nets_of, main_net, walked, clash_after, name_clash}
-use Rattle.hierarchy.specs.Naming.{AreNamed, IsNamingFault, IsNamed, IsClash}
-use Rattle.hierarchy.specs.Walk.{levels_of, level_of, innermost_first}
+use Rattle.hierarchy.specs.declared.walking.naming.NamingFault.{NamingFault}
+use Rattle.hierarchy.specs.declared.walking.naming.NamingFault.TheVariants.{Clash, Memory}
+use Rattle.hierarchy.specs.declared.walking.walk.Walk.{Walk}
+use Rattle.hierarchy.specs.Flat.{Level, resolve, actual_of, main_level, main_of}
+use Rattle.hierarchy.specs.Private.Texts.{named, net_text, flat_elements, flat_model}
+use Rattle.hierarchy.specs.Clash.{nets_of, main_net}
+use Rattle.hierarchy.specs.Private.Texts.{walked, clash_after, name_clash}
+use Rattle.hierarchy.specs.Private.Naming.{AreNamed, IsNamingFault, IsNamed, IsClash}
+use Rattle.hierarchy.specs.Private.Walk.{levels_of, level_of, innermost_first}
 use Rattle.hierarchy.proofs.NetNames.{named_join, clash_join}
 
 -- names of the main model are nets of their own

@@ -1,6 +1,6 @@
 -- Texts that two nets share.
-use Rattle.std.specs.Prelude.{ℕ, Bool, false, ◌&&◌, not, List, [], ◌∷◌, ◌++◌, map, flat_map, find, Option, Some, None, if◌then◌else◌}
-use Rattle.std.specs.Option.{option_map_or}
+use Rattle.std.specs.Prelude.{ℕ, Bool, ◌&&◌, not, List, [], ◌∷◌, ◌++◌, map, flat_map, Option, Some, None, if◌then◌else◌}
+use Rattle.std.specs.List.{list_any}
 use Rattle.std.specs.Str.{bytes_eq}
 use Rattle.tmr_base.specs.declared.ids.Edge.{Edge}
 use Rattle.blif_text.specs.Models.{PlainModel}
@@ -25,12 +25,13 @@ walked library = map main_net (main_of library).inputs ++ flat_map nets_of (flat
 abbrev pub same_net : PlacedNet → PlacedNet → Bool
 same_net a b = bytes_eq a.path b.path && bytes_eq a.name b.name
 
-abbrev pub has_text : List ℕ → PlacedNet → Bool
-has_text text net = bytes_eq (net_text net) text
+-- the other net has the same text, and is not the same
+abbrev pub clashes : PlacedNet → PlacedNet → Bool
+clashes net other = bytes_eq (net_text other) (net_text net) && not (same_net other net)
 
--- the first of the nets before it that has its text is another net
+-- an earlier different net has its text
 abbrev pub is_taken : List PlacedNet → PlacedNet → Bool
-is_taken before net = option_map_or (λ other. not (same_net other net)) (find (has_text (net_text net)) before) false
+is_taken before net = list_any (clashes net) before
 
 -- the first text that an earlier different net has
 unfoldable pub clash_after : List PlacedNet → List PlacedNet → Option (List ℕ)

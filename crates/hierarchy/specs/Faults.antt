@@ -2,8 +2,8 @@
 use Rattle.std.specs.Prelude.{ℕ, ◌||◌, not, List, [], ◌∷◌, ◌++◌, map, Option, Some, None, option_map, option_and_then, find, slice_get, if◌then◌else◌}
 use Rattle.blif_text.specs.Kind.{is_among}
 use Rattle.blif_text.specs.Models.{PlainElement, Table, Register, Instance, PlainModel}
-use Rattle.hierarchy.specs.declared.fault.PlacingFault.{PlacingFault}
-use Rattle.hierarchy.specs.declared.fault.PlacingFault.TheVariants.{UnknownModel, UnboundInput, UnknownFormal, DuplicateFormal, BothWays}
+use Rattle.hierarchy.specs.declared.placed.fault.PlacingFault.{PlacingFault}
+use Rattle.hierarchy.specs.declared.placed.fault.PlacingFault.TheVariants.{UnknownModel, UnboundInput, UnknownFormal, DuplicateFormal, BothWays}
 use Rattle.hierarchy.specs.Graph.{names_of, number_named}
 use Rattle.hierarchy.specs.Ports.{PlainPorts, ports_of}
 

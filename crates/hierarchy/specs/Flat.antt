@@ -1,6 +1,6 @@
 -- The flat elements of a library: the main model's tables and registers in order, with the elements of each placed model at the
 -- place of its `.subckt` statement.
-use Rattle.std.specs.Prelude.{ℕ, zero, suc, ◌+◌, List, [], ◌∷◌, ◌++◌, length, map, Option, Some, None, if◌then◌else◌}
+use Rattle.std.specs.Prelude.{ℕ, zero, suc, ◌+◌, List, [], ◌∷◌, ◌++◌, length, map, flat_map, Option, Some, None, if◌then◌else◌}
 use Rattle.std.specs.Option.{option_map_or}
 use Rattle.std.specs.Str.{bytes_eq}
 use Rattle.std.specs.Fmt.{decimal}
@@ -10,23 +10,27 @@ use Rattle.blif_text.specs.declared.library.Init.{Init}
 use Rattle.blif_text.specs.Models.{PlainElement, Table, Register, Instance, PlainModel}
 use Rattle.hierarchy.specs.Graph.{model_named}
 
--- a net: the text of its path, and its name. A path is the list of numbers of `.subckt` statements from the main model
--- inwards, and its text has `u`, the number and `/` for each of them, so different paths have different texts.
+-- a net: the path of the placed model that has it, and its name in that model. A path is the list of the numbers of `.subckt`
+-- statements from the main model inwards.
 pub record PlacedNet : Type 0 where
   pub path : List ℕ
   pub name : List ℕ
 
-abbrev pub net_text : PlacedNet → List ℕ
-net_text net = net.path ++ net.name
-
--- a placed model: the text of its path, and what its statement binds
-pub record Level : Type 0 where
-  pub path : List ℕ
-  pub bindings : List (List ℕ × List ℕ)
-
 -- `u`, the number of the statement, and `/`
 unfoldable pub step : ℕ → List ℕ
 step number = 117 ∷ (decimal number ++ 47 ∷ [])
+
+-- this for each number of a path
+abbrev pub path_text : List ℕ → List ℕ
+path_text path = flat_map step path
+
+abbrev pub net_text : PlacedNet → List ℕ
+net_text net = path_text net.path ++ net.name
+
+-- a placed model: its path, and what its statement binds
+pub record Level : Type 0 where
+  pub path : List ℕ
+  pub bindings : List (List ℕ × List ℕ)
 
 -- the main model: its path is empty, and nothing is bound
 abbrev pub main_level : Level
@@ -66,7 +70,7 @@ elements_with inner levels number (Register pin out control init ∷ elements) =
     NetRegister (resolve levels pin) (resolve levels out) (resolved_control levels control) init
     ∷ elements_with inner levels number elements
 elements_with inner levels number (Instance model bindings ∷ elements) =
-    inner (record { path = path_of levels ++ step number; bindings = bindings } ∷ levels) model
+    inner (record { path = path_of levels ++ number ∷ []; bindings = bindings } ∷ levels) model
     ++ elements_with inner levels (number + 1) elements
 
 -- the elements of the model of this name placed at these levels, which has at most so many models below one another

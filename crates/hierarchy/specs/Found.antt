@@ -1,7 +1,7 @@
 -- What a walk over models ends with.
 use Rattle.std.specs.Prelude.{◌≡◌, ◌≢◌, ℕ, ◌<◌, List, length, slice_index, Contains}
-use Rattle.hierarchy.specs.declared.order.Found.{Found}
-use Rattle.hierarchy.specs.declared.order.Found.TheVariants.{Order, Loop}
+use Rattle.hierarchy.specs.declared.survey.order.Found.{Found}
+use Rattle.hierarchy.specs.declared.survey.order.Found.TheVariants.{Order, Loop}
 use Rattle.hierarchy.specs.Graph.{row, Reached}
 use Rattle.hierarchy.specs.Library.{IsLoop}
 

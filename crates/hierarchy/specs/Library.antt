@@ -1,7 +1,7 @@
 -- The first fault of a library.
 use Rattle.std.specs.Prelude.{◌≡◌, ◌≢◌, ℕ, suc, ◌-◌, ◌<◌, ◌≤◌, List, map, length, [], Option, Some, None, slice_get, slice_index, slice_index_or}
 use Rattle.blif_text.specs.Models.{PlainModel}
-use Rattle.hierarchy.specs.declared.fault.PlacingFault.{PlacingFault}
+use Rattle.hierarchy.specs.declared.placed.fault.PlacingFault.{PlacingFault}
 use Rattle.hierarchy.specs.Graph.{graph, names_of, Places, Reached}
 use Rattle.hierarchy.specs.Faults.{model_fault}
 

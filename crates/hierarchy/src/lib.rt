@@ -6,37 +6,15 @@
 //! library alone. Nothing here recurses over the hierarchy: it is walked by a stack.
 #![tactic(auto)]
 
-mod bare;
-mod chains;
-mod copies;
-mod count;
-mod counting;
-mod cut_short;
-mod drafted;
-mod fault;
+mod cutting;
+mod design;
 mod flat_fault;
-mod flat_text;
-mod flattening;
-mod heads;
-mod library;
-mod links;
-mod model_names;
-mod named_element;
-mod named_model;
-mod naming;
-mod order;
-mod placed_text;
-mod placing;
-mod placings;
-mod ports;
-mod reach;
-mod resolve;
-mod walk;
+mod laws;
+mod lengths;
+mod placed;
+mod survey;
+mod walking;
 
-pub use drafted::draft_of;
-use drafted::{into_draft, open_marks};
-use fault::PlacingFault;
+pub use design::flattening::{Flat, flatten, flatten_free, flatten_owned};
 pub use flat_fault::FlatFault;
-pub use flat_text::text_length;
-pub use flattening::{Flat, flatten, flatten_free, flatten_owned};
-use ports::Ports;
+pub use laws::{depth_suffices, paths_differ};

@@ -1,0 +1,32 @@
+use Rattle.std.proofs.Common.{◌≡◌, ◌<◌, ◌∙◌, ℕ, suc, ◌+◌, List, [], ◌∷◌, ◌++◌, length, get_or, refl, drop, map, sym, ap, subst, arith}
+use Rattle.std.specs.Vec.Iter.{into_iter_items}
+use Rattle.std.proofs.lemmas.List.{length_push, get_or-map}
+use Rattle.blif_text.specs.Views.{plain_model}
+use Rattle.blif_text.specs.declared.library.BlifModel.{BlifModel}
+use Rattle.hierarchy.specs.Flat.{no_model}
+use Rattle.hierarchy.specs.Private.Walk.{model_at}
+use Rattle.hierarchy.specs.Private.Chains.{IsShort}
+use Rattle.hierarchy.proofs.Items.{next_left}
+use Rattle.hierarchy.proofs.Ways.{shorts_more}
+use Rattle.hierarchy.proofs.cutting.cut_short.stand_ins.Goals as goal
+
+pub loop-model-preserved : goal.loop-model-preserved
+loop-model-preserved c = record {
+  within = omega (arith, longer, here.0);
+  left = here.2 ∙ ap (λ n. drop n c.args.models.items) (sym longer);
+  each = λ k below. subst (λ found. IsShort c.args.names.now c.args.positions.now c.args.ways.now k (model_at (map plain_model c.args.models.items) k) (model_at (map plain_model found) k)) (sym c.in_ok-push.ensures.items)
+      (shorts_more (map plain_model c.args.models.items) c.loop-model.found.items c.args.names.now c.args.positions.now c.args.ways.now (length c.loop-model.found.items) c.in-Some.model c.in_ok-short.short refl
+      (get_or-map plain_model c.args.models.items (length c.loop-model.found.items) c.in-Some.model no_model here.0 ∙ ap plain_model here.1)
+      c.loop-model.invariant.each
+      (subst (λ x. IsShort c.args.names.now c.args.positions.now c.args.ways.now x (plain_model c.in-Some.model) (plain_model c.in_ok-short.short)) number c.in_ok-short.ensures)
+      k (omega (arith, below, longer)));
+}
+  where
+    number : c.len-x.result ≡ length c.loop-model.found.items
+    number = omega (arith, c.len-x.ensures)
+
+    here : (length c.loop-model.found.items < length c.args.models.items) × (get_or c.args.models.items (length c.loop-model.found.items) c.in-Some.model ≡ c.in-Some.model) × (into_iter_items c.next.new.self ≡ drop (suc (length c.loop-model.found.items)) c.args.models.items)
+    here = next_left (length c.loop-model.found.items) c.args.models.items c.in-Some.model c.in-Some.model (into_iter_items c.next.new.self) (sym c.in-Some.ensures.steps.0 ∙ c.loop-model.invariant.left)
+
+    longer : length c.push.new.self.items ≡ suc (length c.loop-model.found.items)
+    longer = omega (arith, ap length c.in_ok-push.ensures.items, length_push c.loop-model.found.items c.in_ok-short.short)

@@ -1,0 +1,13 @@
+use Rattle.std.proofs.Common.{◌≡◌, ◌<◌, ◌≤◌, ℕ, length, map, drop}
+use Rattle.std.specs.Vec.Iter.{into_iter_items}
+use Rattle.blif_text.specs.Views.{plain_model}
+use Rattle.hierarchy.specs.Private.Walk.{model_at}
+use Rattle.hierarchy.specs.Private.Chains.{IsShort}
+use Rattle.hierarchy.proofs.cutting.cut_short.stand_ins.Given as goal
+
+abbrev pub invariant-loop-model : goal.invariant-loop-model
+invariant-loop-model l = record {
+  within : length l.found.items ≤ length l.fn.models.items;
+  left : into_iter_items l.model-iterator ≡ drop (length l.found.items) l.fn.models.items;
+  each : (k : ℕ) → k < length l.found.items → IsShort l.names l.positions l.ways k (model_at (map plain_model l.fn.models.items) k) (model_at (map plain_model l.found.items) k);
+}

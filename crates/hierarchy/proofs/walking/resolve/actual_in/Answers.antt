@@ -1,0 +1,24 @@
+use Rattle.std.proofs.Common.{◌≡◌, ◌∙◌, ◌<◌, sym, ap, map, length, get_or, subst, arith, Some}
+use Rattle.std.proofs.lemmas.List.{length-map}
+use Rattle.blif_text.specs.Views.{plain_model, plain_element}
+use Rattle.hierarchy.specs.Flat.{actual_of}
+use Rattle.hierarchy.specs.Private.Links.{bindings_of, Binds}
+use Rattle.hierarchy.specs.Private.Walk.{bound_by, element_at, IsPlacing}
+use Rattle.hierarchy.proofs.Linked.{rows_long, row_long}
+use Rattle.hierarchy.proofs.Moved.{binds_at, at_element, at_model}
+use Rattle.hierarchy.proofs.walking.resolve.actual_in.Goals as goal
+
+pub link_at-requires-clause-row : goal.link_at-requires-clause-row
+link_at-requires-clause-row c =
+    let p : IsPlacing (map plain_model c.args.models.now) (Some (c.in-Some.x, c.in-Some.i)) = subst (IsPlacing (map plain_model c.args.models.now)) c.in-Some.is c.requires.placing in
+    omega (arith, rows_long _ c.requires.ready.holds c.args.rows.now (map plain_model c.args.models.now) c.requires.ready.links, p.0)
+
+pub link_at-requires-clause-link : goal.link_at-requires-clause-link
+link_at-requires-clause-link c = λ row e.
+    let p : IsPlacing (map plain_model c.args.models.now) (Some (c.in-Some.x, c.in-Some.i)) = subst (IsPlacing (map plain_model c.args.models.now)) c.in-Some.is c.requires.placing in
+    row_long (map plain_model c.args.models.now) _ c.requires.ready.holds c.args.rows.now c.requires.ready.links c.in-Some.x c.in-Some.i row p.1 e
+
+pub actual_at-requires : goal.actual_at-requires
+actual_at-requires c =
+    let p : IsPlacing (map plain_model c.args.models.now) (Some (c.in-Some.x, c.in-Some.i)) = subst (IsPlacing (map plain_model c.args.models.now)) c.in-Some.is c.requires.placing in
+    subst (λ e. Binds c.link_at.result.now.actuals (bindings_of e)) (sym c.element_in.ensures) (binds_at (map plain_model c.args.models.now) c.args.rows.now c.requires.ready c.in-Some.x c.in-Some.i c.link_at.result.now p.0 c.link_at.ensures)

@@ -1,0 +1,147 @@
+//! The net of a name in a placed model.
+ghost use Rattle.std.specs.Prelude.{◌≡◌, ◌≤◌, ◌∷◌, List, length, map, reverse, take, option_copied, IfOk, OnOk};
+ghost use Rattle.std.specs.Str.{bytes_eq};
+ghost use Rattle.indexmap.specs.IndexMap.{get};
+ghost use Rattle.blif_text.specs.Views.{plain_model, plain_element};
+ghost use Rattle.hierarchy.specs.Private.Links.{bindings_of, Binds};
+ghost use Rattle.hierarchy.specs.Flat.{resolve as net_of, actual_of};
+ghost use Rattle.hierarchy.specs.declared.walking.walk.Frame.{Frame};
+ghost use Rattle.hierarchy.specs.Private.Walk.{IsReady, IsPlacing, IsWalking, AreWithin, bound_by, innermost_first, known_net, levels_of};
+
+use crate::walking::links::{Link, Row, actual_at};
+use crate::walking::walk::{Walk, element_in, link_at};
+use blif_text::{BlifModel, Element};
+use indexmap::IndexMap;
+use std::alloc::Global;
+use tmr_base::{Name, OutOfMemory};
+
+/// From this depth on a walk follows the names that stand below a placed model when it is entered. Above
+/// it a name is followed wherever it stands.
+const DEEP: usize = 16;
+
+/// What the statement that places a model binds the name to.
+#[tactic(auto, unfolding(crate::specs::Flat::actual_of))]
+fn actual_in<'a>(
+    models: &'a [BlifModel],
+    rows: &'a [Row],
+    placing: Option<(usize, usize)>,
+    name: &Name,
+) -> Option<&'a Name>
+    requires ready { IsReady (map plain_model models.now) rows.now }
+    requires placing { IsPlacing (map plain_model models.now) placing }
+    ensures { option_copied result ≡ actual_of (bound_by (map plain_model models.now) placing) name.now }
+{
+    match placing {
+        Some((x, i)) => actual_at(link_at(rows, x, i), element_in(models, x, i), name),
+        None => None,
+    }
+}
+
+/// What is known of a name. Where nothing is known, no name is hashed.
+fn net_among<'a>(nets: &'a IndexMap<Name, (usize, Name)>, name: &Name) -> Option<&'a (usize, Name)>
+    ensures { option_copied result ≡ get bytes_eq nets.now name.now }
+{
+    if nets.is_empty() {
+        return None;
+    }
+    nets.get(name)
+}
+
+/// The net of a name in the placed model of this depth, where the walk knows it.
+fn known_at<'a>(walk: &'a Walk, depth: usize, name: &Name) -> Option<&'a (usize, Name)>
+    ensures { option_copied result ≡ known_net walk.now depth name.now }
+{
+    let nets = walk.known.get(depth)?;
+    net_among(nets, name)
+}
+
+/// The net of a name in the innermost placed model of the walk: where its path ends in the walk's path,
+/// and its name.
+pub(crate) fn resolve<'a>(
+    models: &'a [BlifModel],
+    rows: &'a [Row],
+    walk: &'a Walk,
+    name: &'a Name,
+) -> (usize, &'a Name)
+    requires ready { IsReady (map plain_model models.now) rows.now }
+    requires walking { IsWalking (map plain_model models.now) walk.now }
+    ensures within { result.0 ≤ length walk.now.path.items }
+    ensures inner { (f : Frame) (frames : List Frame) → innermost_first walk.now ≡ f ∷ frames → result.0 ≤ f.path_end }
+    ensures net { net_of (levels_of (map plain_model models.now) walk.now) name.now ≡ record { path = take result.0 walk.now.path.items; name = result.1.now } }
+{
+    let mut found = name;
+    let mut depth = walk.frames.len();
+    while depth > 0 {
+        let frame = &walk.frames[depth - 1];
+        if let Some((end, net)) = known_at(walk, depth - 1, found) {
+            return (*end, net);
+        }
+        match actual_in(models, rows, frame.placing, found) {
+            Some(actual) => found = actual,
+            None => return (frame.path_end, found),
+        }
+        depth -= 1;
+    }
+    (0, found)
+}
+
+/// The formal of the binding at this place of a statement.
+fn formal_at(element: &Element, place: usize) -> Option<&Name> {
+    match element {
+        Element::Instance { bindings, .. } => Some(&bindings.get(place)?.0),
+        Element::Table { .. } | Element::Latch { .. } => None,
+    }
+}
+
+/// One formal more of a statement in the innermost placed model of the walk has its net.
+fn add_known(
+    alloc: Global,
+    models: &[BlifModel],
+    rows: &[Row],
+    walk: &Walk,
+    link: &Link,
+    element: &Element,
+    nets: &mut IndexMap<Name, (usize, Name)>,
+    formal: &Name,
+) -> Result<(), OutOfMemory>
+    requires ready { IsReady (map plain_model models.now) rows.now }
+    requires walking { IsWalking (map plain_model models.now) walk.now }
+    requires binds { Binds link.now.actuals (bindings_of (plain_element element.now)) }
+    ensures { OnOk result (AreWithin (map plain_model models.now) walk.now (bindings_of (plain_element element.now)) (get bytes_eq nets.old) → AreWithin (map plain_model models.now) walk.now (bindings_of (plain_element element.now)) (get bytes_eq nets.new)) }
+{
+    let Some(actual) = actual_at(link, element, formal) else {
+        return Ok(());
+    };
+    let (end, net) = resolve(models, rows, walk, actual);
+    let key = formal.copy(alloc)?;
+    let net = net.copy(alloc)?;
+    nets.insert(key, (end, net))?;
+    Ok(())
+}
+
+/// The nets of the formals of a statement in the innermost placed model of the walk that stand below it.
+/// A walk that is not deep follows each name when it is asked for.
+pub(crate) fn nets_within(
+    alloc: Global,
+    models: &[BlifModel],
+    rows: &[Row],
+    walk: &Walk,
+    link: &Link,
+    element: &Element,
+) -> Result<IndexMap<Name, (usize, Name)>, OutOfMemory>
+    requires ready { IsReady (map plain_model models.now) rows.now }
+    requires walking { IsWalking (map plain_model models.now) walk.now }
+    requires binds { Binds link.now.actuals (bindings_of (plain_element element.now)) }
+    ensures { IfOk result (λ nets. AreWithin (map plain_model models.now) walk.now (bindings_of (plain_element element.now)) (get bytes_eq nets)) }
+{
+    let mut nets = IndexMap::new(alloc);
+    if walk.frames.len() < DEEP {
+        return Ok(nets);
+    }
+    for place in &link.asked {
+        if let Some(formal) = formal_at(element, *place) {
+            add_known(alloc, models, rows, walk, link, element, &mut nets, formal)?;
+        }
+    }
+    Ok(nets)
+}
