@@ -12,7 +12,7 @@ use crate::words::{first_word, long_number};
 use blif_text::Library;
 use blif_writer::{write_flat, write_free};
 use flat_net::{FlatNet, FreeNet, Kind};
-use hierarchy::{Flat, FlatFault, flatten, flatten_free, text_length};
+use hierarchy::{Flat, FlatFault, flatten, flatten_free};
 use std::alloc::{AllocError, Global};
 use tmr_base::{Edge, Name, NetId};
 
@@ -263,35 +263,20 @@ fn found_nets(net: &FlatNet, names: &[Name]) -> u32 {
     found
 }
 
-/// How many bytes of flat text the first model of a text has.
-fn first_length(library: &Library) -> u64 {
-    match library.models().first() {
-        Some(model) => text_length(model),
-        None => 0,
-    }
-}
-
-fn length_of(alloc: Global, bytes: &[u8]) -> Result<u64, Stop> {
-    let library = library_of(alloc, bytes)?;
-    Ok(first_length(&library))
-}
-
-fn find_text(alloc: Global, net: &FlatNet, length: u64) -> Result<String, AllocError> {
+fn find_text(alloc: Global, net: &FlatNet) -> Result<String, AllocError> {
     let names = net.net_names().as_slice();
     let found = found_nets(net, names);
     format!(in alloc;
-        "{found} of {} nets, {} pins, {length} bytes",
+        "{found} of {} nets, {} pins",
         names.len(),
         net.all_pins().len()
     )
 }
 
-/// Of how many nets the name gives their number, and how many nets, pins and bytes of the first model's flat text
-/// there are.
+/// Of how many nets the name gives their number, and how many nets and pins there are.
 fn find_answer(alloc: Global, bytes: &[u8]) -> Result<String, Stop> {
-    let length = length_of(alloc, bytes)?;
     let net = design_of(alloc, bytes)?;
-    Ok(find_text(alloc, &net, length)?)
+    Ok(find_text(alloc, &net)?)
 }
 
 /// What flattening answers, or what ends it.
