@@ -55,7 +55,7 @@ pub(crate) fn name_set(alloc: Global, names: &[Name]) -> Result<IndexSet<Name>, 
     requires { Differ names.now }
     ensures { IfOk result (λ set. set.keys ≡ names.now) }
 {
-    let mut set = IndexSet::new(alloc);
+    let mut set = IndexSet::with_capacity(alloc, names.len())?;
     for name in names {
         let copy = name.copy(alloc)?;
         set.insert(copy)?;
@@ -78,7 +78,7 @@ pub(crate) fn all_ports(alloc: Global, models: &[BlifModel]) -> Result<Vec<Ports
     requires { All IsModel (map plain_model models.now) }
     ensures { IfOk result (λ ports. ports.items ≡ map interface (map plain_model models.now)) }
 {
-    let mut ports = Vec::new(alloc);
+    let mut ports = Vec::with_capacity(alloc, models.len())?;
     for model in models {
         ports.push(ports_of(alloc, model)?)?;
     }
