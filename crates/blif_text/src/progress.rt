@@ -1,10 +1,9 @@
 //! The models so far, and the open one.
 ghost use Rattle.std.specs.Prelude.{◌≡◌, ◌<◌, ◌++◌, ◌∷◌, [], ◌==◌, List, ℕ, Some, None, true, map, OnOk, IfOk, length};
 ghost use Rattle.blif_text.specs.Private.Answers.{Answers, plain};
-ghost use Rattle.blif_text.specs.Private.Progress.{nothing, fresh, kind_in, after, all_models, ended};
+ghost use Rattle.blif_text.specs.Private.Progress.{nothing, with_model, kind_in, after, all_models, ended};
 ghost use Rattle.blif_text.specs.Private.Bounds.{rows_in};
 ghost use Rattle.blif_text.specs.Kind.{model_kind};
-ghost use Rattle.blif_text.specs.Models.{first_token};
 ghost use Rattle.blif_text.specs.Text.{statement, statement_by};
 ghost use Rattle.blif_text.specs.Word.{is_inner};
 ghost use Rattle.blif_text.specs.declared.statements.word.Word.TheVariants.{End};
@@ -101,11 +100,7 @@ impl Progress {
     /// Begins the model that the tokens after `.model` name.
     #[tactic(auto, unfolding(crate::specs::Kind::model_kind))]
     fn begin_model(&mut self, alloc: Global, tokens: &[&[u8]]) -> Result<(), Refusal>
-        ensures { Answers result (model_kind self.old.names (plain tokens.now)) (λ _. self.new ≡ record {
-          models = all_models self.old;
-          names = self.old.names ++ plain tokens.now;
-          open_model = Some (fresh (first_token (plain tokens.now)));
-        }) }
+        ensures { Answers result (model_kind self.old.names (plain tokens.now)) (λ _. self.new ≡ with_model self.old (plain tokens.now)) }
     {
         match tokens {
             [token] => self.begin_named(alloc, token),
@@ -114,11 +109,7 @@ impl Progress {
     }
 
     fn begin_named(&mut self, alloc: Global, token: &[u8]) -> Result<(), Refusal>
-        ensures { Answers result (model_kind self.old.names (token.now ∷ [])) (λ _. self.new ≡ record {
-          models = all_models self.old;
-          names = self.old.names ++ token.now ∷ [];
-          open_model = Some (fresh token.now);
-        }) }
+        ensures { Answers result (model_kind self.old.names (token.now ∷ [])) (λ _. self.new ≡ with_model self.old (token.now ∷ [])) }
     {
         match list_model(alloc, &mut self.names, token) {
             Ok(name) => {
@@ -132,11 +123,8 @@ impl Progress {
     /// Takes an `.end`.
     #[tactic(auto, unfolding(crate::specs::Kind::kind_at))]
     fn take_end(&mut self, alloc: Global, tokens: &[&[u8]]) -> Result<(), Refusal>
-        ensures { (first : List ℕ) (line : ℕ) → Answers result (kind_in self.old (statement_by line End first (plain tokens.now))) (λ _. self.new ≡ record {
-          models = all_models self.old;
-          names = self.old.names;
-          open_model = None;
-        }) }
+        ensures { (line : ℕ) (first : List ℕ) → Answers result (kind_in self.old (statement_by line End first (plain tokens.now)))
+            (λ _. self.new ≡ after self.old (statement_by line End first (plain tokens.now))) }
     {
         if self.open_model.is_none() {
             return Err(Refusal::Bad(TextKind::NoModel));

@@ -157,12 +157,12 @@ more_of Row s m = record {
 }
 more_of _ s m = m
 
+-- the open model ends, and the next begins, of which the tokens are the name
+abbrev pub with_model : Progress → List (List ℕ) → Progress
+with_model p tokens = record { models = all_models p; names = p.names ++ tokens; open_model = Some (fresh (first_token tokens)) }
+
 abbrev pub after_word : Word → Statement → Progress → Progress
-after_word Model s p = record {
-  models = all_models p;
-  names = p.names ++ s.arguments;
-  open_model = Some (fresh (first_token s.arguments));
-}
+after_word Model s p = with_model p s.arguments
 after_word End s p = record { models = all_models p; names = p.names; open_model = None }
 after_word w s p = record { models = p.models; names = p.names; open_model = option_map (more_of w s) p.open_model }
 

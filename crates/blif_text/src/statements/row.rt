@@ -23,16 +23,10 @@ fn with_output<'a>(marks: &'a [u8], token: &[u8]) -> Option<(&'a [u8], u8)>
 fn parts<'a>(width: usize, first: &'a [u8], arguments: &[&'a [u8]]) -> Option<(&'a [u8], u8)>
     ensures { option_map (λ r. let row : Marks = record { marks = r.0.now; output = r.1 } in row) result ≡ row_parts width (first.now ∷ plain arguments.now) }
 {
-    if width == 0 {
-        match arguments {
-            [] => with_output(&first[..0], first),
-            _ => None,
-        }
-    } else {
-        match arguments {
-            [output] => with_output(first, output),
-            _ => None,
-        }
+    match arguments {
+        [] if width == 0 => with_output(&first[..0], first),
+        [output] if width != 0 => with_output(first, output),
+        _ => None,
     }
 }
 
