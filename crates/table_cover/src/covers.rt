@@ -5,7 +5,7 @@ use crate::cover::Cover;
 use std::alloc::Global;
 
 /// How many covers are remembered.
-const PLACES: usize = 256;
+const PLACES: usize = 4096;
 
 /// Covers that were met, of which later ones that are the same take the rows. Each has one place, by its rows, and the last
 /// of a place is remembered there.
