@@ -1,14 +1,13 @@
 -- The one model of a design flattens to itself.
-use Rattle.std.proofs.Common.{◌≡◌, ℕ, zero, suc, ◌<◌, Bool, true, false, cond, List, [], ◌∷◌, ◌++◌, length, map, get_or, Option, Some, None, refl, sym, ap, subst, ◌∙◌, arith}
-use Rattle.std.specs.Prelude.{not, find, Contains}
-use Rattle.std.specs.List.{flat_map}
-use Rattle.std.specs.Option.{option_map_or}
+use Rattle.std.proofs.Common.{◌≡◌, ℕ, zero, suc, ◌<◌, Bool, true, List, [], ◌∷◌, length, map, get_or, Option, Some, None, refl, sym, ap, subst, ◌∙◌, arith}
+use Rattle.std.specs.Prelude.{Contains}
 use Rattle.tmr_base.specs.declared.ids.Edge.{Edge}
 use Rattle.flat_net.specs.Net.{Net, Node, Table, Register, name_of}
-use Rattle.flat_net.proofs.Names.{eq_true, eq_from}
 use Rattle.blif_text.specs.Models.{PlainElement, PlainModel}
 use Rattle.hierarchy.specs.Flat.{PlacedNet, net_text, Level, main_level, resolve, actual_of, NetElement, NetTable, NetRegister, resolved_control, elements_with, elements_to, flat_elements, named, named_control, flat_model}
-use Rattle.hierarchy.specs.Clash.{main_net, control_nets, nets_of, walked, same_net, has_text, is_taken, clash_after, name_clash}
+use Rattle.hierarchy.specs.Clash.{main_net, name_clash}
+use Rattle.hierarchy.specs.Private.Alone.{places_nothing}
+use Rattle.hierarchy.proofs.Alone.{alone_clear}
 use Rattle.hierarchy.specs.Graph.{names_of, placed_in, graph, row, Reached, main, placed}
 use Rattle.hierarchy.specs.Ports.{PlainPorts, ports_of}
 use Rattle.hierarchy.specs.Faults.{elements_fault, model_fault}
@@ -72,61 +71,15 @@ flat_model_is n free = ap (λ (es : List PlainElement). let m : PlainModel = rec
 
 -- ---- no two of its nets share a text
 
--- all nets are the main model's
-abbrev AreMain : List PlacedNet → Type 0
-AreMain [] = Unit {0}
-AreMain (x ∷ xs) = (x.path ≡ []) × AreMain xs
-
-main_join : (xs ys : List PlacedNet) → AreMain xs → AreMain ys → AreMain (xs ++ ys)
-main_join [] ys a b = b
-main_join (x ∷ xs) ys a b = (a.0, main_join xs ys a.1 b)
-
-names_main : (names : List (List ℕ)) → AreMain (map main_net names)
-names_main [] = tt
-names_main (name ∷ names) = (refl, names_main names)
-
-control_main : (c : Option (Edge × List ℕ)) → AreMain (control_nets (net_control c))
-control_main None = tt
-control_main (Some (edge, clock)) = (refl, tt)
-
-nodes_main : (n : Net) (nodes : List (Node × Bool)) → AreMain (flat_map nets_of (map (net_element n) nodes))
-nodes_main n [] = tt
-nodes_main n ((Table name cover pins, free) ∷ nodes) = main_join (map main_net (net_words n pins) ++ main_net name ∷ []) (flat_map nets_of (map (net_element n) nodes)) (main_join (map main_net (net_words n pins)) (main_net name ∷ []) (names_main (net_words n pins)) (refl, tt)) (nodes_main n nodes)
-nodes_main n ((Register name init pin, free) ∷ nodes) = (refl, (refl, main_join (control_nets (net_control n.clock)) (flat_map nets_of (map (net_element n) nodes)) (control_main n.clock) (nodes_main n nodes)))
-
-found_main : (p : PlacedNet → Bool) (xs : List PlacedNet) (y : PlacedNet) → AreMain xs → find p xs ≡ Some y → (y.path ≡ []) × (p y ≡ true)
-found_main p [] y a e = absurd cc
-found_main p (x ∷ xs) y a e = go (p x) refl e (found_main p xs y a.1)
-  where
-    some_is : (u v : PlacedNet) → Some u ≡ Some v → u ≡ v
-    some_is u v e = cc
-
-    go : (b : Bool) → p x ≡ b → cond b (Some x) (find p xs) ≡ Some y → (find p xs ≡ Some y → (y.path ≡ []) × (p y ≡ true)) → (y.path ≡ []) × (p y ≡ true)
-    go true is h later = let same = some_is x y h in (ap (λ (z : PlacedNet). z.path) (sym same) ∙ a.0, ap p (sym same) ∙ is)
-    go false is h later = later h
-
-not_taken : (seen : List PlacedNet) (net : PlacedNet) → AreMain seen → net.path ≡ [] → is_taken seen net ≡ false
-not_taken seen net a own = go (find (has_text (net_text net)) seen) refl
-  where
-    go : (o : Option PlacedNet) → find (has_text (net_text net)) seen ≡ o → option_map_or (λ other. not (same_net other net)) o false ≡ false
-    go None e = refl
-    go (Some other) e =
-        let f = found_main (has_text (net_text net)) seen other a e in
-        let texts : other.path ++ other.name ≡ net.path ++ net.name = eq_from (net_text other) (net_text net) f.1 in
-        let names : other.name ≡ net.name = ap (λ (p : List ℕ). p ++ other.name) (sym f.0) ∙ (texts ∙ ap (λ (p : List ℕ). p ++ net.name) own) in
-        rw (eq_true other.path net.path (f.0 ∙ sym own), eq_true other.name net.name names) refl
-
-none_clash : (seen nets : List PlacedNet) → AreMain seen → AreMain nets → clash_after seen nets ≡ None
-unfolding clash_after
-none_clash seen [] a b = refl
-none_clash seen (net ∷ nets) a b = rw (not_taken seen net a b.0) (none_clash (seen ++ net ∷ []) nets (main_join seen (net ∷ []) a (b.0, tt)) b.1)
-
-walked_main : (n : Net) (free : List Bool) → AreMain (walked (free_model n free ∷ []))
-unfolding walked
-walked_main n free = main_join (map main_net (free_model n free).inputs ++ flat_map nets_of (flat_elements (free_model n free ∷ []))) (map main_net (free_model n free).outputs) (main_join (map main_net (free_model n free).inputs) (flat_map nets_of (flat_elements (free_model n free ∷ []))) (names_main (free_model n free).inputs) (subst (λ (es : List NetElement). AreMain (flat_map nets_of es)) (sym (flat_are n free)) (nodes_main n (with_marks free n.nodes)))) (names_main (free_model n free).outputs)
+none_placing : (n : Net) (nodes : List (Node × Bool)) → places_nothing (map (element_of n) nodes) ≡ true
+unfolding places_nothing
+none_placing n [] = refl
+none_placing n ((Table name cover pins, free) ∷ nodes) = none_placing n nodes
+none_placing n ((Register name init pin, free) ∷ nodes) = none_placing n nodes
 
 pub no_clash : (n : Net) (free : List Bool) → name_clash (free_model n free ∷ []) ≡ None
-no_clash n free = none_clash [] (walked (free_model n free ∷ [])) tt (walked_main n free)
+unfolding free_model
+no_clash n free = alone_clear (free_model n free ∷ []) (none_placing n (with_marks free n.nodes))
 
 -- ---- it places no models
 
