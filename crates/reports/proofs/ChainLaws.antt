@@ -1,11 +1,11 @@
 -- Chains are of nets of the original.
-use Rattle.std.proofs.Common.{◌≡◌, ℕ, zero, suc, ◌+◌, ◌<◌, ◌≤◌, ◌⊎◌, inl, inr, Bool, true, false, List, [], ◌∷◌, ◌++◌, length, map, Option, Some, None, slice_get, refl, sym, ap, ◌∙◌, subst, arith, All}
+use Rattle.std.proofs.Common.{◌≡◌, ℕ, zero, suc, ◌+◌, ◌<◌, ◌⊎◌, inl, inr, Bool, true, false, List, [], length, map, Option, Some, None, refl, sym, subst, arith, All}
 use Rattle.std.proofs.lemmas.List.Elements.{All-append}
 use Rattle.flat_net.specs.Net.{Net, net_count}
 use Rattle.flat_net.specs.Nodes.{number_of}
 use Rattle.certificate.specs.declared.role.Role.{Role}
 use Rattle.certificate.specs.declared.role.Role.TheVariants.{Copy, Voter}
-use Rattle.certificate.specs.Cert.{PlainCert, IsCert, Fits, role_of}
+use Rattle.certificate.specs.Cert.{PlainCert, IsCert, Fits}
 use Rattle.recovery_depth.specs.declared.deep.Deep.{Deep}
 use Rattle.recovery_depth.specs.Depths.{is_some_register}
 use Rattle.recovery_depth.specs.Walks.{Walk, starts, goes_on}

@@ -1,5 +1,5 @@
 -- Counts that grow node by node.
-use Rattle.std.proofs.Common.{◌≡◌, ◌≢◌, ℕ, suc, ◌+◌, ◌-◌, ◌<◌, ◌≤◌, ◌⊎◌, inl, inr, Bool, true, false, ◌&&◌, ◌||◌, not, List, [], ◌∷◌, ◌++◌, length, take, map, get_or, slice_get, slice_index, slice_set, Option, Some, refl, sym, ◌∙◌, ap, subst, arith}
+use Rattle.std.proofs.Common.{◌≡◌, ◌≢◌, ℕ, suc, ◌+◌, ◌-◌, ◌<◌, ◌≤◌, ◌⊎◌, inl, inr, Bool, true, false, ◌&&◌, ◌||◌, not, List, [], ◌∷◌, ◌++◌, length, take, map, get_or, slice_get, slice_index, slice_set, Some, refl, sym, ◌∙◌, ap, arith}
 use Rattle.std.specs.Prelude.{◌==◌, nat_eq, count_by, replicate}
 use Rattle.std.specs.List.{list_any, range_with_len}
 use Rattle.std.proofs.lemmas.Bool.{cases_eq, eq-eqb, ne_eqb}
@@ -16,7 +16,7 @@ use Rattle.feedback_cut.specs.Components.{PlainGroups, component_of, has_loop}
 use Rattle.recovery_depth.specs.Walks.{is_marked}
 use Rattle.partitioner.specs.Below.{count_below, one_if}
 use Rattle.partitioner.proofs.BelowLaws.{count_none, count_same, count_le}
-use Rattle.reports.specs.Counts.{partitions, count_in, heads_loop}
+use Rattle.reports.specs.Counts.{partitions, heads_loop}
 use Rattle.reports.specs.Private.Left.{AreCountsOf}
 
 -- ---- numbers of a partition

@@ -1,5 +1,5 @@
 -- What a report counts. k is the certificate of a hardened design; nodes of the original are counted from 0, in their order.
-use Rattle.std.specs.Prelude.{ℕ, ◌==◌, Bool, true, false, not, ◌&&◌, List, length, take, slice_index, count_by, Option, Some, None, nat_eq}
+use Rattle.std.specs.Prelude.{ℕ, ◌==◌, Bool, true, false, not, ◌&&◌, length, take, slice_index, Option, Some, None, nat_eq}
 use Rattle.std.specs.List.{list_any}
 use Rattle.tmr_base.specs.Parts.{PlainParts}
 use Rattle.certificate.specs.declared.role.Role.{Role}

@@ -1,4 +1,4 @@
-use Rattle.std.proofs.Common.{◌≡◌, ◌+◌, ◌<◌, ap, arith}
+use Rattle.std.proofs.Common.{◌+◌, arith}
 use Rattle.reports.proofs.CountLaws.{part_more}
 use Rattle.reports.proofs.partitions.part_list.Goals as goal
 

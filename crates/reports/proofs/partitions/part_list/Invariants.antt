@@ -1,5 +1,4 @@
 use Rattle.std.proofs.Common.{◌≡◌, take}
-use Rattle.reports.proofs.CountLaws.{part_more}
 use Rattle.reports.proofs.partitions.part_list.Given as goal
 
 abbrev pub invariant-loop-x : goal.invariant-loop-x

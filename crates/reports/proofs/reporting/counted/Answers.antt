@@ -1,4 +1,4 @@
-use Rattle.std.proofs.Common.{◌≡◌, ◌<◌, ℕ, Bool, List, length, ap, sym, ◌∙◌, arith}
+use Rattle.std.proofs.Common.{Bool, List, length, ap, sym, ◌∙◌, arith}
 use Rattle.std.proofs.lemmas.List.FromFn.{length-map-range_with_len}
 use Rattle.tmr_base.specs.Parts.{PlainParts}
 use Rattle.recovery_depth.specs.Depths.{is_register_at}

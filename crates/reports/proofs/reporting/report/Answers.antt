@@ -1,5 +1,4 @@
-use Rattle.std.proofs.Common.{◌≡◌, ◌++◌, ℕ, List, length, ap, sym, ◌∙◌, subst}
-use Rattle.flat_net.specs.Net.{Net}
+use Rattle.std.proofs.Common.{◌++◌, ℕ, List, ap, sym, ◌∙◌, subst}
 use Rattle.recovery_depth.specs.declared.deep.Deep.{Deep}
 use Rattle.std.specs.List.{flat_map}
 use Rattle.certificate.specs.Text.{line_text}

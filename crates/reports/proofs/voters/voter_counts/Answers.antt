@@ -1,4 +1,4 @@
-use Rattle.std.proofs.Common.{◌≡◌, ◌+◌, ◌<◌, ℕ, length, refl, ap, ◌∙◌, arith}
+use Rattle.std.proofs.Common.{◌+◌, ◌<◌, ℕ, length, refl, ap, arith}
 use Rattle.reports.specs.Counts.{is_border_voter, is_feedback_voter, is_input_voter}
 use Rattle.reports.proofs.CountLaws.{role_more}
 use Rattle.reports.proofs.voters.voter_counts.Goals as goal

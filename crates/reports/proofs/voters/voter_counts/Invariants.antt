@@ -1,7 +1,6 @@
 use Rattle.std.proofs.Common.{◌≡◌, take}
 use Rattle.std.specs.Prelude.{count_by}
 use Rattle.reports.specs.Counts.{is_border_voter, is_feedback_voter, is_input_voter}
-use Rattle.reports.proofs.CountLaws.{role_more}
 use Rattle.reports.proofs.voters.voter_counts.Given as goal
 
 abbrev pub invariant-loop-g : goal.invariant-loop-g

@@ -2,7 +2,6 @@ use Rattle.std.proofs.Common.{◌≡◌, ◌++◌, map, drop}
 use Rattle.flat_net.specs.Net.{name_of}
 use Rattle.flat_net.specs.Nodes.{number_of}
 use Rattle.reports.specs.Private.Left.{spaced}
-use Rattle.reports.proofs.WordLaws.{one_put}
 use Rattle.reports.proofs.words.put_names.Given as goal
 
 abbrev pub invariant-loop-x : goal.invariant-loop-x

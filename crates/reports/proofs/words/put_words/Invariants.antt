@@ -1,7 +1,6 @@
 use Rattle.std.proofs.Common.{◌≡◌, ◌++◌, drop}
 use Rattle.certificate.specs.Plain.{texts}
 use Rattle.reports.specs.Private.Left.{spaced}
-use Rattle.reports.proofs.WordLaws.{one_put}
 use Rattle.reports.proofs.words.put_words.Given as goal
 
 abbrev pub invariant-loop-word : goal.invariant-loop-word

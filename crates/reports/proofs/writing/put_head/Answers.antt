@@ -1,4 +1,4 @@
-use Rattle.std.proofs.Common.{◌≡◌, ◌*◌, ◌++◌, [], ◌∷◌, ℕ, List, length, ap, ◌∙◌}
+use Rattle.std.proofs.Common.{◌*◌, ◌++◌, [], ◌∷◌, ℕ, length, ap, ◌∙◌}
 use Rattle.std.specs.Prelude.{codes}
 use Rattle.std.specs.Fmt.{decimal}
 use Rattle.flat_net.specs.Net.{register_count}

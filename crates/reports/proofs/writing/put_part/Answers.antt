@@ -1,4 +1,4 @@
-use Rattle.std.proofs.Common.{◌≡◌, ◌++◌, ◌∷◌, ℕ, List, map, ap, ◌∙◌}
+use Rattle.std.proofs.Common.{◌++◌, ℕ, List, map, ap, ◌∙◌}
 use Rattle.std.specs.Prelude.{codes, slice_index}
 use Rattle.tmr_base.specs.declared.ids.NetId.{NetId}
 use Rattle.flat_net.specs.Net.{name_of}

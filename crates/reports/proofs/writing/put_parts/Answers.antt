@@ -1,5 +1,4 @@
-use Rattle.std.proofs.Common.{◌≡◌, ◌≤◌, arith}
-use Rattle.reports.proofs.LineLaws.{part_put, all_put}
+use Rattle.reports.proofs.LineLaws.{part_put}
 use Rattle.reports.proofs.writing.put_parts.Goals as goal
 
 pub loop-p-preserved : goal.loop-p-preserved

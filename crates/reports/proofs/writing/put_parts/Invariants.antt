@@ -1,6 +1,5 @@
 use Rattle.std.proofs.Common.{◌≡◌, ◌++◌}
 use Rattle.reports.specs.Private.Left.{parts_left}
-use Rattle.reports.proofs.LineLaws.{part_put}
 use Rattle.reports.proofs.writing.put_parts.Given as goal
 
 abbrev pub invariant-loop-p : goal.invariant-loop-p
