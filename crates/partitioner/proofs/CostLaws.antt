@@ -6,9 +6,9 @@ use Rattle.std.proofs.lemmas.List.{take_all}
 use Rattle.flat_net.specs.Net.{Net}
 use Rattle.tmr_base.specs.Parts.{PlainParts}
 use Rattle.partitioner.specs.Below.{sum_below, count_below}
-use Rattle.partitioner.specs.Reading.{reads}
-use Rattle.partitioner.specs.Private.Sources.{reads_other}
-use Rattle.partitioner.specs.Noting.{Lists, related}
+use Rattle.node_reads.specs.Reading.{reads}
+use Rattle.node_reads.specs.Sources.{reads_other}
+use Rattle.node_reads.specs.Noting.{Lists, related}
 use Rattle.partitioner.specs.Private.Meeting.{is_met}
 use Rattle.partitioner.specs.Cost.{is_read_in, foreign_count, cost}
 use Rattle.partitioner.proofs.BelowLaws.{count_same}

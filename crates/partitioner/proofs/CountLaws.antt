@@ -6,7 +6,7 @@ use Rattle.std.proofs.lemmas.List.Sums.{sum_by-cons}
 use Rattle.std.proofs.lemmas.List.Folds.{list_any_at}
 use Rattle.flat_net.specs.Net.{Net}
 use Rattle.partitioner.specs.Below.{one_if, count_below}
-use Rattle.partitioner.specs.Private.Sources.{reads_other, other_readers}
+use Rattle.node_reads.specs.Sources.{reads_other, other_readers}
 use Rattle.partitioner.specs.Private.Loss.{is_fresh, is_wanted}
 use Rattle.partitioner.specs.Private.Tracking.{reader_count}
 use Rattle.partitioner.proofs.PutLaws.{count_passing}

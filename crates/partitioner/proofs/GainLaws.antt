@@ -13,7 +13,7 @@ use Rattle.partitioner.specs.declared.costs.gains.Gains.{Gains}
 use Rattle.partitioner.specs.Below.{one_if}
 use Rattle.partitioner.specs.Private.Gaining.{AreBegun, AreGains, AreKept, is_near, last_in, near_in}
 use Rattle.partitioner.specs.Private.Loss.{is_fresh, is_kept}
-use Rattle.partitioner.specs.Private.Sources.{reads_other, other_readers, other_sources}
+use Rattle.node_reads.specs.Sources.{reads_other, other_readers, other_sources}
 use Rattle.partitioner.specs.Private.Tracking.{Tracks}
 use Rattle.partitioner.proofs.TrackLaws.{related_few}
 

@@ -1,5 +1,4 @@
 pub mod PlainLaws
-pub mod Numbers
 pub mod BelowLaws
 pub mod MeetingLaws
 pub mod CostLaws
@@ -14,9 +13,6 @@ pub mod TrackLaws
 pub mod MinimalLaws
 pub mod ShiftLaws
 pub mod RefineLaws
-pub mod NotingLaws
-pub mod PinLaws
-pub mod SourceLaws
 pub mod WideLaws
 pub mod SetLaws
 pub mod SpotLaws

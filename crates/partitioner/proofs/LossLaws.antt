@@ -7,9 +7,9 @@ use Rattle.std.proofs.lemmas.List.Sorted.{All-permutation, sum_by-IsPermutation}
 use Rattle.std.proofs.lemmas.List.Elements.{filter_passes, All-filter}
 use Rattle.flat_net.specs.Net.{Net}
 use Rattle.partitioner.specs.Below.{one_if}
-use Rattle.partitioner.specs.Private.Sources.{reads_other, other_sources}
+use Rattle.node_reads.specs.Sources.{reads_other, other_sources}
 use Rattle.partitioner.specs.Private.Loss.{is_fresh, is_wanted, loss}
-use Rattle.partitioner.proofs.Numbers.{numbers_below}
+use Rattle.node_reads.proofs.Numbers.{numbers_below}
 
 pub sources_below : (n : Net) (i : ℕ) (row : List ℕ) → IsPermutation (other_sources n i) row → All (λ x. x < length n.nodes) row
 sources_below n i row perm = All-permutation (λ x. x < length n.nodes) (other_sources n i) row perm (All-filter (λ x. reads_other n i x) (λ x. x < length n.nodes) (range_with_len 0 (length n.nodes)) (numbers_below (length n.nodes)))

@@ -9,7 +9,7 @@ use Rattle.flat_net.specs.Net.{Net}
 use Rattle.partitioner.specs.declared.counts.partitioning.Partitioning.{Partitioning}
 use Rattle.partitioner.specs.declared.refinement.placing.Lead.{Lead}
 use Rattle.partitioner.specs.Below.{one_if}
-use Rattle.partitioner.specs.Private.Sources.{other_readers, other_sources}
+use Rattle.node_reads.specs.Sources.{other_readers, other_sources}
 use Rattle.partitioner.specs.Cost.{cost}
 use Rattle.partitioner.specs.Private.Loss.{is_fresh, is_kept, is_wanted, loss}
 use Rattle.partitioner.specs.Refining.{has_room, put, place}

@@ -7,12 +7,12 @@ use Rattle.std.proofs.lemmas.List.Sums.{sum_by-append}
 use Rattle.flat_net.specs.Net.{Net}
 use Rattle.tmr_base.specs.Parts.{PlainParts}
 use Rattle.partitioner.specs.Below.{sum_below, one_if, count_below}
-use Rattle.partitioner.specs.Reading.{reads}
-use Rattle.partitioner.specs.Private.Sources.{reads_other, other_readers}
+use Rattle.node_reads.specs.Reading.{reads}
+use Rattle.node_reads.specs.Sources.{reads_other, other_readers}
 use Rattle.partitioner.specs.Cost.{foreign_count, cost, is_read_in}
 use Rattle.partitioner.specs.Private.Loss.{is_kept, is_fresh, is_wanted, loss}
 use Rattle.partitioner.specs.Refining.{put}
-use Rattle.partitioner.proofs.Numbers.{passing_more, any_passing, eqb_turned}
+use Rattle.node_reads.proofs.Numbers.{passing_more, any_passing, eqb_turned}
 use Rattle.partitioner.proofs.BelowLaws.{count_same, count_changed, sum_same, sum_balanced, sum_zero}
 use Rattle.partitioner.proofs.CostLaws.{met_is}
 

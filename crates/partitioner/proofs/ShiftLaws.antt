@@ -7,13 +7,14 @@ use Rattle.std.proofs.lemmas.List.Folds.{list_any_more}
 use Rattle.std.proofs.lemmas.List.Sums.{sum_by_more, sum_by-take-le, sum_by-cons, count_by-le-length}
 use Rattle.flat_net.specs.Net.{Net}
 use Rattle.partitioner.specs.Below.{one_if}
-use Rattle.partitioner.specs.Private.Sources.{reads_other, other_readers, other_sources, is_wide, wide_sources, marked_by_row}
+use Rattle.node_reads.specs.Sources.{reads_other, other_readers, other_sources, is_wide, wide_sources, marked_by_row}
 use Rattle.partitioner.specs.Private.Moving.{Shifts}
 use Rattle.partitioner.specs.Private.Tracking.{reader_count}
-use Rattle.partitioner.proofs.Numbers.{eqb_turned}
+use Rattle.node_reads.proofs.Numbers.{eqb_turned}
 use Rattle.partitioner.proofs.BelowLaws.{count_same, one_if_le}
 use Rattle.partitioner.proofs.TrackLaws.{related_few}
-use Rattle.partitioner.proofs.WideLaws.{wide_below, count_filtered, wide_marked}
+use Rattle.partitioner.proofs.WideLaws.{count_filtered, wide_marked}
+use Rattle.node_reads.proofs.WideRows.{wide_below}
 use Rattle.partitioner.proofs.PutLaws.{count_passing}
 use Rattle.partitioner.proofs.CountLaws.{any_by_count, count_split, count_single, once_among}
 

@@ -8,14 +8,14 @@ use Rattle.flat_net.specs.Net.{Net}
 use Rattle.tmr_base.specs.Parts.{PlainParts}
 use Rattle.partitioner.specs.declared.counts.spots.Spots.{Spots}
 use Rattle.partitioner.specs.Below.{one_if}
-use Rattle.partitioner.specs.Private.Sources.{reads_other, other_readers, is_wide, wide_sources}
+use Rattle.node_reads.specs.Sources.{reads_other, other_readers, is_wide, wide_sources}
 use Rattle.partitioner.specs.Private.Sets.{has}
 use Rattle.partitioner.specs.Sizes.{capacity, held}
 use Rattle.partitioner.specs.Refining.{has_room, put}
 use Rattle.partitioner.specs.Private.Tracking.{Tracks, parts_of, reader_count}
 use Rattle.partitioner.specs.Private.Spotting.{AreSpots}
 use Rattle.partitioner.proofs.SetLaws.{any_known, same_number}
-use Rattle.partitioner.proofs.SourceLaws.{related_below}
+use Rattle.node_reads.proofs.SourceLaws.{related_below}
 use Rattle.std.specs.List.Sorted.{IsStrictlySortedBy}
 use Rattle.std.specs.Ordering.{is_eq, nat_cmp}
 use Rattle.std.proofs.lemmas.Map.Keys.{below_from_sorted, sorted_tail}

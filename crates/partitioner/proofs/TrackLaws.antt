@@ -4,8 +4,8 @@ use Rattle.std.specs.List.{range_with_len}
 use Rattle.std.proofs.lemmas.List.FromFn.{length-range_with_len}
 use Rattle.std.proofs.lemmas.List.Sums.{length-filter, count_by-le-length}
 use Rattle.flat_net.specs.Net.{Net}
-use Rattle.partitioner.specs.Private.Sources.{is_source, other_sources}
-use Rattle.partitioner.specs.Noting.{Lists, related}
+use Rattle.node_reads.specs.Sources.{is_source, other_sources}
+use Rattle.node_reads.specs.Noting.{Lists, related}
 
 pub related_few : (r : ℕ → ℕ → Bool) (k x : ℕ) → length (related r k x) ≤ k
 related_few r k x = omega (arith, length-filter (λ z. r z x) (range_with_len 0 k), count_by-le-length (λ z. r z x) (range_with_len 0 k), length-range_with_len 0 k)

@@ -4,7 +4,7 @@ use Rattle.std.specs.List.{list_any}
 use Rattle.tmr_base.specs.Parts.{PlainParts}
 use Rattle.flat_net.specs.Net.{Net}
 use Rattle.partitioner.specs.Below.{sum_below, count_below}
-use Rattle.partitioner.specs.Reading.{readers}
+use Rattle.node_reads.specs.Reading.{readers}
 
 -- some node of partition p reads node x
 abbrev pub is_read_in : Net → List ℕ → ℕ → ℕ → Bool

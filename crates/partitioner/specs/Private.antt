@@ -1,4 +1,3 @@
-pub mod Sources
 pub mod Meeting
 pub mod Counting
 pub mod Loss

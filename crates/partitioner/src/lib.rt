@@ -8,11 +8,9 @@
 mod costs;
 mod counts;
 mod plain_cut;
-mod reads;
 mod refinement;
 
 pub use costs::pairs::cost;
 pub use plain_cut::plain;
-pub use reads::reading::note;
 pub use refinement::minimal::is_minimal;
 pub use refinement::refining::{Refined, refine, refine_counted};

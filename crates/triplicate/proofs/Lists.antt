@@ -5,7 +5,7 @@ use Rattle.std.proofs.lemmas.Bool.{cases_lt}
 use Rattle.std.proofs.lemmas.List.{length-append, append-nil}
 use Rattle.std.proofs.lemmas.List.Elements.{filter-append}
 use Rattle.std.proofs.lemmas.List.Concat.{flat_map-append}
-use Rattle.partitioner.proofs.Numbers.{numbers_more, passing_more}
+use Rattle.node_reads.proofs.Numbers.{numbers_more, passing_more}
 use Rattle.tmr_base.specs.declared.copies.CopyNo.{CopyNo}
 use Rattle.tmr_base.specs.declared.copies.CopyNo.TheVariants.{First, Second, Third}
 use Rattle.tmr_base.specs.Copies.{copy_number}

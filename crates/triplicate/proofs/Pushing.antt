@@ -5,7 +5,7 @@ use Rattle.std.proofs.lemmas.List.{take_more}
 use Rattle.std.proofs.lemmas.List.Concat.{flat_map-append}
 use Rattle.std.proofs.lemmas.List.Elements.{filter-append}
 use Rattle.std.proofs.lemmas.Option.{slice_get_within, get_or_from_slice_get}
-use Rattle.partitioner.proofs.Numbers.{numbers_more}
+use Rattle.node_reads.proofs.Numbers.{numbers_more}
 
 pub blocks_one_more : (f : ℕ → List ℕ) (start old new : List ℕ) (x : ℕ) → old ≡ start ++ flat_map f (range_with_len 0 x) → new ≡ old ++ f x → new ≡ start ++ flat_map f (range_with_len 0 (x + 1))
 blocks_one_more f start old new x before more =

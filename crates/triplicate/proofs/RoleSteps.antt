@@ -34,7 +34,7 @@ use Rattle.triplicate.specs.Private.Numbers.{copy_net, voter_net}
 use Rattle.triplicate.specs.Private.Construction.{pin_net, first_pins_to, role_node, node_copy, hardened_net}
 use Rattle.triplicate.specs.Private.Made.{IsMade, HasRoom, IsNext, shifted_node}
 use Rattle.flat_net.specs.Draft.{AreDistinct}
-use Rattle.partitioner.proofs.Numbers.{numbers_more}
+use Rattle.node_reads.proofs.Numbers.{numbers_more}
 use Rattle.triplicate.proofs.Lists.{blocks_cut}
 use Rattle.triplicate.proofs.VoterRows.{pin_in_range}
 use Rattle.triplicate.proofs.Tripled.{needs_from_pin}

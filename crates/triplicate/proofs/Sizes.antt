@@ -12,13 +12,13 @@ use Rattle.std.proofs.lemmas.Option.{get_or_from_slice_get}
 use Rattle.std.specs.Prelude.{slice_index}
 use Rattle.flat_net.proofs.Slots.{slot_at, slice_get_there}
 use Rattle.feedback_cut.specs.Inner.{node_pins}
-use Rattle.partitioner.specs.Noting.{noted, ends_in}
+use Rattle.node_reads.specs.Noting.{noted, ends_in}
 use Rattle.tmr_base.specs.declared.copies.CopyNo.TheVariants.{First, Second, Third}
 use Rattle.triplicate.specs.Private.Noted.{pin_noted, pins_noted, nodes_noted, parts_noted, members}
 use Rattle.triplicate.proofs.VoterRows.{length-pins_noted, length-parts_noted, rows_listed, none_listed, pin_in_range}
 use Rattle.triplicate.proofs.RoleSteps.{copy_pins}
 use Rattle.std.proofs.lemmas.List.Concat.{flat_map-append}
-use Rattle.partitioner.proofs.Numbers.{numbers_more}
+use Rattle.node_reads.proofs.Numbers.{numbers_more}
 use Rattle.tmr_base.specs.Parts.{PlainParts}
 use Rattle.flat_net.specs.Net.{Net, Node, net_count, node_of, pins_of, pins_at, pin_total, IsValid}
 use Rattle.certificate.specs.declared.role.Role.{Role}

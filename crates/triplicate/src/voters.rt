@@ -2,14 +2,14 @@
 ghost use Rattle.std.specs.Prelude.{◌≡◌, ◌+◌, ◌<◌, ℕ, [], length, All, IfOk, OnOk, slice_index_or};
 ghost use Rattle.flat_net.specs.Net.{net_count};
 ghost use Rattle.feedback_cut.specs.Inner.{node_pins};
-ghost use Rattle.partitioner.specs.Noting.{Lists};
+ghost use Rattle.node_reads.specs.Noting.{Lists};
 ghost use Rattle.triplicate.specs.Private.Pins.{pin_is_voted, AreVotesOf};
 ghost use Rattle.triplicate.specs.Private.Noted.{is_in, needs, pin_noted, pins_noted, nodes_noted, parts_noted};
 
 use crate::voting::{VotedPins, is_voted};
 use flat_net::{FlatNet, nodes_of};
 use graph::{Graph, Readers};
-use partitioner::note;
+use node_reads::note;
 use std::alloc::Global;
 use tmr_base::{NetId, OutOfMemory, Parts};
 

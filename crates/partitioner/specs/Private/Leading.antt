@@ -4,7 +4,7 @@ use Rattle.flat_net.specs.Net.{Net}
 use Rattle.tmr_base.specs.Parts.{PlainParts}
 use Rattle.partitioner.specs.declared.counts.partitioning.Partitioning.{Partitioning}
 use Rattle.partitioner.specs.declared.refinement.placing.Lead.{Lead}
-use Rattle.partitioner.specs.Private.Sources.{other_readers}
+use Rattle.node_reads.specs.Sources.{other_readers}
 use Rattle.partitioner.specs.Private.Loss.{loss}
 use Rattle.partitioner.specs.Refining.{has_room}
 use Rattle.partitioner.specs.Private.Tracking.{parts_of}

@@ -3,7 +3,7 @@ use Rattle.std.specs.Prelude.{ℕ, ◌+◌, ◌==◌, Bool, not, ◌&&◌, List,
 use Rattle.std.specs.List.{list_any}
 use Rattle.flat_net.specs.Net.{Net}
 use Rattle.partitioner.specs.Below.{one_if}
-use Rattle.partitioner.specs.Private.Sources.{other_readers, other_sources}
+use Rattle.node_reads.specs.Sources.{other_readers, other_sources}
 
 -- another node than i and x reads node x from partition p
 abbrev pub is_kept : Net → List ℕ → ℕ → ℕ → ℕ → Bool

@@ -3,7 +3,7 @@ use Rattle.std.specs.Prelude.{◌≡◌, ℕ, ◌<◌, true, length}
 use Rattle.flat_net.specs.Net.{Net}
 use Rattle.tmr_base.specs.Parts.{PlainParts}
 use Rattle.partitioner.specs.declared.counts.spots.Spots.{Spots}
-use Rattle.partitioner.specs.Private.Sources.{is_wide}
+use Rattle.node_reads.specs.Sources.{is_wide}
 use Rattle.partitioner.specs.Private.Sets.{has}
 use Rattle.partitioner.specs.Refining.{has_room}
 use Rattle.partitioner.specs.Private.Tracking.{reader_count}

@@ -3,7 +3,7 @@ use Rattle.std.specs.Prelude.{◌≡◌, ℕ, ◌<◌, ◌==◌, true, List, [],
 use Rattle.tmr_base.specs.Parts.{PlainParts}
 use Rattle.flat_net.specs.Net.{Net}
 use Rattle.partitioner.specs.declared.counts.partitioning.Partitioning.{Partitioning}
-use Rattle.partitioner.specs.Private.Sources.{AreReaders, other_readers, other_sources, is_wide, wide_sources}
+use Rattle.node_reads.specs.Sources.{AreReaders, other_readers, other_sources, is_wide, wide_sources}
 use Rattle.partitioner.specs.Private.Counting.{count_at}
 use Rattle.partitioner.specs.Sizes.{held}
 

@@ -3,15 +3,15 @@ ghost use Rattle.std.specs.Prelude.{◌≡◌, ◌<◌, ◌≤◌, ◌==◌, ℕ
 ghost use Rattle.flat_net.specs.Net.{Net};
 ghost use Rattle.partitioner.specs.Below.{one_if};
 ghost use Rattle.partitioner.specs.Private.Gaining.{IsCounted};
-ghost use Rattle.partitioner.specs.Private.Sources.{reads_other};
+ghost use Rattle.node_reads.specs.Sources.{reads_other};
 ghost use Rattle.partitioner.specs.Private.Loss.{is_fresh, is_wanted, loss};
 ghost use Rattle.partitioner.specs.Private.Tracking.{Tracks, reader_count};
 
 use crate::costs::gains::{Gains, missed_in};
 use crate::counts::counting::count_at;
 use crate::counts::partitioning::Partitioning;
-use crate::reads::wide::is_long;
 use flat_net::FlatNet;
+use node_reads::is_long;
 
 /// How many nodes of a row stand in partition q.
 fn count_in(of: &[u32], row: &[u32], q: u32) -> u32

@@ -2,13 +2,13 @@
 ghost use Rattle.std.specs.Prelude.{◌≡◌, ◌<◌, ◌≤◌, ◌==◌, ◌&&◌, ◌||◌, ℕ, Bool, not, length, All, IfOk, slice_index};
 ghost use Rattle.partitioner.specs.Below.{count_below};
 ghost use Rattle.partitioner.specs.Private.Meeting.{is_met};
-ghost use Rattle.partitioner.specs.Private.Sources.{AreReaders};
+ghost use Rattle.node_reads.specs.Sources.{AreReaders};
 ghost use Rattle.partitioner.specs.Cost.{cost};
 
 use crate::counts::tracking::parts_list;
-use crate::reads::reading::packed_readers_of;
 use flat_net::{FlatNet, nodes_of};
 use graph::Graph;
+use node_reads::packed_readers_of;
 use std::alloc::Global;
 use tmr_base::{OutOfMemory, Parts};
 

@@ -2,8 +2,8 @@
 ghost use Rattle.std.specs.Prelude.{◌≡◌, ◌<◌, ◌≤◌, ◌==◌, ℕ, Bool, true, [], All, List, length, slice_index, slice_index_or, IfOk, OnOk};
 ghost use Rattle.std.specs.List.{list_any};
 ghost use Rattle.flat_net.specs.Net.{Net};
-ghost use Rattle.partitioner.specs.Private.Sources.{reads_other, is_wide, marked_by_row};
-ghost use Rattle.partitioner.specs.Noting.{Lists};
+ghost use Rattle.node_reads.specs.Sources.{reads_other, is_wide, marked_by_row};
+ghost use Rattle.node_reads.specs.Noting.{Lists};
 ghost use Rattle.partitioner.specs.Private.Sets.{has};
 ghost use Rattle.partitioner.specs.Private.Tracking.{Tracks, parts_of};
 ghost use Rattle.partitioner.specs.Private.Spotting.{AreSpots, KeepsSpots};
@@ -11,9 +11,9 @@ ghost use Rattle.partitioner.specs.Private.Spotting.{AreSpots, KeepsSpots};
 use crate::counts::counting::count_at;
 use crate::counts::partitioning::Partitioning;
 use crate::counts::sets::Sets;
-use crate::reads::wide::is_wide;
 use crate::refinement::placing::{has_room, part_of};
 use flat_net::{FlatNet, nodes_of};
+use node_reads::is_wide;
 use std::alloc::Global;
 use tmr_base::OutOfMemory;
 

@@ -1,18 +1,16 @@
 //! The counts beside a partitioning, made from it.
 ghost use Rattle.std.specs.Prelude.{◌≡◌, ◌<◌, ◌==◌, ℕ, true, List, All, length, slice_index, count_by, IfOk, OnOk, if◌then◌else◌};
 ghost use Rattle.flat_net.specs.Net.{Net};
-ghost use Rattle.partitioner.specs.Private.Sources.{is_wide, AreReaders};
+ghost use Rattle.node_reads.specs.Sources.{is_wide, AreReaders};
 ghost use Rattle.partitioner.specs.Private.Counting.{count_at};
 ghost use Rattle.partitioner.specs.Sizes.{held};
 ghost use Rattle.partitioner.specs.Private.Tracking.{Tracks, parts_of, reader_count};
 
 use crate::counts::counting::{count_at, set_count};
 use crate::counts::partitioning::Partitioning;
-use crate::reads::reading::{packed_readers_of, sources_of};
-use crate::reads::sorting::sorted_rows;
-use crate::reads::wide::{is_wide, wide_sources_of};
 use flat_net::{FlatNet, nodes_of};
 use graph::Graph;
+use node_reads::{is_wide, packed_readers_of, sorted_rows, sources_of, wide_sources_of};
 use std::alloc::Global;
 use std::collections::HashMap;
 use tmr_base::{OutOfMemory, Parts};

@@ -1,7 +1,7 @@
 //! Where a node goes.
 ghost use Rattle.std.specs.Prelude.{◌≡◌, ◌<◌, ◌≤◌, ◌==◌, ℕ, Bool, true, false, length, slice_index};
 ghost use Rattle.flat_net.specs.Net.{Net};
-ghost use Rattle.partitioner.specs.Private.Sources.{is_wide};
+ghost use Rattle.node_reads.specs.Sources.{is_wide};
 ghost use Rattle.partitioner.specs.Private.Loss.{is_wanted};
 ghost use Rattle.partitioner.specs.Refining.{has_room, place};
 ghost use Rattle.partitioner.specs.Private.Tracking.{Tracks, parts_of};
@@ -14,8 +14,8 @@ use crate::costs::gains::{Gains, begin, count_gains};
 use crate::costs::losses::loss_up_to;
 use crate::counts::partitioning::Partitioning;
 use crate::counts::spots::Spots;
-use crate::reads::wide::is_wide;
 use flat_net::FlatNet;
+use node_reads::is_wide;
 
 /// The best partition so far for a node, and the node's loss there.
 #[derive(Clone, Copy, Drop)]

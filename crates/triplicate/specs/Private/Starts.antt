@@ -2,7 +2,7 @@
 use Rattle.std.specs.Prelude.{◌≡◌, ℕ, ◌+◌, ◌≤◌, Bool, List, length, slice_index}
 use Rattle.tmr_base.specs.Parts.{PlainParts}
 use Rattle.flat_net.specs.Net.{Net, net_count}
-use Rattle.partitioner.specs.Noting.{Lists}
+use Rattle.node_reads.specs.Noting.{Lists}
 use Rattle.triplicate.specs.Private.Numbers.{block_start}
 use Rattle.triplicate.specs.Private.Noted.{needs}
 

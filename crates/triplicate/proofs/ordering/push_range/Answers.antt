@@ -1,7 +1,7 @@
 use Rattle.std.proofs.Common.{◌≡◌, ◌+◌, ◌-◌, ◌++◌, [], ◌∷◌, ℕ, suc, List, map, sym, ap, ◌∙◌, arith, append_assoc}
 use Rattle.std.specs.List.{range_with_len}
 use Rattle.std.proofs.lemmas.List.{map-append}
-use Rattle.partitioner.proofs.Numbers.{range_more}
+use Rattle.node_reads.proofs.Numbers.{range_more}
 use Rattle.flat_net.specs.Nodes.{number_of}
 use Rattle.triplicate.proofs.ordering.push_range.Goals as goal
 

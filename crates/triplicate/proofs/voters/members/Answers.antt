@@ -1,6 +1,6 @@
 use Rattle.std.proofs.Common.{◌≡◌, ◌+◌, ◌<◌, ℕ, List, sym, subst, ap, ◌∙◌, arith}
 use Rattle.std.specs.Prelude.{slice_index}
-use Rattle.partitioner.specs.Noting.{Lists, noted}
+use Rattle.node_reads.specs.Noting.{Lists, noted}
 use Rattle.triplicate.specs.Private.Noted.{is_in}
 use Rattle.triplicate.proofs.VoterRows.{member_noted}
 use Rattle.triplicate.proofs.voters.members.Goals as goal

@@ -1,4 +1,4 @@
-use Rattle.partitioner.specs.Noting.{Lists}
+use Rattle.node_reads.specs.Noting.{Lists}
 use Rattle.triplicate.specs.Private.Noted.{is_in}
 use Rattle.triplicate.proofs.voters.members.Given as goal
 

@@ -1,7 +1,7 @@
 use Rattle.std.proofs.Common.{◌≡◌, ◌+◌, ◌<◌, ℕ, List, [], length, replicate, sym, subst, ap, ◌∙◌, arith, All}
 use Rattle.std.proofs.lemmas.List.{length-replicate}
 use Rattle.flat_net.specs.Net.{net_count}
-use Rattle.partitioner.specs.Noting.{Lists}
+use Rattle.node_reads.specs.Noting.{Lists}
 use Rattle.triplicate.specs.Private.Pins.{pin_is_voted}
 use Rattle.triplicate.specs.Private.Noted.{needs, members, nodes_noted, parts_noted}
 use Rattle.triplicate.proofs.VoterRows.{length-parts_noted, parts_none, parts_step, members_below, rows_listed, none_listed, pin_in_range}

@@ -1,5 +1,5 @@
 use Rattle.std.proofs.Common.{◌+◌, ℕ, List, length, sym, ap, subst, arith, IsPermutation}
-use Rattle.partitioner.specs.Private.Sources.{other_sources}
+use Rattle.node_reads.specs.Sources.{other_sources}
 use Rattle.partitioner.proofs.LossLaws.{sources_below}
 use Rattle.partitioner.proofs.GainLaws.{gained_few, gained_more, sources_few}
 use Rattle.partitioner.proofs.costs.gains.count_gains.Goals as goal

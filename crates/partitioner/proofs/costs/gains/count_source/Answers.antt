@@ -1,10 +1,10 @@
 use Rattle.std.proofs.Common.{◌<◌, ◌∙◌, ◌+◌, ℕ, cond, eqb, not, ◌&&◌, List, sym, ap, subst, length, get_or}
 use Rattle.partitioner.specs.Below.{one_if}
-use Rattle.partitioner.specs.Private.Sources.{reads_other}
+use Rattle.node_reads.specs.Sources.{reads_other}
 use Rattle.partitioner.specs.Private.Gaining.{last_in, near_in}
 use Rattle.partitioner.specs.declared.costs.gains.Gains.{Gains}
 use Rattle.partitioner.proofs.GainLaws.{IsTurned, met_of, met_more, met_skipped, turn_goes_on, turn_same}
-use Rattle.partitioner.proofs.SourceLaws.{rows_below}
+use Rattle.node_reads.proofs.SourceLaws.{rows_below}
 use Rattle.partitioner.proofs.costs.gains.count_source.Goals as goal
 use Rattle.partitioner.proofs.costs.gains.count_source.Goals.{then-y-i, else-y-i}
 

@@ -3,7 +3,7 @@ use Rattle.std.specs.List.{count_by}
 use Rattle.std.proofs.lemmas.List.{length-take}
 use Rattle.std.proofs.lemmas.List.Sums.{count_by-le-length}
 use Rattle.partitioner.specs.Below.{one_if}
-use Rattle.partitioner.specs.Private.Sources.{other_sources}
+use Rattle.node_reads.specs.Sources.{other_sources}
 use Rattle.partitioner.specs.Private.Loss.{is_fresh, is_wanted}
 use Rattle.partitioner.proofs.BelowLaws.{one_if_le, byte_of}
 use Rattle.partitioner.proofs.LossLaws.{loss_more, loss_all, loss_at_least, sources_below, sources_read}

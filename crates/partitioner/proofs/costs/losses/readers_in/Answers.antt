@@ -1,8 +1,8 @@
 use Rattle.std.proofs.Common.{◌≡◌, ◌<◌, ◌∙◌, ℕ, List, length, eqb, get_or, sym, ap, subst}
 use Rattle.std.specs.List.{All, count_by}
-use Rattle.partitioner.specs.Private.Sources.{reads_other, other_readers}
+use Rattle.node_reads.specs.Sources.{reads_other, other_readers}
 use Rattle.partitioner.specs.Private.Tracking.{reader_count}
-use Rattle.partitioner.proofs.SourceLaws.{related_below}
+use Rattle.node_reads.proofs.SourceLaws.{related_below}
 use Rattle.partitioner.proofs.costs.losses.readers_in.Goals as goal
 
 pub count_in-requires-clause-row : goal.count_in-requires-clause-row

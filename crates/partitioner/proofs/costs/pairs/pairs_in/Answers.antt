@@ -3,11 +3,11 @@ use Rattle.std.proofs.lemmas.List.{length-replicate}
 use Rattle.std.specs.List.{All}
 use Rattle.tmr_base.specs.Parts.{PlainParts}
 use Rattle.partitioner.specs.Below.{sum_below, count_below}
-use Rattle.partitioner.specs.Private.Sources.{reads_other}
+use Rattle.node_reads.specs.Sources.{reads_other}
 use Rattle.partitioner.specs.Private.Meeting.{is_met}
 use Rattle.partitioner.specs.Cost.{foreign_count}
 use Rattle.partitioner.proofs.BelowLaws.{sum_more, sum_none}
-use Rattle.partitioner.proofs.SourceLaws.{related_below}
+use Rattle.node_reads.proofs.SourceLaws.{related_below}
 use Rattle.partitioner.proofs.CostLaws.{foreign_is, cost_is, product_more}
 use Rattle.partitioner.proofs.MeetingLaws.{none_past}
 use Rattle.partitioner.proofs.costs.pairs.pairs_in.Goals as goal

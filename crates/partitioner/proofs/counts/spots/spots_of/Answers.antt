@@ -1,9 +1,9 @@
 use Rattle.std.proofs.Common.{◌≡◌, ◌<◌, ◌∙◌, ◌+◌, ℕ, List, true, length, get_or, sym, subst, arith}
 use Rattle.std.specs.List.{All}
-use Rattle.partitioner.specs.Private.Sources.{reads_other, other_readers}
+use Rattle.node_reads.specs.Sources.{reads_other, other_readers}
 use Rattle.partitioner.specs.Private.Sets.{has}
 use Rattle.partitioner.specs.declared.counts.spots.Spots.{Spots}
-use Rattle.partitioner.proofs.SourceLaws.{related_below}
+use Rattle.node_reads.proofs.SourceLaws.{related_below}
 use Rattle.partitioner.proofs.SpotLaws.{SpottedBelow, spotted_more, spotted_narrow}
 use Rattle.partitioner.proofs.counts.spots.spots_of.Goals as goal
 use Rattle.partitioner.proofs.counts.spots.spots_of.Goals.{then-is_wide+in_ok-note_readers, else-is_wide}

@@ -1,8 +1,8 @@
 use Rattle.std.proofs.Common.{HashMap, BuildHasherDefault, FoldHasher, ◌<◌, ◌∙◌, ℕ, cond, eqb, List, length, slice_index, sym, ap, subst, arith}
 use Rattle.std.specs.List.{All, count_by}
-use Rattle.partitioner.specs.Private.Sources.{reads_other}
+use Rattle.node_reads.specs.Sources.{reads_other}
 use Rattle.partitioner.specs.Private.Counting.{count_at}
-use Rattle.partitioner.proofs.SourceLaws.{related_below}
+use Rattle.node_reads.proofs.SourceLaws.{related_below}
 use Rattle.partitioner.proofs.TrackLaws.{row_few}
 use Rattle.partitioner.proofs.WideLaws.{wide_counted, narrow_counted}
 use Rattle.partitioner.proofs.counts.tracking.counts_of.Goals as goal

@@ -2,12 +2,12 @@ use Rattle.std.proofs.Common.{◌≡◌, ℕ, ◌<◌, ◌∙◌, true, false, n
 use Rattle.std.specs.List.{All}
 use Rattle.std.proofs.lemmas.Bool.{true≢false}
 use Rattle.tmr_base.specs.Parts.{PlainParts}
-use Rattle.partitioner.specs.Private.Sources.{is_wide, wide_sources}
+use Rattle.node_reads.specs.Sources.{is_wide, wide_sources}
 use Rattle.partitioner.specs.Private.Sets.{has}
 use Rattle.partitioner.specs.Refining.{has_room, put}
 use Rattle.partitioner.specs.Private.Tracking.{parts_of}
 use Rattle.partitioner.specs.Private.Spotting.{AreSpots}
-use Rattle.partitioner.proofs.WideLaws.{wide_below, wide_pass}
+use Rattle.node_reads.proofs.WideRows.{wide_below, wide_pass}
 use Rattle.partitioner.proofs.SpotLaws.{NotesMoved, spots_moved}
 use Rattle.partitioner.proofs.refinement.moving.move_to.Goals as goal
 

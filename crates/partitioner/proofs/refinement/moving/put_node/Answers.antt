@@ -2,11 +2,11 @@ use Rattle.std.proofs.Common.{◌≡◌, ◌<◌, ◌≤◌, ◌+◌, ◌-◌, �
 use Rattle.std.specs.List.{All, count_by}
 use Rattle.std.proofs.lemmas.List.{length-set}
 use Rattle.std.proofs.lemmas.List.Elements.{All-set}
-use Rattle.partitioner.specs.Private.Sources.{reads_other, is_wide, wide_sources, marked_by_row}
+use Rattle.node_reads.specs.Sources.{reads_other, is_wide, wide_sources, marked_by_row}
 use Rattle.partitioner.specs.Private.Counting.{count_at}
 use Rattle.partitioner.specs.Private.Moving.{Shifts}
 use Rattle.partitioner.specs.Sizes.{held}
-use Rattle.partitioner.proofs.WideLaws.{wide_below, wide_read, wide_pass}
+use Rattle.node_reads.proofs.WideRows.{wide_below, wide_read, wide_pass}
 use Rattle.partitioner.proofs.HeldLaws.{held_some, held_shifted, held_moved}
 use Rattle.partitioner.proofs.ShiftLaws.{wide_once, source_counted, readers_within, counts_moved}
 use Rattle.partitioner.proofs.refinement.moving.put_node.Goals as goal

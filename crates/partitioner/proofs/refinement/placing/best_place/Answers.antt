@@ -1,5 +1,5 @@
 use Rattle.std.proofs.Common.{◌≡◌, ◌+◌, ◌∙◌, ℕ, true, List, sym, ap, subst, IsPermutation, refl}
-use Rattle.partitioner.specs.Private.Sources.{other_sources}
+use Rattle.node_reads.specs.Sources.{other_sources}
 use Rattle.partitioner.specs.Private.Leading.{LeadsOrLoses, is_settled, start_of}
 use Rattle.partitioner.proofs.LossLaws.{sources_below}
 use Rattle.partitioner.proofs.PlaceLaws.{settled_place, exhausted_place, readers_tried, source_tried, missed_loses}

@@ -1,11 +1,11 @@
 use Rattle.std.proofs.Common.{◌≡◌, ◌<◌, ◌∙◌, ℕ, true, List, length, get_or, sym, ap, subst, below_more, arith}
 use Rattle.std.proofs.lemmas.List.{get_or_default}
-use Rattle.partitioner.specs.Private.Sources.{reads_other, other_readers}
+use Rattle.node_reads.specs.Sources.{reads_other, other_readers}
 use Rattle.partitioner.specs.Private.Leading.{LeadsOpen, start_of}
 use Rattle.partitioner.specs.Private.Loss.{is_wanted}
 use Rattle.std.proofs.lemmas.Bool.{eqb-true}
 use Rattle.partitioner.proofs.CountLaws.{wanted_by_reader}
-use Rattle.partitioner.proofs.SourceLaws.{rows_below}
+use Rattle.node_reads.proofs.SourceLaws.{rows_below}
 use Rattle.partitioner.proofs.refinement.placing.consider_readers.Goals as goal
 
 pub part_of-requires-clause-node : goal.part_of-requires-clause-node

@@ -1,0 +1,5 @@
+pub mod Numbers
+pub mod NotingLaws
+pub mod PinLaws
+pub mod SourceLaws
+pub mod WideRows

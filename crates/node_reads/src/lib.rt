@@ -1,0 +1,13 @@
+//! For each node of a design the other nodes that read it, and those that it reads.
+//!
+//! The layers above may rely on this: a row lists each node once. The rows of `readers_of` and `sources_of` are in ascending order,
+//! and those of `sorted_rows` have the same nodes in the order of how long other rows are.
+#![tactic(auto)]
+
+mod reading;
+mod sorting;
+mod wide;
+
+pub use reading::{note, packed_readers_of, readers_of, sources_of};
+pub use sorting::sorted_rows;
+pub use wide::{is_long, is_wide, wide_sources_of};

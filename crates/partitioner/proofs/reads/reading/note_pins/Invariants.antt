@@ -1,5 +1,0 @@
-use Rattle.partitioner.proofs.PinLaws.{Marked}
-use Rattle.partitioner.proofs.reads.reading.note_pins.Given as goal
-
-abbrev pub invariant-loop-j : goal.invariant-loop-j
-invariant-loop-j l = Marked l.n.net l.y l.j l.rows

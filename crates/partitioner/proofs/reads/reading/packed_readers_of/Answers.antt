@@ -1,7 +1,0 @@
-use Rattle.std.proofs.Common.{ℕ, List, length, sym, subst}
-use Rattle.partitioner.specs.Private.Sources.{reads_other}
-use Rattle.partitioner.specs.Noting.{Lists}
-use Rattle.partitioner.proofs.reads.reading.packed_readers_of.Goals as goal
-
-pub returns : goal.returns
-returns c = subst (λ (rows : List (List ℕ)). Lists (reads_other c.args.n.now.net) (length c.args.n.now.net.nodes) (length c.args.n.now.net.nodes) rows) (sym c.in_ok-packed.ensures) c.in_ok-rows.ensures

@@ -1,6 +1,0 @@
-use Rattle.std.proofs.Common.{◌≡◌, ℕ, ◌<◌, [], length, slice_index_or}
-use Rattle.partitioner.specs.Private.Sources.{wide_sources}
-use Rattle.partitioner.proofs.reads.wide.wide_sources_of.Given as goal
-
-abbrev pub invariant-loop-i : goal.invariant-loop-i
-invariant-loop-i l = (length l.rows ≡ l.i) × ((k : ℕ) → k < l.i → slice_index_or l.rows k [] ≡ wide_sources l.n.net k)
