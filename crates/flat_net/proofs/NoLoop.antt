@@ -5,8 +5,10 @@ use Rattle.std.proofs.lemmas.Bool.{cases_lt}
 use Rattle.std.proofs.lemmas.List.{get_or_default}
 use Rattle.flat_net.specs.Net.{Net, node_of, net_count, table_pins, IsTable, IsOrder}
 use Rattle.flat_net.specs.Loop.{ReadsTable, IsLoop}
+use Rattle.flat_net.specs.Private.ByPlace.{IsOrderByPlace}
 use Rattle.flat_net.proofs.Causes.{loop_table}
 use Rattle.flat_net.proofs.Ranges.{table_within}
+use Rattle.flat_net.proofs.ByPlace.{by_place}
 
 -- a place of the order, and one of the loop, where the same number stands
 pub record Meets (order around : List ℕ) (bound : ℕ) : Type 0 where
@@ -43,8 +45,11 @@ read_next n tables loop k h = go (cases_lt (suc k) (length tables))
         (0, loop.some, subst (λ (i : ℕ). ReadsTable n (slice_index tables i) (slice_index tables 0)) e loop.closed)
 
 pub no_loop : (n : Net) (order tables : List ℕ) → IsOrder n order → IsLoop n tables → ⊥
-no_loop n order tables ordered loop = go (ordered.complete (slice_index tables 0) first.0 first.1)
+no_loop n order tables ordered loop = go (places.complete (slice_index tables 0) first.0 first.1)
   where
+    places : IsOrderByPlace n order
+    places = by_place n order ordered
+
     first : (length n.inputs ≤ slice_index tables 0) × (slice_index tables 0 < net_count n)
     first = table_within n (slice_index tables 0) (loop_table n tables loop 0 loop.some)
 
@@ -53,7 +58,7 @@ no_loop n order tables ordered loop = go (ordered.complete (slice_index tables 0
         let (at, within, reads) = read_next n tables loop j l in
         let (i, below, is) = subst (λ (x : ℕ). Contains (table_pins (node_of n x)) (slice_index tables at)) (sym e) reads in
         let pin : slice_index (table_pins (node_of n (slice_index order k))) i ≡ slice_index tables at = get_or_default (table_pins (node_of n (slice_index order k))) i 0 (slice_index tables at) below ∙ is in
-        let (place, earlier, same) = ordered.after k i h below (subst (λ (x : ℕ). IsTable (node_of n x)) (sym pin) (loop_table n tables loop at within)) in
+        let (place, earlier, same) = places.after k i h below (subst (λ (x : ℕ). IsTable (node_of n x)) (sym pin) (loop_table n tables loop at within)) in
         record {
           place = place;
           at = at;

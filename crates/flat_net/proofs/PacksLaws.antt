@@ -6,7 +6,7 @@ use Rattle.flat_net.specs.declared.nodes.Body.{Body}
 use Rattle.flat_net.specs.declared.nodes.PackedNodes.{PackedNodes}
 use Rattle.flat_net.specs.Nodes.{number_of}
 use Rattle.tmr_base.specs.declared.ids.NetId.{NetId}
-use Rattle.flat_net.specs.Net.{Net, Node, is_register, register_count, node_name, net_names, IsValid, IsUnordered}
+use Rattle.flat_net.specs.Net.{Net, Node, is_register, register_count, node_name, net_names, IsUnordered}
 use Rattle.flat_net.specs.declared.wiring.Wiring.TheInside.{Inside}
 use Rattle.flat_net.specs.View.{net_of, IsWiring}
 use Rattle.flat_net.specs.Packed.{node_from, nodes_from, HasPins}
@@ -68,19 +68,4 @@ wiring_assembled n w p valid = record {
   cut = p.nodes.cut;
   registers = p.nodes.registers ∙ ap register_count (sym (net_assembled n w p));
   net = subst (λ (m : Net). IsUnordered m) (sym (net_assembled n w p)) valid;
-}
-
--- what is valid is valid but for an order
-pub unordered_from_valid : (n : Net) → IsValid n → IsUnordered n
-unordered_from_valid n v = record {
-  model_is_name = v.model_is_name;
-  few = v.few;
-  few_pins = v.few_pins;
-  few_outputs = v.few_outputs;
-  names_are_names = v.names_are_names;
-  names_differ = v.names_differ;
-  wired = v.wired;
-  outputs_in_range = v.outputs_in_range;
-  outputs_differ = v.outputs_differ;
-  clock = v.clock;
 }

@@ -29,8 +29,8 @@ pin_in_range n x j y valid l e = go (node_of n x) refl l e
   where
     go : (o : Option Node) → node_of n x ≡ o → j < length (pins_at o) → y ≡ slice_index (pins_at o) j → y < net_count n
     go None is l e = absurd (omega arith)
-    go (Some (Table name cover pins)) is l e = let wired = (valid.wired x _ is).0 j 0 l in rw e wired
-    go (Some (Register name init pin)) is l e = pin_lt j l e (valid.wired x _ is)
+    go (Some (Table name cover pins)) is l e = let wired = (valid.unordered.wired x _ is).0 j 0 l in rw e wired
+    go (Some (Register name init pin)) is l e = pin_lt j l e (valid.unordered.wired x _ is)
       where
         pin_lt : (j : ℕ) → j < length (pin ∷ []) → y ≡ slice_index (pin ∷ []) j → pin < net_count n → y < net_count n
         pin_lt zero l e wired = omega arith
@@ -42,13 +42,13 @@ cover_width n x k valid is = go (node_of n x) refl is
   where
     go : (o : Option Node) → node_of n x ≡ o → IsCoverOf o k → length (pins_at o) ≡ k.width
     go None e is = absurd is
-    go (Some (Table name cover pins)) e is = (valid.wired x _ e).1 ∙ ap (λ (w : PlainCover). w.width) is
+    go (Some (Table name cover pins)) e is = (valid.unordered.wired x _ e).1 ∙ ap (λ (w : PlainCover). w.width) is
     go (Some (Register name init pin)) e is = absurd is
 
 -- an output is a net
 pub output_in_range : (n : Net) (k x : ℕ) → IsValid n → slice_get n.outputs k ≡ Some x → x < net_count n
 output_in_range n k x valid e =
-    subst (λ (y : ℕ). y < net_count n) (get_or_from_slice_get n.outputs k x 0 e) (valid.outputs_in_range k 0 (slice_get_within n.outputs k x e))
+    subst (λ (y : ℕ). y < net_count n) (get_or_from_slice_get n.outputs k x 0 e) (valid.unordered.outputs_in_range k 0 (slice_get_within n.outputs k x e))
 
 -- a node has no more pins than all nodes together
 pub pins_few : (n : Net) (x : ℕ) (node : Node) → pin_total n < 4294967295 → node_of n x ≡ Some node → length (pins_of node) < 4294967295
@@ -71,4 +71,4 @@ pins_at_few n x few = go (node_of n x) refl
 pub ordered_in_range : (d : Design) (i x : ℕ) → IsDesign d → slice_get d.order i ≡ Some x → (length d.net.inputs ≤ x) × (x < net_count d.net)
 ordered_in_range d i x is e =
     let at : get_or d.order i 0 ≡ x = get_or_from_slice_get d.order i x 0 e in
-    rw at at (is.order.nodes i (slice_get_within d.order i x e))
+    rw at at (is.order.nodes i 0 (slice_get_within d.order i x e))

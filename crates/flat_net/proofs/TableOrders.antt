@@ -7,10 +7,12 @@ use Rattle.std.proofs.lemmas.List.FromFn.{get_or-map-range_with_len, length-map-
 use Rattle.graph.specs.Rows.{row, Stands, Follows}
 use Rattle.graph.specs.Orders.{Reached, is_root, is_read, IsCycle, IsOrder as IsRowOrder}
 use Rattle.graph.proofs.Places.{reader_within}
-use Rattle.flat_net.specs.Net.{Net, Node, Table, Register, node_of, net_count, table_pins, IsTable, ComesBefore, IsOrder}
+use Rattle.flat_net.specs.Net.{Net, Node, Table, Register, node_of, net_count, table_pins, IsTable, IsOrder}
+use Rattle.flat_net.specs.Private.ByPlace.{ComesBefore}
 use Rattle.flat_net.specs.Loop.{ReadsTable, IsLoop}
 use Rattle.flat_net.specs.Private.TableReads.{read_of, table_row, table_rows}
 use Rattle.flat_net.proofs.Ranges.{table_within}
+use Rattle.flat_net.proofs.ByPlace.{from_places}
 
 pub no_reads : (o : Option Node) → (IsTable o → ⊥) → table_pins o ≡ []
 no_reads None none = refl
@@ -87,12 +89,12 @@ module _ (n : Net) (nodes nets : List ℕ) (are : nets ≡ map (λ x. length n.i
       next k h = rw (net_at k (omega arith), net_at (suc k) h) (reads_table n (get_or nodes (suc k) 0) (get_or nodes k 0) (c.next k h))
 
   pub order_of : IsRowOrder (table_rows n) (length n.nodes) nodes → IsOrder n nets
-  order_of o = record {
+  order_of o = from_places n nets (record {
     nodes = λ k h. nodes_at k (omega (arith, h, long));
     complete = λ x low high. complete x low (o.complete (x - length n.inputs) (is_root (x - length n.inputs) (omega arith)));
     once = λ j k jk h e. o.once.apart j k jk (omega (arith, h, long)) (omega (arith, sym (net_at j (omega (arith, h, long, jk))) ∙ (e ∙ net_at k (omega (arith, h, long)))));
     after = λ k i h. after k i (omega (arith, h, long));
-  }
+  })
     where
       nodes_at : (k : ℕ) → k < length nodes → (length n.inputs ≤ get_or nets k 0) × (get_or nets k 0 < net_count n)
       nodes_at k h = let w = o.within k h in (omega (arith, net_at k h), omega (arith, net_at k h, w, rows_long n))

@@ -99,18 +99,16 @@ table_pins None = []
 table_pins (Some (Table name cover pins)) = pins
 table_pins (Some (Register name init pin)) = []
 
--- where pin i of the table at k is a table, that one stands before k
-abbrev pub ComesBefore : Net → List ℕ → ℕ → ℕ → Type 0
-ComesBefore n order k i =
-    let pins = table_pins (node_of n (slice_index order k)) in
-    i < length pins → IsTable (node_of n (slice_index pins i)) → (j : ℕ) × (j < k) × (slice_index order j ≡ slice_index pins i)
+-- the number of a node
+abbrev pub IsNode : Net → ℕ → Type 0
+IsNode n x = (length n.inputs ≤ x) × (x < net_count n)
 
 -- the net numbers of all nodes, each once, each table after each table that it reads
 pub record IsOrder (n : Net) (order : List ℕ) : Type 0 where
-  pub nodes : (k : ℕ) → k < length order → (length n.inputs ≤ slice_index order k) × (slice_index order k < net_count n)
-  pub complete : (x : ℕ) → length n.inputs ≤ x → x < net_count n → (k : ℕ) × (k < length order) × (slice_index order k ≡ x)
-  pub once : (j k : ℕ) → j < k → k < length order → slice_index order j ≢ slice_index order k
-  pub after : (k i : ℕ) → k < length order → ComesBefore n order k i
+  pub nodes : All (IsNode n) order
+  pub complete : (x : ℕ) → IsNode n x → Contains order x
+  pub once : (before after : List ℕ) (x : ℕ) → order ≡ before ++ x ∷ after → Contains before x → ⊥
+  pub after : (before after : List ℕ) (x : ℕ) → order ≡ before ++ x ∷ after → All (λ pin. IsTable (node_of n pin) → Contains before pin) (table_pins (node_of n x))
 
 -- a node's pins are nets, and a table has as many as its cover is wide
 abbrev pub IsWired : ℕ → Node → Type 0
@@ -135,18 +133,9 @@ pub record IsUnordered (n : Net) : Type 0 where
   pub outputs_differ : (j k : ℕ) → j < k → k < length n.outputs → slice_index n.outputs j ≢ slice_index n.outputs k
   pub clock : IsClockOf n n.clock
 
--- what each design keeps
+-- what each design keeps: its nodes can be evaluated in an order
 pub record IsValid (n : Net) : Type 0 where
-  pub model_is_name : is_name n.model ≡ true
-  pub few : net_count n < 4294967295
-  pub few_pins : pin_total n < 4294967295
-  pub few_outputs : length n.outputs < 4294967295
-  pub names_are_names : (x : ℕ) → x < net_count n → is_name (name_of n x) ≡ true
-  pub names_differ : (x y : ℕ) → x < net_count n → y < net_count n → name_of n x ≡ name_of n y → x ≡ y
-  pub wired : (x : ℕ) (node : Node) → node_of n x ≡ Some node → IsWired (net_count n) node
-  pub outputs_in_range : All (λ x. x < net_count n) n.outputs
-  pub outputs_differ : (j k : ℕ) → j < k → k < length n.outputs → slice_index n.outputs j ≢ slice_index n.outputs k
-  pub clock : IsClockOf n n.clock
+  pub unordered : IsUnordered n
   pub ordered : (order : List ℕ) × IsOrder n order
 
 -- a design, and beside it an order in which its nodes can be evaluated
