@@ -7,6 +7,8 @@ use Rattle.flat_net.specs.Net.{Net, node_of, net_count, table_pins, IsTable, IsO
 use Rattle.flat_net.specs.Loop.{ReadsTable, IsLoop as IsTableLoop}
 use Rattle.flat_net.proofs.Causes.{loop_table}
 use Rattle.flat_net.proofs.Ranges.{table_within}
+use Rattle.flat_net.specs.Private.ByPlace.{IsOrderByPlace}
+use Rattle.flat_net.proofs.ByPlace.{by_place}
 use Rattle.hierarchy.specs.Graph.{row, Places}
 use Rattle.hierarchy.specs.Library.{IsLoop}
 use Rattle.hierarchy.specs.Found.{IsOrder}
@@ -73,8 +75,11 @@ read_next n tables loop k h = go (cases_lt (suc k) (length tables))
         (0, loop.some, subst (λ (i : ℕ). ReadsTable n (slice_index tables i) (slice_index tables 0)) e loop.closed)
 
 pub no_table_loop : (n : Net) (order tables : List ℕ) → IsNetOrder n order → IsTableLoop n tables → ⊥
-no_table_loop n order tables ordered loop = go (ordered.complete (slice_index tables 0) first.0 first.1)
+no_table_loop n order tables ordered loop = go (places.complete (slice_index tables 0) first.0 first.1)
   where
+    places : IsOrderByPlace n order
+    places = by_place n order ordered
+
     first : (length n.inputs ≤ slice_index tables 0) × (slice_index tables 0 < net_count n)
     first = table_within n (slice_index tables 0) (loop_table n tables loop 0 loop.some)
 
@@ -83,7 +88,7 @@ no_table_loop n order tables ordered loop = go (ordered.complete (slice_index ta
         let (at, within, reads) = read_next n tables loop j l in
         let (i, below, is) = subst (λ (x : ℕ). Contains (table_pins (node_of n x)) (slice_index tables at)) (sym e) reads in
         let pin : slice_index (table_pins (node_of n (slice_index order k))) i ≡ slice_index tables at = get_or_default (table_pins (node_of n (slice_index order k))) i 0 (slice_index tables at) below ∙ is in
-        let (place, earlier, same) = ordered.after k i h below (subst (λ (x : ℕ). IsTable (node_of n x)) (sym pin) (loop_table n tables loop at within)) in
+        let (place, earlier, same) = places.after k i h below (subst (λ (x : ℕ). IsTable (node_of n x)) (sym pin) (loop_table n tables loop at within)) in
         record {
           place = place;
           at = at;

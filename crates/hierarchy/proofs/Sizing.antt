@@ -73,7 +73,7 @@ module _ (d : PlainDraft) (valid : IsValid (net_of_draft d)) (fine : IsFaultless
   names_some : Named (draft_names d)
   names_some k h =
       let count : net_count (net_of_draft d) ≡ length (draft_names d) = count_of_draft d in
-      name_some (get_or (draft_names d) k []) (subst (λ names. is_name (get_or names k []) ≡ true) (names_of_draft d) (valid.names_are_names k (omega arith)))
+      name_some (get_or (draft_names d) k []) (subst (λ names. is_name (get_or names k []) ≡ true) (names_of_draft d) (valid.unordered.names_are_names k (omega arith)))
 
   among_some : (name : List ℕ) → is_among (draft_names d) name ≡ true → 0 < length name
   among_some name is = let at = among_number (draft_names d) name is in subst (λ (x : List ℕ). 0 < length x) at.1 (names_some (number_in (draft_names d) name) at.0)
