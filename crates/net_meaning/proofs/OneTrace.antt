@@ -32,7 +32,7 @@ module _ (n : Net) (order : List ℕ) (is_order : IsOrder n order) (valid : IsVa
   meant o t ins before v x = unwrap_or (upset_at s t x) (net_value o (start_at n free w x) t ins before v x)
 
   pin_lt : (x : ℕ) (name : List ℕ) (cover : PlainCover) (pins : List ℕ) → node_of n x ≡ Some (Table name cover pins) → (j : ℕ) → j < length pins → slice_index pins j < net_count n
-  pin_lt x name cover pins e j l = (valid.wired x _ e).0 j 0 l
+  pin_lt x name cover pins e j l = (valid.unordered.wired x _ e).0 j 0 l
 
   module _ (t : ℕ) (ins before : List Bool) where
     -- each net's value by its equation, from the values v

@@ -2,6 +2,8 @@
 use Rattle.std.proofs.Common.{◌≡◌, ℕ, zero, suc, ◌<◌, ◌≤◌, Bool, List, length, refl, sym, ◌∙◌, ap, subst, arith, slice_index, Option, Some, None}
 use Rattle.table_cover.specs.Cover.{PlainCover}
 use Rattle.flat_net.specs.Net.{Net, Node, Table, Register, node_of, table_pins, IsTable, IsOrder}
+use Rattle.flat_net.specs.Private.ByPlace.{IsOrderByPlace}
+use Rattle.flat_net.proofs.ByPlace.{by_place}
 use Rattle.flat_net.proofs.Slots.{slot_within}
 
 module _ (n : Net) (order : List ℕ) (is_order : IsOrder n order) (P : ℕ → Type 0)
@@ -9,6 +11,9 @@ module _ (n : Net) (order : List ℕ) (is_order : IsOrder n order) (P : ℕ → 
     (registers : (x : ℕ) (name : List ℕ) (init : Bool) (pin : ℕ) → node_of n x ≡ Some (Register name init pin) → P x)
     (tables : (x : ℕ) (name : List ℕ) (cover : PlainCover) (pins : List ℕ) → node_of n x ≡ Some (Table name cover pins) → ((j : ℕ) → j < length pins → P (slice_index pins j)) → P x)
   where
+    places : IsOrderByPlace n order
+    places = by_place n order is_order
+
     -- a net that is no table, or a table of which P is known
     other : (x : ℕ) → (IsTable (node_of n x) → P x) → P x
     other x known = go (node_of n x) refl
@@ -31,7 +36,7 @@ module _ (n : Net) (order : List ℕ) (is_order : IsOrder n order) (P : ℕ → 
             pin : (j : ℕ) → j < length pins → IsTable (node_of n (slice_index pins j)) → P (slice_index pins j)
             pin j l is_table =
                 let same : table_pins (node_of n (slice_index order k)) ≡ pins = ap table_pins e in
-                let (i, lt, is) = is_order.after k j h (subst (λ (ps : List ℕ). j < length ps) (sym same) l) (subst (λ (ps : List ℕ). IsTable (node_of n (slice_index ps j))) (sym same) is_table) in
+                let (i, lt, is) = places.after k j h (subst (λ (ps : List ℕ). j < length ps) (sym same) l) (subst (λ (ps : List ℕ). IsTable (node_of n (slice_index ps j))) (sym same) is_table) in
                 subst P (is ∙ ap (λ (ps : List ℕ). slice_index ps j) same) (before i lt)
 
     below : (k j : ℕ) → j < k → k ≤ length order → P (slice_index order j)
@@ -45,5 +50,5 @@ module _ (n : Net) (order : List ℕ) (is_order : IsOrder n order) (P : ℕ → 
         go None e = inputs x e
         go (Some node) e =
             let (low, high) = slot_within _ _ x node e in
-            let (k, l, is) = is_order.complete x low high in
+            let (k, l, is) = places.complete x low high in
             subst P is (below (length order) k l (omega arith))
