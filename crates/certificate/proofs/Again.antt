@@ -143,7 +143,7 @@ named_again n x valid lt =
     let there = position_there (name_of n x) (net_names n) x (omega (arith, names_long n, lt)) refl in
     let p = position-Some (bytes_eq (name_of n x)) (net_names n) there.0 [] there.1 in
     let same : name_of n x ≡ name_of n there.0 = (bytes_eq-Decides (name_of n x) (get_or (net_names n) there.0 [])).0 p.1 in
-    let is : x ≡ there.0 = valid.names_differ x there.0 lt (omega (arith, names_long n, p.0)) same in
+    let is : x ≡ there.0 = valid.unordered.names_differ x there.0 lt (omega (arith, names_long n, p.0)) same in
     there.1 ∙ ap Some (sym is)
 
 pub known_again : (n : Net) (x line : ℕ) → IsValid n → IsNode n x → known n (name_of n x) line ≡ Ok x
@@ -234,7 +234,7 @@ all_cons : (w : List ℕ) (ws : List (List ℕ)) → is_full w ≡ true → list
 all_cons w ws e f = rw (e, f) refl
 
 name_ok : (n : Net) (x : ℕ) → IsValid n → x < net_count n → IsWord (name_of n x) × (is_full (name_of n x) ≡ true)
-name_ok n x valid lt = let e = valid.names_are_names x lt in (name_word (name_of n x) e, name_full (name_of n x) e)
+name_ok n x valid lt = let e = valid.unordered.names_are_names x lt in (name_word (name_of n x) e, name_full (name_of n x) e)
 
 number_ok : (m : ℕ) → m < 2 ^ 32 → IsWord (decimal m) × (is_full (decimal m) ≡ true)
 number_ok m small = (number_word m (omega arith), number_full m (omega arith))

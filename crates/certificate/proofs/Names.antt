@@ -16,7 +16,7 @@ no_name n name None valid e bad = refl
 no_name n name (Some x) valid e bad =
     let p = position-Some (bytes_eq name) (net_names n) x [] e in
     let same : name ≡ get_or (net_names n) x [] = (bytes_eq-Decides name (get_or (net_names n) x [])).0 p.1 in
-    let good : is_name (get_or (net_names n) x []) ≡ true = valid.names_are_names x (omega (arith, names_long n, p.0)) in
+    let good : is_name (get_or (net_names n) x []) ≡ true = valid.unordered.names_are_names x (omega (arith, names_long n, p.0)) in
     absurd (cc (ap is_name same, good, bad))
 
 pub not_named : (n : Net) (name : List ℕ) → IsValid n → is_name name ≡ false → net_named n name ≡ None

@@ -206,8 +206,8 @@ is_cert version n h parts depth nodes roles is_version valid valid_h long small_
   record {
     known_version = is_version;
     few_parts = omega arith;
-    few_original = omega (arith, valid.few, ok.part);
-    few_hardened = omega (arith, valid_h.few, done.long);
+    few_original = omega (arith, valid.unordered.few, ok.part);
+    few_hardened = omega (arith, valid_h.unordered.few, done.long);
     small_depths = small_depths;
     small_labels = ok.small;
     parts_in_range = subst (λ (m : ℕ). All (λ p. p < m) nodes.part) (sym long) ok.in_range;
