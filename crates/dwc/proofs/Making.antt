@@ -29,7 +29,7 @@ use Rattle.dwc.proofs.Nodes.{name_of_node, twin_named, twin_get}
 pub names_distinct : (g : Net) → IsValid g → AreDistinct (net_names g)
 names_distinct g valid j k less h e =
     let long : length (net_names g) ≡ net_count g = length-append g.inputs (map node_name g.nodes) ∙ ap (λ m. length g.inputs + m) (length-map g.nodes node_name) in
-    let same : j ≡ k = valid.names_differ j k (omega (arith, less, h, long)) (omega (arith, h, long)) e in
+    let same : j ≡ k = valid.unordered.names_differ j k (omega (arith, less, h, long)) (omega (arith, h, long)) e in
     omega (arith, less, same)
 
 pub inputs_distinct : (g : Net) → IsValid g → AreDistinct g.inputs
@@ -89,11 +89,11 @@ packs_total names packed nodes k =
 pub room_for_pins : (g : Net) (k : ℕ) (node : Node) (made : Made) → IsValid g → slice_get g.nodes k ≡ Some node → IsMade g k made → length made.nodes.pins.items + length (pins_of node) < 4294967296
 room_for_pins g k node made valid at is =
     let f : Node → ℕ = λ node. length (pins_of node) in
-    omega (arith, valid.few_pins, sum_by-take-drop f g.nodes (k + 1), ap (sum_by f) (next_nodes g k node at), sum_by-append f (take k g.nodes) (node ∷ []), sum_by-cons f node [], packs_total (map node_name (take k g.nodes)) made.nodes (take k g.nodes) is.packed)
+    omega (arith, valid.unordered.few_pins, sum_by-take-drop f g.nodes (k + 1), ap (sum_by f) (next_nodes g k node at), sum_by-append f (take k g.nodes) (node ∷ []), sum_by-cons f node [], packs_total (map node_name (take k g.nodes)) made.nodes (take k g.nodes) is.packed)
 
 pub room_for_registers : (g : Net) (k : ℕ) (node : Node) (made : Made) → IsValid g → slice_get g.nodes k ≡ Some node → IsMade g k made → made.nodes.registers + 1 < 4294967296
 room_for_registers g k node made valid at is =
-    omega (arith, valid.few, slice_get_within g.nodes k node at, is.packed.registers, count_by-le-length is_register (take k g.nodes), length-take-le k g.nodes (omega (arith, slice_get_within g.nodes k node at)))
+    omega (arith, valid.unordered.few, slice_get_within g.nodes k node at, is.packed.registers, count_by-le-length is_register (take k g.nodes), length-take-le k g.nodes (omega (arith, slice_get_within g.nodes k node at)))
 
 -- ---- the copy of a node
 

@@ -5,8 +5,10 @@ use Rattle.std.specs.List.{flat_map, range_with_len}
 use Rattle.std.proofs.lemmas.Bool.{cases_lt}
 use Rattle.std.proofs.lemmas.List.{length-append, length-map, get_or-map}
 use Rattle.std.proofs.lemmas.Option.{slice_get-get_or, get_or_from_slice_get, slice_get_within}
-use Rattle.flat_net.specs.Net.{Net, Node, Table, Register, net_count, node_of, table_pins, IsTable, ComesBefore, IsOrder, IsValid}
+use Rattle.flat_net.specs.Net.{Net, Node, Table, Register, net_count, node_of, table_pins, IsTable, IsOrder, IsValid}
 use Rattle.flat_net.proofs.Slots.{slot_there, slice_get_there}
+use Rattle.flat_net.specs.Private.ByPlace.{ComesBefore, IsOrderByPlace}
+use Rattle.flat_net.proofs.ByPlace.{by_place, from_places}
 use Rattle.dwc.specs.Guard.{twin, twofold, node_twin, comparator, alarm, alarm_net, guard_net}
 use Rattle.dwc.specs.Making.{guard_order}
 use Rattle.dwc.proofs.Lists.{get_before, get_after, length-twos, twos_at, halves, same_half}
@@ -14,6 +16,9 @@ use Rattle.dwc.proofs.Nodes
 use Rattle.dwc.proofs.Valid.{length-range, range_at, output_below}
 
 module _ (n : Net) (valid : IsValid n) (order : List ℕ) (ordered : IsOrder n order) where
+  places : IsOrderByPlace n order
+  places = by_place n order ordered
+
   length-order : length (guard_order n order) ≡ 2 * length order + (length n.outputs + 1)
   length-order = omega (arith, length-append (flat_map (λ x. twofold (λ c. twin c x)) order) (range_with_len (2 * net_count n) (length n.outputs + 1)), length-twos (λ x c. twin c x) order, length-range (2 * net_count n) (length n.outputs + 1))
 
@@ -53,7 +58,7 @@ module _ (n : Net) (valid : IsValid n) (order : List ℕ) (ordered : IsOrder n o
           let p = halves k in
           let within : p.half < length order = omega (arith, l, p.is) in
           let (x, there) = slice_get_there order p.half within in
-          let range = ordered.nodes p.half within in
+          let range = places.nodes p.half within in
           let own = get_or_from_slice_get order p.half x 0 there in
           inl (record {
             place = p.half;
@@ -82,7 +87,7 @@ module _ (n : Net) (valid : IsValid n) (order : List ℕ) (ordered : IsOrder n o
   -- where a node's copy stands
   place_of : (x : ℕ) → length n.inputs ≤ x → x < net_count n → (i : ℕ) × (i < length order) × (slice_get order i ≡ Some x)
   place_of x low high =
-      let (i, l, e) = ordered.complete x low high in
+      let (i, l, e) = places.complete x low high in
       (i, l, slice_get-get_or order i 0 l ∙ ap Some e)
 
   complete : (x : ℕ) → length (guard_net n).inputs ≤ x → x < net_count (guard_net n) → (k : ℕ) × (k < length (guard_order n order)) × (slice_index (guard_order n order) k ≡ x)
@@ -103,8 +108,8 @@ module _ (n : Net) (valid : IsValid n) (order : List ℕ) (ordered : IsOrder n o
   listed_once j k x a b = go (cases_lt j k) (cases_lt k j)
     where
       go : (j < k) ⊎ (k ≤ j) → (k < j) ⊎ (j ≤ k) → j ≡ k
-      go (inl l) any = absurd (ordered.once j k l (slice_get_within order k x b) (get_or_from_slice_get order j x 0 a ∙ sym (get_or_from_slice_get order k x 0 b)))
-      go (inr l) (inl m) = absurd (ordered.once k j m (slice_get_within order j x a) (get_or_from_slice_get order k x 0 b ∙ sym (get_or_from_slice_get order j x 0 a)))
+      go (inl l) any = absurd (places.once j k l (slice_get_within order k x b) (get_or_from_slice_get order j x 0 a ∙ sym (get_or_from_slice_get order k x 0 b)))
+      go (inr l) (inl m) = absurd (places.once k j m (slice_get_within order j x a) (get_or_from_slice_get order k x 0 b ∙ sym (get_or_from_slice_get order j x 0 a)))
       go (inr l) (inr m) = omega (arith, l, m)
 
   once : (j k : ℕ) → j < k → k < length (guard_order n order) → slice_index (guard_order n order) j ≢ slice_index (guard_order n order) k
@@ -143,11 +148,11 @@ module _ (n : Net) (valid : IsValid n) (order : List ℕ) (ordered : IsOrder n o
   twin_after k i a (Table name cover pins) at l t =
       let l' : i < length pins = omega (arith, l, length-map pins (twin a.copy)) in
       let here : slice_index (map (twin a.copy) pins) i ≡ twin a.copy (slice_index pins i) = get_or-map (twin a.copy) pins i 0 0 l' in
-      let range : slice_index pins i < net_count n = (valid.wired a.net (Table name cover pins) at).0 i 0 l' in
+      let range : slice_index pins i < net_count n = (valid.unordered.wired a.net (Table name cover pins) at).0 i 0 l' in
       let was = was_table (slice_index pins i) a.copy range a.few (subst (λ x. IsTable (node_of (guard_net n) x)) here t) in
       let own : table_pins (node_of n (slice_index order a.place)) ≡ pins = ap (λ x. table_pins (node_of n x)) (get_or_from_slice_get order a.place a.net 0 a.listed) ∙ ap table_pins at in
       let before : i < length pins → IsTable (node_of n (slice_index pins i)) → (j : ℕ) × (j < a.place) × (slice_index order j ≡ slice_index pins i) =
-      subst (λ (ps : List ℕ). i < length ps → IsTable (node_of n (slice_index ps i)) → (j : ℕ) × (j < a.place) × (slice_index order j ≡ slice_index ps i)) own (ordered.after a.place i (slice_get_within order a.place a.net a.listed)) in
+      subst (λ (ps : List ℕ). i < length ps → IsTable (node_of n (slice_index ps i)) → (j : ℕ) × (j < a.place) × (slice_index order j ≡ slice_index ps i)) own (places.after a.place i (slice_get_within order a.place a.net a.listed)) in
       let (j, less, e) = before l' was.1 in
       let there : slice_get order j ≡ Some (slice_index pins i) = slice_get-get_or order j 0 (omega (arith, less, slice_get_within order a.place a.net a.listed)) ∙ ap Some e in
       (2 * j + a.copy, omega (arith, less, a.at), get_or_from_slice_get (guard_order n order) (2 * j + a.copy) (twin a.copy (slice_index pins i)) 0 (order_twin j a.copy (slice_index pins i) there a.few) ∙ sym here)
@@ -194,9 +199,9 @@ module _ (n : Net) (valid : IsValid n) (order : List ℕ) (ordered : IsOrder n o
       go (inr a) = behind a (cases_lt a.place (length n.outputs))
 
   pub is_order : IsOrder (guard_net n) (guard_order n order)
-  is_order = record {
+  is_order = from_places (guard_net n) (guard_order n order) (record {
     nodes = nodes;
     complete = complete;
     once = once;
     after = after;
-  }
+  })

@@ -173,8 +173,8 @@ module _ (n : Net) (valid : IsValid n) (ins tr ft : List (List Bool)) (s : List 
 
     cycle_right : (t : ℕ) → t < length ins → ((u : ℕ) → u + 1 ≡ t → (x : ℕ) → Right u x) → (x : ℕ) → Right t x
     cycle_right t h past = net_induction n valid.ordered.0 valid.ordered.1 (Right t) (input_right t h)
-        (λ x name init pin e high. twin_right t h x (Register name init pin) e (register_same t name init pin (valid.wired x (Register name init pin) e) past))
-        (λ x name cover pins e right high. twin_right t h x (Table name cover pins) e (ap (cover_value cover) (pins_same (row_at ft t) (row_at tr t) pins (λ j m. right j m ((valid.wired x (Table name cover pins) e).0 j 0 m)))))
+        (λ x name init pin e high. twin_right t h x (Register name init pin) e (register_same t name init pin (valid.unordered.wired x (Register name init pin) e) past))
+        (λ x name cover pins e right high. twin_right t h x (Table name cover pins) e (ap (cover_value cover) (pins_same (row_at ft t) (row_at tr t) pins (λ j m. right j m ((valid.unordered.wired x (Table name cover pins) e).0 j 0 m)))))
 
     all_right : (t : ℕ) → t < length ins → (x : ℕ) → Right t x
     all_right zero h = cycle_right zero h (λ u e. absurd (omega (arith, e)))

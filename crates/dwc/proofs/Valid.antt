@@ -114,7 +114,7 @@ model_same n = refl
 
 module _ (n : Net) (valid : IsValid n) where
   pub output_below : (k y : ℕ) → slice_get n.outputs k ≡ Some y → y < net_count n
-  output_below k y h = subst (λ z. z < net_count n) (get_or_from_slice_get n.outputs k y 0 h) (valid.outputs_in_range k 0 (slice_get_within n.outputs k y h))
+  output_below k y h = subst (λ z. z < net_count n) (get_or_from_slice_get n.outputs k y 0 h) (valid.unordered.outputs_in_range k 0 (slice_get_within n.outputs k y h))
 
   -- ---- wires
 
@@ -160,7 +160,7 @@ module _ (n : Net) (valid : IsValid n) where
       by_kind a (inl l) = absurd (none_is_some node (sym (Nodes.twin_of_input n a.net a.copy l a.few) ∙ (sym (ap (node_of (guard_net n)) a.is) ∙ at)))
       by_kind a (inr l) =
           let (m, there) = slot_there (length n.inputs) n.nodes a.net l a.below in
-          own (node_twin m a.copy) (ap (node_of (guard_net n)) a.is ∙ Nodes.twin_of_node n a.net a.copy m there a.few) (twin_wired m a.copy a.few (valid.wired a.net m there))
+          own (node_twin m a.copy) (ap (node_of (guard_net n)) a.is ∙ Nodes.twin_of_node n a.net a.copy m there a.few) (twin_wired m a.copy a.few (valid.unordered.wired a.net m there))
 
       go : Nodes.IsTwin n g ⊎ (Nodes.IsComparator n g ⊎ (g ≡ alarm_net n)) → IsWired (net_count (guard_net n)) node
       go (inl a) = by_kind a (cases_lt a.net (length n.inputs))
@@ -173,8 +173,8 @@ module _ (n : Net) (valid : IsValid n) where
   names_are_names g h = go (Nodes.stands_for n g h)
     where
       go : Nodes.IsTwin n g ⊎ (Nodes.IsComparator n g ⊎ (g ≡ alarm_net n)) → is_name (name_of (guard_net n) g) ≡ true
-      go (inl a) = ap (λ x. is_name (name_of (guard_net n) x)) a.is ∙ (ap is_name (Nodes.twin_name n a.net a.copy a.below a.few) ∙ twin_is_name (name_of n a.net) a.copy a.few (valid.names_are_names a.net a.below))
-      go (inr (inl a)) = ap (λ x. is_name (name_of (guard_net n) x)) a.is ∙ (ap is_name (Nodes.comparator_name n a.place a.net a.listed) ∙ tailed_is_name (name_of n a.net) 101 (valid.names_are_names a.net (output_below a.place a.net a.listed)) refl)
+      go (inl a) = ap (λ x. is_name (name_of (guard_net n) x)) a.is ∙ (ap is_name (Nodes.twin_name n a.net a.copy a.below a.few) ∙ twin_is_name (name_of n a.net) a.copy a.few (valid.unordered.names_are_names a.net a.below))
+      go (inr (inl a)) = ap (λ x. is_name (name_of (guard_net n) x)) a.is ∙ (ap is_name (Nodes.comparator_name n a.place a.net a.listed) ∙ tailed_is_name (name_of n a.net) 101 (valid.unordered.names_are_names a.net (output_below a.place a.net a.listed)) refl)
       go (inr (inr e)) = ap (λ x. is_name (name_of (guard_net n) x)) e ∙ (ap is_name (Nodes.alarm_name n) ∙ tailed_is_name (codes "alarm") 122 refl refl)
 
   -- an output is listed once
@@ -182,8 +182,8 @@ module _ (n : Net) (valid : IsValid n) where
   once j k y a b = go (cases_lt j k) (cases_lt k j)
     where
       go : (j < k) ⊎ (k ≤ j) → (k < j) ⊎ (j ≤ k) → j ≡ k
-      go (inl l) any = absurd (valid.outputs_differ j k l (slice_get_within n.outputs k y b) (get_or_from_slice_get n.outputs j y 0 a ∙ sym (get_or_from_slice_get n.outputs k y 0 b)))
-      go (inr l) (inl m) = absurd (valid.outputs_differ k j m (slice_get_within n.outputs j y a) (get_or_from_slice_get n.outputs k y 0 b ∙ sym (get_or_from_slice_get n.outputs j y 0 a)))
+      go (inl l) any = absurd (valid.unordered.outputs_differ j k l (slice_get_within n.outputs k y b) (get_or_from_slice_get n.outputs j y 0 a ∙ sym (get_or_from_slice_get n.outputs k y 0 b)))
+      go (inr l) (inl m) = absurd (valid.unordered.outputs_differ k j m (slice_get_within n.outputs j y a) (get_or_from_slice_get n.outputs k y 0 b ∙ sym (get_or_from_slice_get n.outputs j y 0 a)))
       go (inr l) (inr m) = omega (arith, l, m)
 
   -- a net by what its name ends in
@@ -211,13 +211,13 @@ module _ (n : Net) (valid : IsValid n) where
       go : (p q : List ℕ) (u v : ℕ) → p ≡ q → u ≡ v → ((a : Nodes.IsTwin n g) × (p ≡ name_of n a.net) × (u ≡ 48 + a.copy)) ⊎ (((a : Nodes.IsComparator n g) × (p ≡ name_of n a.net) × (u ≡ 101)) ⊎ ((g ≡ alarm_net n) × (u ≡ 122)))
           → ((b : Nodes.IsTwin n h) × (q ≡ name_of n b.net) × (v ≡ 48 + b.copy)) ⊎ (((b : Nodes.IsComparator n h) × (q ≡ name_of n b.net) × (v ≡ 101)) ⊎ ((h ≡ alarm_net n) × (v ≡ 122))) → g ≡ h
       go p q u v f t (inl (a, x, i)) (inl (b, y, j)) =
-          let net : a.net ≡ b.net = valid.names_differ a.net b.net a.below b.below (sym x ∙ (f ∙ y)) in
+          let net : a.net ≡ b.net = valid.unordered.names_differ a.net b.net a.below b.below (sym x ∙ (f ∙ y)) in
           omega (arith, a.is, b.is, net, i, j, t)
       go p q u v f t (inl (a, x, i)) (inr (inl (b, y, j))) = absurd (omega (arith, i, j, t, a.few))
       go p q u v f t (inl (a, x, i)) (inr (inr (y, j))) = absurd (omega (arith, i, j, t, a.few))
       go p q u v f t (inr (inl (a, x, i))) (inl (b, y, j)) = absurd (omega (arith, i, j, t, b.few))
       go p q u v f t (inr (inl (a, x, i))) (inr (inl (b, y, j))) =
-          let net : a.net ≡ b.net = valid.names_differ a.net b.net (output_below a.place a.net a.listed) (output_below b.place b.net b.listed) (sym x ∙ (f ∙ y)) in
+          let net : a.net ≡ b.net = valid.unordered.names_differ a.net b.net (output_below a.place a.net a.listed) (output_below b.place b.net b.listed) (sym x ∙ (f ∙ y)) in
           let place : a.place ≡ b.place = once a.place b.place b.net (a.listed ∙ ap Some net) b.listed in
           omega (arith, a.is, b.is, place)
       go p q u v f t (inr (inl (a, x, i))) (inr (inr (y, j))) = absurd (omega (arith, i, j, t))
@@ -310,15 +310,17 @@ module _ (n : Net) (valid : IsValid n) where
 
   pub is_valid : net_count n + pin_total n ≤ 16777216 → (order : List ℕ) → IsOrder (guard_net n) order → IsValid (guard_net n)
   is_valid few order ordered = record {
-    model_is_name = ap is_name (model_same n) ∙ valid.model_is_name;
-    few = omega (arith, few, Nodes.length-guarded n, outputs_few n valid);
-    few_pins = omega (arith, few, guard_pins n, outputs_few n valid);
-    few_outputs = omega (arith, few, length-outputs, outputs_few n valid);
-    names_are_names = names_are_names;
-    names_differ = names_differ;
-    wired = wired;
-    outputs_in_range = outputs_below;
-    outputs_differ = outputs_apart;
-    clock = subst (λ (c : Option (Edge × List ℕ)). IsClockOf (guard_net n) c) (sym (clock_same n)) (clock_is n.clock valid.clock);
+    unordered = record {
+      model_is_name = ap is_name (model_same n) ∙ valid.unordered.model_is_name;
+      few = omega (arith, few, Nodes.length-guarded n, outputs_few n valid);
+      few_pins = omega (arith, few, guard_pins n, outputs_few n valid);
+      few_outputs = omega (arith, few, length-outputs, outputs_few n valid);
+      names_are_names = names_are_names;
+      names_differ = names_differ;
+      wired = wired;
+      outputs_in_range = outputs_below;
+      outputs_differ = outputs_apart;
+      clock = subst (λ (c : Option (Edge × List ℕ)). IsClockOf (guard_net n) c) (sym (clock_same n)) (clock_is n.clock valid.unordered.clock);
+    };
     ordered = (order, ordered);
   }

@@ -1,7 +1,7 @@
 use Rattle.std.proofs.Common.{◌*◌, ℕ, List, map, refl, sym, subst, ap, ◌∙◌}
 use Rattle.flat_net.specs.Net.{Net, Design, IsOrder}
 use Rattle.flat_net.specs.Nodes.{number_of}
-use Rattle.flat_net.proofs.PacksLaws.{net_assembled, wiring_assembled, unordered_from_valid}
+use Rattle.flat_net.proofs.PacksLaws.{net_assembled, wiring_assembled}
 use Rattle.dwc.specs.Guard.{guard_net}
 use Rattle.dwc.proofs.Assembly.{assembles}
 use Rattle.dwc.proofs.guarding.assembled.Goals as goal
@@ -9,7 +9,7 @@ use Rattle.dwc.proofs.guarding.assembled.Goals as goal
 pub make-requires-clause-wiring : goal.make-requires-clause-wiring
 make-requires-clause-wiring c =
     let n = c.args.n.now.net in
-    wiring_assembled (guard_net n) _ (assembles n c.in_ok-made.made (record { model = c.in_ok-model.model; names = c.in_ok-made.made.names; inputs = 2 * c.input_count-inputs.result; nodes = c.in_ok-made.made.nodes; outputs = c.in_ok-outputs.outputs; clock = c.in_ok-clock.clock }) c.in_ok-made.ensures refl refl (c.in_ok-model.ensures ∙ c.model.ensures) (ap (λ k. 2 * k) c.input_count-inputs.ensures.count) c.in_ok-outputs.ensures c.in_ok-clock.ensures) (unordered_from_valid (guard_net n) c.requires.valid)
+    wiring_assembled (guard_net n) _ (assembles n c.in_ok-made.made (record { model = c.in_ok-model.model; names = c.in_ok-made.made.names; inputs = 2 * c.input_count-inputs.result; nodes = c.in_ok-made.made.nodes; outputs = c.in_ok-outputs.outputs; clock = c.in_ok-clock.clock }) c.in_ok-made.ensures refl refl (c.in_ok-model.ensures ∙ c.model.ensures) (ap (λ k. 2 * k) c.input_count-inputs.ensures.count) c.in_ok-outputs.ensures c.in_ok-clock.ensures) c.requires.valid.unordered
 
 pub make-requires-clause-order : goal.make-requires-clause-order
 make-requires-clause-order c =
