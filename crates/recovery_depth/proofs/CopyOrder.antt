@@ -3,6 +3,8 @@ use Rattle.std.proofs.Common.{◌≡◌, ℕ, ◌+◌, ◌<◌, ◌≤◌, ◌�
 use Rattle.std.specs.Prelude.{Option, Some, None}
 use Rattle.std.proofs.lemmas.Bool.{cases_lt}
 use Rattle.flat_net.specs.Net.{Net, Node, Table, Register, node_of, pins_at, IsTable, table_pins, IsOrder}
+use Rattle.flat_net.specs.Private.ByPlace.{IsOrderByPlace}
+use Rattle.flat_net.proofs.ByPlace.{by_place}
 use Rattle.certificate.specs.declared.role.Role.{Role}
 use Rattle.certificate.specs.declared.role.Role.TheVariants.{Copy, Voter}
 use Rattle.certificate.specs.Cert.{PlainCert, Fits}
@@ -18,6 +20,9 @@ use Rattle.recovery_depth.specs.Private.Copied.{copied_rows}
 use Rattle.recovery_depth.proofs.CopyLaws.{label_at, label_grows, reads_of_follows, node_with_role}
 
 module _ (n h : Net) (k : PlainCert) (order : List ℕ) (fits : Fits n h k) (ordered : IsOrder h order) (rule : (g : ℕ) → Rule6 h k (length h.inputs + g)) where
+  places : IsOrderByPlace h order
+  places = by_place h order ordered
+
   -- f stands before g in the order of the design
   record Earlier (f g : ℕ) : Type 0 where
     pub first : ℕ
@@ -31,12 +36,12 @@ module _ (n h : Net) (k : PlainCert) (order : List ℕ) (fits : Fits n h k) (ord
   earlier_join a b c p q = record { first = p.first; second = q.second; order_is = (let e = same (cases_lt p.second q.first) (cases_lt q.first p.second) in let l = p.order_is in let m = q.order_is in omega arith); within = q.within; first_is = p.first_is; second_is = q.second_is }
     where
       same : (p.second < q.first) ⊎ (q.first ≤ p.second) → (q.first < p.second) ⊎ (p.second ≤ q.first) → p.second ≡ q.first
-      same (inl l) o = absurd (ordered.once p.second q.first l (let m = q.order_is in let w = q.within in omega arith) (p.second_is ∙ sym q.first_is))
-      same (inr l) (inl o) = absurd (ordered.once q.first p.second o p.within (q.first_is ∙ sym p.second_is))
+      same (inl l) o = absurd (places.once p.second q.first l (let m = q.order_is in let w = q.within in omega arith) (p.second_is ∙ sym q.first_is))
+      same (inr l) (inl o) = absurd (places.once q.first p.second o p.within (q.first_is ∙ sym p.second_is))
       same (inr l) (inr o) = omega arith
 
   not_itself : (a : ℕ) → Earlier a a → ⊥
-  not_itself a p = ordered.once p.first p.second p.order_is p.within (p.first_is ∙ sym p.second_is)
+  not_itself a p = places.once p.first p.second p.order_is p.within (p.first_is ∙ sym p.second_is)
 
   -- c is above a: by its label, or it is a table behind a
   IsAbove : ℕ → ℕ → Type 0
@@ -56,7 +61,7 @@ module _ (n h : Net) (k : PlainCert) (order : List ℕ) (fits : Fits n h k) (ord
 
   -- a table stands behind each table that it reads
   table_order : (f g : ℕ) → ReadsCopy h k f g → IsTable (node_at h g) → IsTable (node_at h f) → Earlier f g
-  table_order f g r t u = go (ordered.complete (length h.inputs + g) (omega arith) (let w = node_with_role n h k fits (length h.inputs + g) r.reader in w.1))
+  table_order f g r t u = go (places.complete (length h.inputs + g) (omega arith) (let w = node_with_role n h k fits (length h.inputs + g) r.reader in w.1))
     where
       same_pins : (o : Option Node) → IsTable o → table_pins o ≡ pins_at o
       same_pins None t = absurd t
@@ -64,7 +69,7 @@ module _ (n h : Net) (k : PlainCert) (order : List ℕ) (fits : Fits n h k) (ord
       same_pins (Some (Register name init pin)) t = absurd t
 
       go : (j : ℕ) × (j < length order) × (get_or order j 0 ≡ length h.inputs + g) → Earlier f g
-      go (j, l, e) = found (ordered.after j r.pin l within is_table)
+      go (j, l, e) = found (places.after j r.pin l within is_table)
         where
           at : table_pins (node_of h (get_or order j 0)) ≡ pins_at (node_at h g)
           at = ap (λ (x : ℕ). table_pins (node_of h x)) e ∙ same_pins (node_at h g) t

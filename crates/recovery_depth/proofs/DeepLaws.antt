@@ -69,7 +69,7 @@ module _ (n h : Net) (k : PlainCert) (fits : Fits n h k) (valid_n : IsValid n) (
           by node e None d l is = absurd (omega arith)
           by (Table name cover pins) e (Some (Table hname hcover hpins)) d l is =
               let rule : (hcover ≡ cover) × PinsRead k hpins pins p c = subst (λ o. CopiesTable k o (Some (Table hname hcover hpins)) p c) e (subst (λ o. CopiesTable k (node_of n i.original) o p c) d tables) in
-              let long : length hpins ≡ length pins = (valid_h.wired (length h.inputs + g) _ d).1 ∙ (ap (λ (w : PlainCover). w.width) rule.0 ∙ sym (valid_n.wired i.original _ e).1) in
+              let long : length hpins ≡ length pins = (valid_h.unordered.wired (length h.inputs + g) _ d).1 ∙ (ap (λ (w : PlainCover). w.width) rule.0 ∙ sym (valid_n.unordered.wired i.original _ e).1) in
               copy_there (get_or hpins r.pin 0) f (get_or pins r.pin 0) p c (rule.1 r.pin (omega (arith, long, l))) is r.read
           by (Table name cover pins) e (Some (Register hname hinit hpin)) d l is = absurd (subst (λ o. CopiesTable k o (Some (Register hname hinit hpin)) p c) e (subst (λ o. CopiesTable k (node_of n i.original) o p c) d tables))
           by (Register name init pin) e (Some (Table hname hcover hpins)) d l is = absurd (subst (λ o. CopiesRegister k o free (Some (Table hname hcover hpins)) copy_free p c) e (subst (λ o. CopiesRegister k (node_of n i.original) free o copy_free p c) d registers))

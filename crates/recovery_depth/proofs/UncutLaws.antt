@@ -154,4 +154,4 @@ pub few_places : (n : Net) (parts : PlainParts) → IsValid n → (y : ℕ) → 
 few_places n parts valid y l = go (slot_there (length n.inputs) n.nodes (length n.inputs + y) (omega arith) (omega (arith, l)))
   where
     go : (node : Node) × (node_of n (length n.inputs + y) ≡ Some node) → length (row (inner_rows n parts) y) < 4294967296
-    go (node, e) = omega (arith, inner_pins n parts y l, ap (λ o. length (pins_at o)) e, pins_few n (length n.inputs + y) node valid.few_pins e)
+    go (node, e) = omega (arith, inner_pins n parts y l, ap (λ o. length (pins_at o)) e, pins_few n (length n.inputs + y) node valid.unordered.few_pins e)
