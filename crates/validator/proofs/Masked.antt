@@ -277,7 +277,7 @@ module _ (n : Net) (free : List Bool) (h : Net) (copy_free : List Bool) (k : Pla
         go (Register name' init' pin') e' = absurd (subst (λ (o : Option Node). CopiesRegister k o (mark x) (Some (Table name cover pins)) (copy_mark g) p c) e' (register_rule g x p c _ e is part))
         go (Table name' cover' pins') e' =
             let rule : (cover ≡ cover') × PinsRead k pins pins' p c = subst (λ (o : Option Node). CopiesTable k o (Some (Table name cover pins)) p c) e' (table_rule g x p c _ e is part) in
-            let long : length pins ≡ length pins' = (valid_h.wired g _ e).1 ∙ (ap (λ (w : PlainCover). w.width) rule.0 ∙ sym (valid_n.wired x _ e').1) in
+            let long : length pins ≡ length pins' = (valid_h.unordered.wired g _ e).1 ∙ (ap (λ (w : PlainCover). w.width) rule.0 ∙ sym (valid_n.unordered.wired x _ e').1) in
             let agree : map (bit (row_at ft t)) pins ≡ map (bit (row_at tr t)) pins' =
             map_agree (bit (row_at ft t)) (bit (row_at tr t)) pins pins' long (λ j m.
             let in_pins : j < length pins = omega arith in
@@ -349,4 +349,4 @@ module _ (n : Net) (free : List Bool) (h : Net) (copy_free : List Bool) (k : Pla
       where
         output_lt : (i x : ℕ) → slice_get n.outputs i ≡ Some x → x < net_count n
         output_lt i x is =
-            subst (λ (y : ℕ). y < net_count n) (get_or_from_slice_get n.outputs i x 0 is) (valid_n.outputs_in_range i 0 (slice_get_within n.outputs i x is))
+            subst (λ (y : ℕ). y < net_count n) (get_or_from_slice_get n.outputs i x 0 is) (valid_n.unordered.outputs_in_range i 0 (slice_get_within n.outputs i x is))
