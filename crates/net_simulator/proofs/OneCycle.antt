@@ -40,7 +40,7 @@ module _ (n : Net) (valid : IsValid n) (last : Option (List Bool)) (ins : List B
   at_table : (x : ℕ) (name : List ℕ) (cover : PlainCover) (pins : List ℕ) → node_of n x ≡ Some (Table name cover pins) → ((j : ℕ) → j < length pins → Agree (slice_index pins j)) → Agree x
   at_table x name cover pins e pins_agree h =
       by_value x h (subst (λ (o : Option Node). forced_value o (forced x) (cycle_after last) ins (values_of last) v x ≡ forced_value o (forced x) (cycle_after last) ins (values_of last) w x) (sym e)
-      (ap (λ (bs : List Bool). unwrap_or (forced x) (cover_value cover bs)) (map_agree (bit v) (bit w) pins pins refl (λ j k. pins_agree j k ((valid.wired x _ e).0 j 0 k)))))
+      (ap (λ (bs : List Bool). unwrap_or (forced x) (cover_value cover bs)) (map_agree (bit v) (bit w) pins pins refl (λ j k. pins_agree j k ((valid.unordered.wired x _ e).0 j 0 k)))))
 
   pub one_cycle : v ≡ w
   one_cycle =

@@ -2,7 +2,9 @@
 use Rattle.std.proofs.Common.{◌≡◌, ◌≢◌, ℕ, ◌+◌, ◌<◌, ◌≤◌, ◌⊎◌, inl, inr, List, [], ◌∷◌, ◌++◌, length, sym, ◌∙◌, ap, subst, arith, slice_index}
 use Rattle.std.proofs.lemmas.List.{length-append, get_or_append_left}
 use Rattle.std.proofs.Math.Seq.{get_or-append_seam}
-use Rattle.flat_net.specs.Net.{Net, node_of, table_pins, IsTable, IsOrder, ComesBefore}
+use Rattle.flat_net.specs.Net.{Net, node_of, table_pins, IsTable, IsOrder}
+use Rattle.flat_net.specs.Private.ByPlace.{ComesBefore, IsOrderByPlace}
+use Rattle.flat_net.proofs.ByPlace.{by_place}
 use Rattle.net_simulator.specs.Tables.{IsTableOrder}
 use Rattle.net_simulator.proofs.Lanes.{table_within}
 
@@ -44,7 +46,7 @@ module _ (n : Net) (order : List ℕ) (i : ℕ) (nets : List ℕ) (has : HasTabl
     tables = λ k l. (has.tables k l).0;
     complete = λ x table.
         let (low, high) = table_within n x table in
-        let (m, within, here) = is.complete x low high in
+        let (m, within, here) = (by_place n order is).complete x low high in
         let (k, below, there) = has.complete m (omega arith) (subst (λ (z : ℕ). IsTable (node_of n z)) (sym here) table) in
         (k, below, there ∙ here);
     once = has.once;
@@ -52,6 +54,9 @@ module _ (n : Net) (order : List ℕ) (i : ℕ) (nets : List ℕ) (has : HasTabl
   }
 
   module _ (x : ℕ) (is : IsOrder n order) (within : i < length order) (here : slice_index order i ≡ x) (table : IsTable (node_of n x)) where
+    places : IsOrderByPlace n order
+    places = by_place n order is
+
     abbrev more : List ℕ
     more = nets ++ x ∷ []
 
@@ -87,7 +92,7 @@ module _ (n : Net) (order : List ℕ) (i : ℕ) (nets : List ℕ) (has : HasTabl
     apart j k h (inr e) same =
         let l : j < length nets = omega arith in
         let (one, m, below, there) = has.tables j l in
-        is.once m i below within (there ∙ (sym (left j l) ∙ (same ∙ (last_at k e ∙ sym here))))
+        places.once m i below within (there ∙ (sym (left j l) ∙ (same ∙ (last_at k e ∙ sym here))))
 
     abbrev Behind : ℕ → ℕ → ℕ → Type 0
     Behind k p y = p < length (table_pins (node_of n y)) → IsTable (node_of n (slice_index (table_pins (node_of n y)) p)) → (j : ℕ) × (j < k) × (slice_index more j ≡ slice_index (table_pins (node_of n y)) p)
@@ -97,7 +102,7 @@ module _ (n : Net) (order : List ℕ) (i : ℕ) (nets : List ℕ) (has : HasTabl
         let (j, below, same) = has.after k p l a b in
         (j, below, left j (omega arith) ∙ same))
     behind k p (inr e) = subst (Behind k p) (here ∙ sym (last_at k e)) (λ a b.
-        let (m, before, there) = is.after i p within a b in
+        let (m, before, there) = places.after i p within a b in
         let (j, below, same) = has.complete m before (subst (λ (z : ℕ). IsTable (node_of n z)) (sym there) b) in
         (j, (let c : j < k = omega arith in c), left j below ∙ (same ∙ there)))
 

@@ -2,7 +2,8 @@
 use Rattle.std.specs.Prelude.{◌≡◌, ◌≢◌, ℕ, ◌<◌, slice_index, Bool, true, false, not, ◌&&◌, ◌||◌}
 use Rattle.std.specs.Prelude.{nat_eq, nat_le, List, [], ◌∷◌, ◌++◌, length, map, Option, Some, None, if◌then◌else◌}
 use Rattle.std.specs.List.{list_any, flat_map}
-use Rattle.flat_net.specs.Net.{Net, Node, Table, Register, node_of, IsTable, ComesBefore}
+use Rattle.flat_net.specs.Net.{Net, Node, Table, Register, node_of, IsTable}
+use Rattle.flat_net.specs.Private.ByPlace.{ComesBefore}
 use Rattle.net_simulator.specs.declared.tables.Literal.{Literal}
 use Rattle.net_simulator.specs.declared.tables.Entry.{Entry}
 use Rattle.net_simulator.specs.declared.tables.Tables.{Tables}
