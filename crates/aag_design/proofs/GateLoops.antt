@@ -9,6 +9,8 @@ use Rattle.flat_net.specs.Loop.{ReadsTable, IsLoop as IsTableLoop}
 use Rattle.flat_net.specs.Faults.{number_in, node_of_element, draft_names, net_of_draft}
 use Rattle.flat_net.proofs.Ranges.{table_within}
 use Rattle.flat_net.proofs.Sound.{names_of_draft}
+use Rattle.flat_net.specs.Private.ByPlace.{IsOrderByPlace}
+use Rattle.flat_net.proofs.ByPlace.{by_place}
 use Rattle.aag_text.specs.declared.aig.Literal.{Literal}
 use Rattle.aag_text.specs.declared.aig.Latch.{Latch}
 use Rattle.aag_text.specs.declared.aig.Gate.{Gate}
@@ -120,8 +122,11 @@ module _ (a : PlainAig) (once : IsDefinedOnce a) (all : IsDefined a) (are : AreV
 
   -- an order leaves no loop of gates
   pub no_loop : (order variables : List ℕ) → IsOrder (design a) order → IsLoop a variables → ⊥
-  no_loop order variables ordered loop = start (ordered.complete (number (slice_index variables 0)) within.0 within.1)
+  no_loop order variables ordered loop = start (places.complete (number (slice_index variables 0)) within.0 within.1)
     where
+      places : IsOrderByPlace (design a) order
+      places = by_place (design a) order ordered
+
       reads_at : (i : ℕ) → i < length variables → (j : ℕ) × (j < length variables) × ReadsGate a (slice_index variables i) (slice_index variables j)
       reads_at i h = next_read (ReadsGate a) variables loop.some loop.next loop.closed i h
 
@@ -138,7 +143,7 @@ module _ (a : PlainAig) (once : IsDefinedOnce a) (all : IsDefined a) (are : AreV
           let (j, m, r) = reads_at i l in
           let (q, below, is) = subst (λ (x : ℕ). Contains (table_pins (node_of (design a) x)) (number (slice_index variables j))) (sym e) (reads_table (slice_index variables i) (slice_index variables j) r) in
           let pin : slice_index (table_pins (node_of (design a) (slice_index order k))) q ≡ number (slice_index variables j) = get_or_default (table_pins (node_of (design a) (slice_index order k))) q 0 (number (slice_index variables j)) below ∙ is in
-          let (place, earlier, same) = ordered.after k q h below (subst (λ (x : ℕ). IsTable (node_of (design a) x)) (sym pin) (table_at j m)) in
+          let (place, earlier, same) = places.after k q h below (subst (λ (x : ℕ). IsTable (node_of (design a) x)) (sym pin) (table_at j m)) in
           (place, earlier, (j, m, same ∙ pin))
 
       start : (k : ℕ) × (k < length order) × (slice_index order k ≡ number (slice_index variables 0)) → ⊥

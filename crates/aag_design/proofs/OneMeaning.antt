@@ -33,7 +33,7 @@ use Rattle.aag_design.proofs.Values.{names, design, pin_bit, PinsAgree, literal_
 -- the names of a valid design stand apart
 pub apart_of : (a : PlainAig) → IsValid (net_of_draft (plain_draft a)) → AreApart (draft_names (plain_draft a))
 apart_of a valid = record {
-  same = λ x y hx hy e. valid.names_differ x y (omega (arith, hx, count_of_draft (plain_draft a))) (omega (arith, hy, count_of_draft (plain_draft a)))
+  same = λ x y hx hy e. valid.unordered.names_differ x y (omega (arith, hx, count_of_draft (plain_draft a))) (omega (arith, hy, count_of_draft (plain_draft a)))
       (ap (λ (ns : List (List ℕ)). get_or ns x []) (names_of_draft (plain_draft a)) ∙ (e ∙ sym (ap (λ (ns : List (List ℕ)). get_or ns y []) (names_of_draft (plain_draft a)))));
 }
 

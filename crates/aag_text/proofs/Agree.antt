@@ -9,6 +9,7 @@ use Rattle.std.proofs.lemmas.Option.{slice_get-map, slice_get-get_or, get_or_fro
 use Rattle.flat_net.specs.Net.{Net, Node, Table, Register, net_count, node_of, IsTable, IsDesign}
 use Rattle.flat_net.specs.Free.{FreeDesign, node_bit}
 use Rattle.flat_net.proofs.Slots.{slot_at, slot_within, slot_none_below}
+use Rattle.flat_net.proofs.ByPlace.{by_place}
 use Rattle.flat_net.proofs.Orders.{length-order}
 use Rattle.flat_net.proofs.Ranges.{table_within}
 use Rattle.net_meaning.specs.Meaning.{bit, row_at, row_before, start_at, net_value, IsFreeTrace}
@@ -114,7 +115,7 @@ module _ (n : FreeDesign) (is_design : IsDesign n.design) (a : PlainAig) (g : Is
   made : (x : ℕ) → IsMade n.design.net n.design.order (length n.design.net.nodes) x
   made x t =
       let (low, high) = table_within n.design.net x t in
-      let (k, l, e) = is_design.order.complete x low high in
+      let (k, l, e) = (by_place n.design.net n.design.order is_design.order).complete x low high in
       (k, omega (arith, l, length-order n.design.net n.design.order is_design.order), e)
 
   met : (t : ℕ) → t < length ins → AreMet (tr t) g.gates.list
@@ -147,7 +148,7 @@ module _ (n : FreeDesign) (is_design : IsDesign n.design) (a : PlainAig) (g : Is
       ap (start_value (register_start (node_bit (length n.design.net.inputs) n.free x) (node_of n.design.net x))) (bit_there j x at)
       ∙ start_same (node_bit (length n.design.net.inputs) n.free x) (node_bit (length n.design.net.inputs) w x) (node_of n.design.net x) name init pin e
   latch_right (suc t) j x name init pin l h past at e =
-      ap (λ (o : Option Node). literal_value (tr t) (literal_at g.literals (pin_of o))) e ∙ past pin (is_design.valid.wired x (Register name init pin) e)
+      ap (λ (o : Option Node). literal_value (tr t) (literal_at g.literals (pin_of o))) e ∙ past pin (is_design.valid.unordered.wired x (Register name init pin) e)
 
   register_right : (t x : ℕ) (name : List ℕ) (init : Bool) (pin : ℕ) → t < length ins → x < net_count n.design.net → Past t → node_of n.design.net x ≡ Some (Register name init pin) → literal_value (tr t) (literal_at (first_literals n.design.net) x) ≡ bit (row_at rows t) x
   register_right t x name init pin l h past e =
@@ -201,7 +202,7 @@ module _ (n : FreeDesign) (is_design : IsDesign n.design) (a : PlainAig) (g : Is
     outputs =
         ap (map (literal_value (tr t))) g.outputs
         ∙ (map_map (literal_value (tr t)) (literal_at g.literals) n.design.net.outputs
-        ∙ map_agree (λ x. literal_value (tr t) (literal_at g.literals x)) (bit (row_at rows t)) n.design.net.outputs n.design.net.outputs refl (λ k h. all_right t l (slice_index n.design.net.outputs k) (is_design.valid.outputs_in_range k 0 h)));
+        ∙ map_agree (λ x. literal_value (tr t) (literal_at g.literals x)) (bit (row_at rows t)) n.design.net.outputs n.design.net.outputs refl (λ k h. all_right t l (slice_index n.design.net.outputs k) (is_design.valid.unordered.outputs_in_range k 0 h)));
     latches =
         ap (map (λ (m : Latch). tr t m.variable)) g.latches
         ∙ (map_map (λ (m : Latch). tr t m.variable) (latch_at n.design.net n.free g.literals) (registers n.design.net)

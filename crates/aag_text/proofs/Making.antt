@@ -4,6 +4,7 @@ use Rattle.std.specs.Prelude.{slice_set}
 use Rattle.std.proofs.lemmas.List.{get_or-set_other, get_or-set_same, length-set}
 use Rattle.std.proofs.lemmas.Option.{slice_get_within, get_or_from_slice_get}
 use Rattle.table_cover.specs.Cover.{PlainCover, cover_value}
+use Rattle.flat_net.proofs.ByPlace.{by_place}
 use Rattle.flat_net.specs.Net.{Net, Node, Table, Register, net_count, node_of, pins_at, table_pins, IsTable, IsCoverOf, IsOrder, IsValid}
 use Rattle.net_meaning.specs.Meaning.{bit}
 use Rattle.net_meaning.proofs.Lists.{map_agree}
@@ -57,7 +58,7 @@ pins_within n x valid = go (node_of n x) refl
   where
     go : (o : Option Node) → node_of n x ≡ o → (j : ℕ) → j < length (table_pins o) → slice_index (table_pins o) j < net_count n
     go None e j l = absurd (omega arith)
-    go (Some (Table name cover pins)) e j l = (valid.wired x _ e).0 j 0 l
+    go (Some (Table name cover pins)) e j l = (valid.unordered.wired x _ e).0 j 0 l
     go (Some (Register name init pin)) e j l = absurd (omega arith)
 
 at_place : (order : List ℕ) (i x : ℕ) → slice_get order i ≡ Some x → slice_index order i ≡ x
@@ -79,7 +80,7 @@ right_goes n order is_order valid i x first old new gates more at right made bef
         pick k lt is (inr ge) = let e : k ≡ i = omega (arith, lt, ge) in absurd (ne (sym is ∙ (ap (slice_index order) e ∙ here)))
 
     pin_made : (j : ℕ) → j < length (table_pins (node_of n x)) → IsMade n order i (slice_index (table_pins (node_of n x)) j)
-    pin_made j l = subst (λ (z : ℕ). j < length (table_pins (node_of n z)) → IsMade n order i (slice_index (table_pins (node_of n z)) j)) here (λ lt t. is_order.after i j (slice_get_within order i x at) lt t) l
+    pin_made j l = subst (λ (z : ℕ). j < length (table_pins (node_of n z)) → IsMade n order i (slice_index (table_pins (node_of n z)) j)) here (λ lt t. (by_place n order is_order).after i j (slice_get_within order i x at) lt t) l
 
     own : (values : ℕ → Bool) (v : List Bool) → IsCycle n first values v → AreMet values more.list → x < net_count n → IsTable (node_of n x) → literal_value values (literal_at new x) ≡ bit v x
     own values v cycle met l t =

@@ -4,6 +4,7 @@ use Rattle.std.specs.Prelude.{sum_by}
 use Rattle.std.proofs.lemmas.List.{get_or-set_other}
 use Rattle.std.proofs.lemmas.List.Sums.{sum_by-set}
 use Rattle.flat_net.specs.Net.{Net, Node, Table, Register, node_of, IsOrder, IsCoverOf}
+use Rattle.flat_net.proofs.ByPlace.{by_place}
 use Rattle.table_cover.specs.Cover.{PlainCover}
 use Rattle.blif_writer.proofs.NodeLines.{node_at}
 use Rattle.hierarchy.specs.Sizes.{row_places, row_total}
@@ -81,13 +82,14 @@ order_rows n order = total (λ x. rows_at (node_of n x)) order
 
 pub all_rows : (n : Net) (order : List ℕ) → IsOrder n order → order_rows n order ≤ row_total n
 all_rows n order is =
+    let places = by_place n order is in
     let each : (k : ℕ) → k < length order → rows_at (node_of n (get_or order k 0)) ≡ places_at (length n.inputs) n.nodes (get_or order k 0) = λ k l.
-    let (low, high) = is.nodes k l in
+    let (low, high) = places.nodes k l in
     let here = node_at n (get_or order k 0 - length n.inputs) no_node (omega (arith, low, high)) in
     let place : length n.inputs + (get_or order k 0 - length n.inputs) ≡ get_or order k 0 = omega (arith, low) in
     ap (λ (x : ℕ). rows_at (node_of n x)) (sym place) ∙ ap rows_at here in
     let same = total_same (λ x. rows_at (node_of n x)) (places_at (length n.inputs) n.nodes) order each in
-    let most = some_rows (length n.inputs) n.nodes order (λ k l. (is.nodes k l).0) is.once in
+    let most = some_rows (length n.inputs) n.nodes order (λ k l. (places.nodes k l).0) places.once in
     omega (arith, same, most)
 
 some_is : (a b : ℕ) → Some a ≡ Some b → a ≡ b

@@ -48,10 +48,10 @@ words_from (w ∷ ws) each = (name_word w (each 0 (omega arith)), words_from ws 
 
 names_words : (n : Net) → IsValid n → (xs : List ℕ) → ((k : ℕ) → k < length xs → get_or xs k 0 < net_count n) → AreWords (map (name_of n) xs)
 names_words n v [] below = tt
-names_words n v (x ∷ xs) below = (name_word (name_of n x) (v.names_are_names x (below 0 (omega arith))), names_words n v xs (λ k lt. below (suc k) (omega (arith, lt))))
+names_words n v (x ∷ xs) below = (name_word (name_of n x) (v.unordered.names_are_names x (below 0 (omega arith))), names_words n v xs (λ k lt. below (suc k) (omega (arith, lt))))
 
 inputs_words : (n : Net) → IsValid n → AreWords n.inputs
-inputs_words n v = words_from n.inputs (λ k lt. subst (λ (w : List ℕ). is_name w ≡ true) (input_name n k lt) (v.names_are_names k (omega (arith, lt))))
+inputs_words n v = words_from n.inputs (λ k lt. subst (λ (w : List ℕ). is_name w ≡ true) (input_name n k lt) (v.unordered.names_are_names k (omega (arith, lt))))
 
 -- ---- variables
 
@@ -166,7 +166,7 @@ module _ (n : FreeDesign) (a : PlainAig) (v : IsValid n.design.net) (g : IsGraph
         gates = subst (AreGates m) (sym g.list) (gates_from m g.gates.first g.gates.list (omega (arith, g.has.first)) (omega (arith, top)) g.stacked);
         input_count = omega (arith, input_count, few);
         latch_count = omega (arith, latch_count, registers_few, few);
-        output_count = omega (arith, output_count, v.few_outputs);
+        output_count = omega (arith, output_count, v.unordered.few_outputs);
         gate_count = omega (arith, gates, g.has.few, small);
       }
 
@@ -177,7 +177,7 @@ module _ (n : FreeDesign) (a : PlainAig) (v : IsValid n.design.net) (g : IsGraph
   names_of_registers = names_words n.design.net v (registers n.design.net) registers_within
 
   names_out : AreWords (map (name_of n.design.net) n.design.net.outputs)
-  names_out = names_words n.design.net v n.design.net.outputs (λ k lt. v.outputs_in_range k 0 lt)
+  names_out = names_words n.design.net v n.design.net.outputs (λ k lt. v.unordered.outputs_in_range k 0 lt)
 
   long_registers : length (map (name_of n.design.net) (registers n.design.net)) ≡ length (registers n.design.net)
   long_registers = length-map (registers n.design.net) (name_of n.design.net)
@@ -190,7 +190,7 @@ module _ (n : FreeDesign) (a : PlainAig) (v : IsValid n.design.net) (g : IsGraph
       lines_join (symbol_lines 105 0 n.design.net.inputs) _ (symbols_plain 105 0 n.design.net.inputs (omega arith) (omega (arith, few)) names_in)
       (lines_join (symbol_lines 108 0 (map (name_of n.design.net) (registers n.design.net))) (symbol_lines 111 0 (map (name_of n.design.net) n.design.net.outputs))
       (symbols_plain 108 0 (map (name_of n.design.net) (registers n.design.net)) (omega arith) (omega (arith, few, registers_few, long_registers)) names_of_registers)
-      (symbols_plain 111 0 (map (name_of n.design.net) n.design.net.outputs) (omega arith) (omega (arith, v.few_outputs, long_outputs)) names_out))
+      (symbols_plain 111 0 (map (name_of n.design.net) n.design.net.outputs) (omega arith) (omega (arith, v.unordered.few_outputs, long_outputs)) names_out))
 
   all_symbols : AreSymbols (header m a) (map (join_with_byte 32) (design_symbols n.design.net))
   all_symbols =
@@ -203,7 +203,7 @@ module _ (n : FreeDesign) (a : PlainAig) (v : IsValid n.design.net) (g : IsGraph
       (symbols_both (header m a) (map f i) (map f l ++ map f o) (symbols_are (header m a) 105 0 n.design.net.inputs (omega arith) (omega (arith, input_count)) (omega (arith, few)) names_in)
       (symbols_both (header m a) (map f l) (map f o)
       (symbols_are (header m a) 108 0 (map (name_of n.design.net) (registers n.design.net)) (omega arith) (omega (arith, latch_count, long_registers)) (omega (arith, few, registers_few, long_registers)) names_of_registers)
-      (symbols_are (header m a) 111 0 (map (name_of n.design.net) n.design.net.outputs) (omega arith) (omega (arith, output_count, long_outputs)) (omega (arith, v.few_outputs, long_outputs)) names_out)))
+      (symbols_are (header m a) 111 0 (map (name_of n.design.net) n.design.net.outputs) (omega arith) (omega (arith, output_count, long_outputs)) (omega (arith, v.unordered.few_outputs, long_outputs)) names_out)))
 
   -- the text of the graph, with the names of the design, is a file of it
   pub file_of : IsFile (aag_text m a n.design.net) a

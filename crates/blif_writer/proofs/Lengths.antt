@@ -96,7 +96,7 @@ text_long n free v =
       lines_long (codes ".outputs" ∷ outputs) (nodes ++ end),
       line_long (codes ".outputs") outputs,
       more_long nodes end,
-      nodes_long n (with_marks free n.nodes) (each_marked (IsWired (net_count n)) free n.nodes (each_node n (IsWired (net_count n)) (λ x node lt at. v.wired x node at))),
+      nodes_long n (with_marks free n.nodes) (each_marked (IsWired (net_count n)) free n.nodes (each_node n (IsWired (net_count n)) (λ x node lt at. v.unordered.wired x node at))),
     )
 
 nets_long : (n : Net) (nets : List ℕ) → all_spaced (net_words n nets) ≡ nets_length n nets

@@ -151,7 +151,7 @@ clock_again n v = go (clock_first n n.nodes)
 
     go : (first_control (draft_elements n) ≡ Some n.clock) ⊎ ((first_control (draft_elements n) ≡ None) × (count_by is_register n.nodes ≡ 0)) → clock_of (net_draft n) ≡ n.clock
     go (inl e) = ap clock_from e
-    go (inr p) = ap clock_from p.0 ∙ unclocked n.clock v.clock p.1
+    go (inr p) = ap clock_from p.0 ∙ unclocked n.clock v.unordered.clock p.1
 
 -- ---- the names
 
@@ -194,7 +194,7 @@ is_net n name x lt e = list_any_at (bytes_eq name) (net_names n) x [] (omega (ar
 -- ---- the design
 
 inputs_again : (n : Net) → IsValid n → net_inputs (net_draft n) ≡ n.inputs
-inputs_again n v = ap (λ (c : Option (Edge × List ℕ)). filter (λ name. not (is_clock c name)) (n.inputs ++ clock_words n.clock)) (clock_again n v) ∙ go n.clock v.clock
+inputs_again n v = ap (λ (c : Option (Edge × List ℕ)). filter (λ name. not (is_clock c name)) (n.inputs ++ clock_words n.clock)) (clock_again n v) ∙ go n.clock v.unordered.clock
   where
     kept_with : (edge : Edge) (clock : List ℕ) → IsClockOf n (Some (edge, clock)) → (k : ℕ) → k < length n.inputs → not (bytes_eq clock (get_or n.inputs k [])) ≡ true
     kept_with edge clock h k lt = ap not (eq_false clock (get_or n.inputs k []) (λ e. clock_apart n edge clock h k (omega arith) (e ∙ sym (input_name n k lt))))
@@ -217,7 +217,7 @@ names_again n v = ap (λ (ins : List (List ℕ)). ins ++ map out_of (draft_eleme
 number_again : (n : Net) (x : ℕ) → IsValid n → x < net_count n → number_in (net_names n) (name_of n x) ≡ x
 number_again n x v lt =
     let found = among_number (net_names n) (name_of n x) (is_net n (name_of n x) x lt refl) in
-    v.names_differ (number_in (net_names n) (name_of n x)) x (omega (arith, names_long n, found.0)) lt found.1
+    v.unordered.names_differ (number_in (net_names n) (name_of n x)) x (omega (arith, names_long n, found.0)) lt found.1
 
 numbers_again : (n : Net) (nets : List ℕ) → IsValid n → All (λ x. x < net_count n) nets → map (number_in (net_names n)) (net_words n nets) ≡ nets
 numbers_again n [] v all = refl
@@ -234,7 +234,7 @@ nodes_again n (node ∷ nodes) v each =
     ap (λ (m : Node). m ∷ map (node_of_element (net_names n)) (map (draft_element n) nodes)) (node_again n node v each.0) ∙ ap (λ (ms : List Node). node ∷ ms) (nodes_again n nodes v each.1)
 
 all_wired : (n : Net) → IsValid n → EachNode (IsWired (net_count n)) n.nodes
-all_wired n v = each_node n (IsWired (net_count n)) (λ x node lt at. v.wired x node at)
+all_wired n v = each_node n (IsWired (net_count n)) (λ x node lt at. v.unordered.wired x node at)
 
 same_net : (m : List ℕ) (i j : List (List ℕ)) (ns ms : List Node) (os ps : List ℕ) (c d : Option (Edge × List ℕ)) → i ≡ j → ns ≡ ms → os ≡ ps → c ≡ d
     → (let a : Net = record { model = m; inputs = i; nodes = ns; outputs = os; clock = c } in a) ≡ (let b : Net = record { model = m; inputs = j; nodes = ms; outputs = ps; clock = d } in b)
@@ -243,7 +243,7 @@ same_net m i j ns ms os ps c d e1 e2 e3 e4 = cc
 pub net_again : (n : Net) → IsValid n → net_of_draft (net_draft n) ≡ n
 net_again n v =
     let nodes : map (node_of_element (draft_names (net_draft n))) (draft_elements n) ≡ n.nodes = ap (λ (names : List (List ℕ)). map (node_of_element names) (draft_elements n)) (names_again n v) ∙ nodes_again n n.nodes v (all_wired n v) in
-    let outputs : map (number_in (draft_names (net_draft n))) (net_words n n.outputs) ≡ n.outputs = ap (λ (names : List (List ℕ)). map (number_in names) (net_words n n.outputs)) (names_again n v) ∙ numbers_again n n.outputs v v.outputs_in_range in
+    let outputs : map (number_in (draft_names (net_draft n))) (net_words n n.outputs) ≡ n.outputs = ap (λ (names : List (List ℕ)). map (number_in names) (net_words n n.outputs)) (names_again n v) ∙ numbers_again n n.outputs v v.unordered.outputs_in_range in
     same_net n.model (net_inputs (net_draft n)) n.inputs (map (node_of_element (draft_names (net_draft n))) (draft_elements n)) n.nodes (map (number_in (draft_names (net_draft n))) (net_words n n.outputs)) n.outputs (clock_of (net_draft n)) n.clock (inputs_again n v) nodes outputs (clock_again n v)
 
 -- ---- no fault
@@ -312,10 +312,10 @@ reads_again n (Register name init pin ∷ nodes) each = ((pin, each.0, refl), re
 clean_clock : (n : Net) → IsValid n → HasCleanClock (net_draft n)
 clean_clock n v edge clock e =
     let is : n.clock ≡ Some (edge, clock) = sym (clock_again n v) ∙ e in
-    let h : IsClockOf n (Some (edge, clock)) = subst (IsClockOf n) is v.clock in
+    let h : IsClockOf n (Some (edge, clock)) = subst (IsClockOf n) is v.unordered.clock in
     let input : is_among (n.inputs ++ clock_words n.clock) clock ≡ true = ap (λ (c : Option (Edge × List ℕ)). is_among (n.inputs ++ clock_words c) clock) is ∙ last_input clock in
     let reads : is_among (draft_reads (net_draft n)) clock ≡ false = not_clock n edge clock (draft_reads (net_draft n)) h (reads_again n n.nodes (all_wired n v)) in
-    let outputs : is_among (net_words n n.outputs) clock ≡ false = not_clock n edge clock (net_words n n.outputs) h (words_are_nets n n.outputs v.outputs_in_range) in
+    let outputs : is_among (net_words n n.outputs) clock ≡ false = not_clock n edge clock (net_words n n.outputs) h (words_are_nets n n.outputs v.unordered.outputs_in_range) in
     all_false (bytes_eq clock (codes "NIL")) (is_among (n.inputs ++ clock_words n.clock) clock) (is_among (draft_reads (net_draft n)) clock) (is_among (net_words n n.outputs) clock) (eq_false clock (codes "NIL") h.1) input reads outputs
   where
     last_input : (clock : List ℕ) → is_among (n.inputs ++ clock ∷ []) clock ≡ true
@@ -328,7 +328,7 @@ driven : (n : Net) → IsValid n → IsDriven (net_draft n)
 driven n v = record { none = none }
   where
     all : AreNets n (draft_reads (net_draft n) ++ net_words n n.outputs)
-    all = nets_join n (draft_reads (net_draft n)) (net_words n n.outputs) (reads_again n n.nodes (all_wired n v)) (words_are_nets n n.outputs v.outputs_in_range)
+    all = nets_join n (draft_reads (net_draft n)) (net_words n n.outputs) (reads_again n n.nodes (all_wired n v)) (words_are_nets n n.outputs v.unordered.outputs_in_range)
 
     none : (before : List (List ℕ)) (x : List ℕ) (after : List (List ℕ)) → draft_reads (net_draft n) ++ net_words n n.outputs ≡ before ++ x ∷ after → is_no_net (draft_names (net_draft n)) before x ≡ false
     none before x after e =

@@ -22,11 +22,11 @@ names_from (w ∷ ws) each = (each 0 (omega arith), names_from ws (λ k lt. each
 -- names of nets
 pub net_names_are : (n : Net) (nets : List ℕ) → IsValid n → All (λ x. x < net_count n) nets → AreNames (net_words n nets)
 net_names_are n [] v all = tt
-net_names_are n (x ∷ nets) v all = (v.names_are_names x (All-head (λ y. y < net_count n) x nets all), net_names_are n nets v (All-tail (λ y. y < net_count n) x nets all))
+net_names_are n (x ∷ nets) v all = (v.unordered.names_are_names x (All-head (λ y. y < net_count n) x nets all), net_names_are n nets v (All-tail (λ y. y < net_count n) x nets all))
 
 -- the clock's name
 pub control_is : (n : Net) → IsValid n → IsControl n.clock
-control_is n v = go n.clock v.clock
+control_is n v = go n.clock v.unordered.clock
   where
     go : (c : Option (Edge × List ℕ)) → IsClockOf n c → IsControl c
     go None h = tt
@@ -37,15 +37,15 @@ clock_names None c = tt
 clock_names (Some (edge, name)) c = (c.0, tt)
 
 inputs_are : (n : Net) → IsValid n → AreNames n.inputs
-inputs_are n v = names_from n.inputs (λ k lt. subst (λ (w : List ℕ). is_name w ≡ true) (input_name n k lt) (v.names_are_names k (omega arith)))
+inputs_are n v = names_from n.inputs (λ k lt. subst (λ (w : List ℕ). is_name w ≡ true) (input_name n k lt) (v.unordered.names_are_names k (omega arith)))
 
 -- the names of all nets differ
 pub nets_apart : (n : Net) → IsValid n → AreApart (net_names n)
-nets_apart n v = apart_from (net_names n) (λ i j less lt e. let long = names_long n in let same = v.names_differ i j (omega arith) (omega arith) e in absurd (omega arith))
+nets_apart n v = apart_from (net_names n) (λ i j less lt e. let long = names_long n in let same = v.unordered.names_differ i j (omega arith) (omega arith) e in absurd (omega arith))
 
 -- and the clock's name is none of them
 pub whole_apart : (n : Net) → IsValid n → AreApart ((n.inputs ++ clock_words n.clock) ++ map node_name n.nodes)
-whole_apart n v = go n.clock v.clock
+whole_apart n v = go n.clock v.unordered.clock
   where
     go : (c : Option (Edge × List ℕ)) → IsClockOf n c → AreApart ((n.inputs ++ clock_words c) ++ map node_name n.nodes)
     go None h = subst (λ (ws : List (List ℕ)). AreApart (ws ++ map node_name n.nodes)) (sym (append-nil n.inputs)) (nets_apart n v)
@@ -58,7 +58,7 @@ outputs_apart n v = apart_from (net_words n n.outputs) (λ i j less lt e.
     let j_in : j < length n.outputs = omega arith in
     let at_i : get_or (net_words n n.outputs) i [] ≡ name_of n (get_or n.outputs i 0) = get_or-map (name_of n) n.outputs i 0 [] i_in in
     let at_j : get_or (net_words n n.outputs) j [] ≡ name_of n (get_or n.outputs j 0) = get_or-map (name_of n) n.outputs j 0 [] j_in in
-    v.outputs_differ i j less j_in (v.names_differ (get_or n.outputs i 0) (get_or n.outputs j 0) (v.outputs_in_range i 0 i_in) (v.outputs_in_range j 0 j_in) (sym at_i ∙ (e ∙ at_j))))
+    v.unordered.outputs_differ i j less j_in (v.unordered.names_differ (get_or n.outputs i 0) (get_or n.outputs j 0) (v.unordered.outputs_in_range i 0 i_in) (v.unordered.outputs_in_range j 0 j_in) (sym at_i ∙ (e ∙ at_j))))
 
 -- ---- nodes
 
@@ -80,7 +80,7 @@ each_node n P each = each_from P n.nodes (λ i lt. each (length n.inputs + i) (g
 
 spelled_node : (n : Net) (node : Node) → IsValid n → is_name (node_name node) ≡ true → IsWired (net_count n) node → IsSpelled n node
 spelled_node n (Table name cover pins) v e wired = (net_names_are n pins v wired.0, e, wired.1, wired.2)
-spelled_node n (Register name init pin) v e wired = (v.names_are_names pin wired, e, control_is n v)
+spelled_node n (Register name init pin) v e wired = (v.unordered.names_are_names pin wired, e, control_is n v)
 
 -- a property of each node that stands there with its mark
 abbrev pub EachMarked : (Node → Type 0) → List (Node × Bool) → Type 0
@@ -101,10 +101,10 @@ spelled_nodes n (node ∷ nodes) each = (each.0, spelled_nodes n nodes each.1)
 -- a valid design has a text
 pub valid_text : (n : Net) (free : List Bool) → IsValid n → IsText n free
 valid_text n free v = record {
-  model = v.model_is_name;
+  model = v.unordered.model_is_name;
   inputs = names_join n.inputs (clock_words n.clock) (inputs_are n v) (clock_names n.clock (control_is n v));
   inputs_differ = differ_from (n.inputs ++ clock_words n.clock) (apart_left (n.inputs ++ clock_words n.clock) (map node_name n.nodes) (whole_apart n v));
-  outputs = net_names_are n n.outputs v v.outputs_in_range;
+  outputs = net_names_are n n.outputs v v.unordered.outputs_in_range;
   outputs_differ = differ_from (net_words n n.outputs) (outputs_apart n v);
-  nodes = spelled_nodes n (with_marks free n.nodes) (each_marked (IsSpelled n) free n.nodes (each_node n (IsSpelled n) (λ x node lt at. spelled_node n node v (subst (λ (w : List ℕ). is_name w ≡ true) (name_is n x node at) (v.names_are_names x lt)) (v.wired x node at))));
+  nodes = spelled_nodes n (with_marks free n.nodes) (each_marked (IsSpelled n) free n.nodes (each_node n (IsSpelled n) (λ x node lt at. spelled_node n node v (subst (λ (w : List ℕ). is_name w ≡ true) (name_is n x node at) (v.unordered.names_are_names x lt)) (v.unordered.wired x node at))));
 }

@@ -35,14 +35,14 @@ pins_grow n h (x ∷ xs) (g ∷ gs) long each = (each 0 (omega arith), pins_grow
 
 module _ (n h : Net) (f g : List Bool) (k : PlainCert) (valid : IsValid n) (hardened_valid : IsValid h) (cert : IsCert k) (is : IsTripled n h k) (holds : AllHold n f h g k) where
   clock_grown : ClockGrown n.clock h.clock
-  clock_grown = subst (ClockGrown n.clock) (sym is.clock) (clock_grows n n.clock valid.clock)
+  clock_grown = subst (ClockGrown n.clock) (sym is.clock) (clock_grows n n.clock valid.unordered.clock)
 
   -- a copy has its node's kind and cover, and reads what the node reads, each with a grown name
   copy_grows : (x y p : ℕ) (c : CopyNo) (free hfree : Bool) (node copy : Node) → IsGrown (name_of n x) (name_of h y) → node_of n x ≡ Some node → node_of h y ≡ Some copy
       → CopiesTable k (Some node) (Some copy) p c → CopiesRegister k (Some node) free (Some copy) hfree p c → NodeGrown n h node copy
   copy_grows x y p c free hfree (Table name cover pins) (Table hname hcover hpins) grown e he table register =
-      let wired = valid.wired x (Table name cover pins) e in
-      let hwired = hardened_valid.wired y (Table hname hcover hpins) he in
+      let wired = valid.unordered.wired x (Table name cover pins) e in
+      let hwired = hardened_valid.unordered.wired y (Table hname hcover hpins) he in
       let own = subst (λ (w : List ℕ). IsGrown w (name_of h y)) (name_is n x (Table name cover pins) e) grown in (
         subst (IsGrown name) (name_is h y (Table hname hcover hpins) he) own,
         table.0,
@@ -52,7 +52,7 @@ module _ (n h : Net) (f g : List Bool) (k : PlainCert) (valid : IsValid n) (hard
   copy_grows x y p c free hfree (Table name cover pins) (Register hname hinit hpin) grown e he table register = absurd table
   copy_grows x y p c free hfree (Register name init pin) (Table hname hcover hpins) grown e he table register = absurd register
   copy_grows x y p c free hfree (Register name init pin) (Register hname hinit hpin) grown e he table register =
-      let wired = valid.wired x (Register name init pin) e in
+      let wired = valid.unordered.wired x (Register name init pin) e in
       let own = subst (λ (w : List ℕ). IsGrown w (name_of h y)) (name_is n x (Register name init pin) e) grown in
       (subst (IsGrown name) (name_is h y (Register hname hinit hpin) he) own, read_name_grown n h k valid cert is hpin pin p c wired register.2)
 

@@ -26,7 +26,7 @@ name_is_some (x ∷ xs) e = omega arith
 
 -- no net has an empty name
 pub some_name : (n : Net) (x : ℕ) → IsValid n → x < net_count n → 0 < length (name_of n x)
-some_name n x valid l = name_is_some (name_of n x) (valid.names_are_names x l)
+some_name n x valid l = name_is_some (name_of n x) (valid.unordered.names_are_names x l)
 
 pub clock_grows : (n : Net) (c : Option (Edge × List ℕ)) → IsClockOf n c → ClockGrown c (hardened_clock c)
 clock_grows n None is = tt

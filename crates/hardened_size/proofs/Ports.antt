@@ -42,7 +42,7 @@ module _ (n h : Net) (k : PlainCert) (valid : IsValid n) (cert : IsCert k) (is :
   output_copies i x z e ez =
       let same : x ≡ z = cc in
       let at : get_or n.outputs i 0 ≡ x = get_or_from_slice_get n.outputs i x 0 e in
-      let high : x < net_count n = subst (λ y. y < net_count n) at (valid.outputs_in_range i 0 (slice_get_within n.outputs i x e)) in
+      let high : x < net_count n = subst (λ y. y < net_count n) at (valid.unordered.outputs_in_range i 0 (slice_get_within n.outputs i x e)) in
       let three : nets_length h (threefold (copy_of k x)) ≡ spaced (name_of h (copy_of k x First)) + spaced (name_of h (copy_of k x Second)) + spaced (name_of h (copy_of k x Third)) = omega arith in
       omega (arith, three, copy_long n h k valid cert is x First high, copy_long n h k valid cert is x Second high, copy_long n h k valid cert is x Third high, ap (λ y. length (name_of n y)) same)
 

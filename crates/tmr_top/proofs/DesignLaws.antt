@@ -4,8 +4,7 @@ use Rattle.std.specs.Prelude.{count_by}
 use Rattle.std.specs.FinMap.{get}
 use Rattle.blif_text.specs.Kind.{Bad}
 use Rattle.blif_text.specs.Models.{PlainModel}
-use Rattle.blif_text.specs.Reading.{reading}
-use Rattle.blif_text.specs.Stands.{Reads}
+use Rattle.blif_text.specs.Reading.{reading, Reads}
 use Rattle.blif_text.specs.declared.fault.TextFault.{TextFault}
 use Rattle.flat_net.specs.Net.{Net}
 use Rattle.hierarchy.specs.Flatten.{IsFlatFault, IsFreeFlat}

@@ -5,9 +5,8 @@ use Rattle.std.specs.declared.alloc.Global.{Global}
 use Rattle.std.specs.FinMap.{get}
 use Rattle.std.proofs.lemmas.List.{map-append, take-append-drop, take_more}
 use Rattle.blif_text.specs.Models.{PlainModel}
-use Rattle.blif_text.specs.Reading.{reading}
+use Rattle.blif_text.specs.Reading.{reading, Reads}
 use Rattle.blif_text.specs.Reader.{ReaderState, StandsFor}
-use Rattle.blif_text.specs.Stands.{Reads}
 use Rattle.blif_text.specs.declared.fault.TextFault.{TextFault}
 use Rattle.tmr_outside.specs.Contents.{Contents}
 use Rattle.tmr_outside.specs.Counts.{RoseOf, NoneFell, NoneRose}

@@ -112,15 +112,15 @@ module _ (n : Net) (valid : IsValid n) (names : List (List ℕ)) (are : names �
 
       go : (i ≡ j) ⊎ ((i < j) ⊎ (j < i)) → i ≡ j
       go (inl same) = same
-      go (inr (inl less)) = absurd (valid.outputs_differ i j less l e)
-      go (inr (inr less)) = absurd (valid.outputs_differ j i less h (sym e))
+      go (inr (inl less)) = absurd (valid.unordered.outputs_differ i j less l e)
+      go (inr (inr less)) = absurd (valid.unordered.outputs_differ j i less h (sym e))
 
   pub waves_differ : (j k : ℕ) → j < k → k < length names → slice_index_or names j (codes "") ≢ slice_index_or names k (codes "")
   waves_differ j k less l e =
       let one = wave_of_name j (omega arith) in
       let other = wave_of_name k l in
       let both = two_alike _ _ 126 126 (wave_byte one.wave) (wave_byte other.wave) (sym one.is ∙ (e ∙ other.is)) in
-      let net = valid.names_differ _ _ (valid.outputs_in_range one.output 0 one.within) (valid.outputs_in_range other.output 0 other.within) both.0 in
+      let net = valid.unordered.names_differ _ _ (valid.unordered.outputs_in_range one.output 0 one.within) (valid.unordered.outputs_in_range other.output 0 other.within) both.0 in
       let output = same_output one.output other.output one.within other.within net in
       let wave = byte_apart one.wave other.wave one.few other.few both.2 in
       let a = one.place in

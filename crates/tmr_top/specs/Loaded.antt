@@ -1,8 +1,7 @@
 -- Files that were loaded, and loads that came to no end. Private functions alone speak of these.
 use Rattle.std.specs.Prelude.{◌≡◌, ℕ, ◌≤◌, List, [], ◌∷◌, length, codes, Option, IfSome, Result}
 use Rattle.blif_text.specs.Models.{PlainModel}
-use Rattle.blif_text.specs.Reading.{reading}
-use Rattle.blif_text.specs.Stands.{Reads}
+use Rattle.blif_text.specs.Reading.{reading, Reads}
 use Rattle.blif_text.specs.declared.fault.TextFault.{TextFault}
 use Rattle.tmr_outside.specs.Contents.{Contents}
 use Rattle.tmr_outside.specs.Counts.{NoneRose}

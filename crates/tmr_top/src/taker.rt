@@ -1,7 +1,6 @@
 //! A netlist that is read while its file is taken in pieces.
 ghost use Rattle.std.specs.Prelude.{◌≡◌, ◌≤◌, [], IfOk, List, ℕ};
-ghost use Rattle.blif_text.specs.Reading.{reading};
-ghost use Rattle.blif_text.specs.Stands.{Reads};
+ghost use Rattle.blif_text.specs.Reading.{reading, Reads};
 ghost use Rattle.blif_text.specs.Reader.{StandsFor, most_bytes};
 
 use blif_text::{Library, Reader, TextFault};

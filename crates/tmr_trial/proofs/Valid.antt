@@ -9,8 +9,10 @@ use Rattle.std.proofs.lemmas.List.FromFn.{get_or-range_with_len, length-range_wi
 use Rattle.tmr_base.specs.declared.ids.Edge.{Edge}
 use Rattle.tmr_base.specs.declared.ids.Edge.TheVariants.{Rising}
 use Rattle.tmr_base.specs.Names.{is_name}
-use Rattle.flat_net.specs.Net.{Net, Node, net_count, slot, node_of, node_name, net_names, is_register, register_count, table_pins, IsTable, IsWired, IsClockOf, ComesBefore, IsOrder, IsValid}
+use Rattle.flat_net.specs.Net.{Net, Node, net_count, slot, node_of, node_name, net_names, is_register, register_count, table_pins, IsTable, IsWired, IsClockOf, IsOrder, IsValid}
 use Rattle.flat_net.proofs.Slots.{slot_at, slot_within, slot_below}
+use Rattle.flat_net.specs.Private.ByPlace.{ComesBefore}
+use Rattle.flat_net.proofs.ByPlace.{from_places}
 use Rattle.tmr_trial.specs.Designs.{input_text, node_text, node_drawn, node_at, nodes_drawn, state_at, clock_for, trial_outputs, design_of}
 use Rattle.tmr_trial.proofs.Texts.{texts, texts_are_names, texts_apart, texts_no_clock, length-texts, clock_is_not_nil}
 use Rattle.tmr_trial.proofs.NodeLaws.{node_wired, table_reads_before, node_there, nodes_named, pins_few}
@@ -109,12 +111,12 @@ module _ (number nodes : ℕ) (few : nodes ≤ 100000) where
   inputs_long = refl
 
   pub ordered : IsOrder (design_of number nodes) (range_with_len 8 nodes)
-  ordered = record {
+  ordered = from_places (design_of number nodes) (range_with_len 8 nodes) (record {
     nodes = λ k h. (omega (arith, inputs_long, at k (within k h)), omega (arith, count_is, at k (within k h), within k h));
     complete = λ x low high. (x - 8, omega (arith, length-range_with_len 8 nodes, inputs_long, count_is, low, high), order_at (x - 8) (omega (arith, inputs_long, count_is, low, high)) ∙ omega (arith, inputs_long, low));
     once = λ j k l h e. omega (arith, e, l, at k (within k h), at j (omega (arith, l, within k h)));
     after = after;
-  }
+  })
     where
       within : (k : ℕ) → k < length (range_with_len 8 nodes) → k < nodes
       within k h = omega (arith, h, length-range_with_len 8 nodes)
@@ -125,15 +127,17 @@ module _ (number nodes : ℕ) (few : nodes ≤ 100000) where
   pub valid : IsValid (design_of number nodes)
   unfolding design_of
   valid = record {
-    model_is_name = refl;
-    few = omega (arith, count_is, few);
-    few_pins = omega (arith, pins_few number nodes, few);
-    few_outputs = omega (arith, length-range_with_len (8 + (nodes - min nodes 8)) (min nodes 8));
-    names_are_names = λ x h. ap (λ (xs : List (List ℕ)). is_name (get_or xs x [])) names_are ∙ texts_are_names nodes x few (omega (arith, count_is, h));
-    names_differ = λ x y h g e. texts_apart nodes x y few (omega (arith, count_is, h)) (omega (arith, count_is, g)) (ap (λ (xs : List (List ℕ)). get_or xs x []) (sym names_are) ∙ (e ∙ ap (λ (xs : List (List ℕ)). get_or xs y []) names_are));
-    wired = wired;
-    outputs_in_range = outputs_in_range;
-    outputs_differ = outputs_differ;
-    clock = clock_is _ refl;
+    unordered = record {
+      model_is_name = refl;
+      few = omega (arith, count_is, few);
+      few_pins = omega (arith, pins_few number nodes, few);
+      few_outputs = omega (arith, length-range_with_len (8 + (nodes - min nodes 8)) (min nodes 8));
+      names_are_names = λ x h. ap (λ (xs : List (List ℕ)). is_name (get_or xs x [])) names_are ∙ texts_are_names nodes x few (omega (arith, count_is, h));
+      names_differ = λ x y h g e. texts_apart nodes x y few (omega (arith, count_is, h)) (omega (arith, count_is, g)) (ap (λ (xs : List (List ℕ)). get_or xs x []) (sym names_are) ∙ (e ∙ ap (λ (xs : List (List ℕ)). get_or xs y []) names_are));
+      wired = wired;
+      outputs_in_range = outputs_in_range;
+      outputs_differ = outputs_differ;
+      clock = clock_is _ refl;
+    };
     ordered = (range_with_len 8 nodes, ordered);
   }

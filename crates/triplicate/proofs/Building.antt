@@ -29,7 +29,7 @@ abbrev pub given_of : (n : Net) (size : ℕ) (parts : PlainParts) (vs : PlainVot
     → CutMeets n parts vs.cut → AreDepths n parts (is_cut_or_extra vs.cut vs.marks) t → IsGiven n parts (pin_is_voted n parts vs) (labeling vs.inputs t)
 given_of n size parts vs t positive valid few few_parts exact meets depths = record {
   valid = valid;
-  in_range = record { in_range = (ranges_of n size parts positive exact).below; few = omega (arith, (ranges_of n size parts positive exact).long, valid.few) };
+  in_range = record { in_range = (ranges_of n size parts positive exact).below; few = omega (arith, (ranges_of n size parts positive exact).long, valid.unordered.few) };
   parts_long = (ranges_of n size parts positive exact).long;
   few_parts = few_parts;
   cut = vs.cut;

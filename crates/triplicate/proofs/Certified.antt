@@ -60,7 +60,7 @@ module _ (n : Net) (parts : PlainParts) (voted : ℕ → ℕ → Bool) (t : Labe
   is_cert small_labels small_depths = record {
     known_version = known_versions t.inputs;
     few_parts = omega (arith, is.labels.parts_long, is.few_parts);
-    few_original = omega (arith, is.valid.few, is.parts_long);
+    few_original = omega (arith, is.valid.unordered.few, is.parts_long);
     few_hardened = is.few;
     small_depths = small_depths;
     small_labels = All-map (λ k. (k.first < 2 ^ 32) × (k.second < 2 ^ 32) × (k.third < 2 ^ 32)) three_labels t.labels (λ i d h. (small_labels i d h, small_labels i d h, small_labels i d h));

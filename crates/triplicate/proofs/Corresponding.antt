@@ -197,7 +197,7 @@ module _ (n : Net) (parts : PlainParts) (voted : ℕ → ℕ → Bool) (t : Labe
     no_more = λ h. omega (arith, h, length-threes (copy_net n parts voted) n.outputs);
     copy = λ i x c e at.
         let within = slice_get_within n.outputs i x at in
-        let high : x < net_count n = subst (λ k. k < net_count n) (get_or_from_slice_get n.outputs i x 0 at) (is.valid.outputs_in_range i 0 within) in
+        let high : x < net_count n = subst (λ k. k < net_count n) (get_or_from_slice_get n.outputs i x 0 at) (is.valid.unordered.outputs_in_range i 0 within) in
         ap (slice_get (flat_map (λ x. threefold (copy_net n parts voted x)) n.outputs)) e ∙ (threes_at (copy_net n parts voted) n.outputs i x c at ∙ ap Some (sym (copy_listed n parts voted t x c high)));
   }
 

@@ -150,7 +150,7 @@ module _ (n : Net) (parts : PlainParts) (voted : ℕ → ℕ → Bool) (t : Labe
     fits = cert_fits n parts voted t is;
     model = refl;
     inputs = refl;
-    outputs = flat_map_agree (λ x. threefold (copy_net n parts voted x)) (λ x. threefold (copy_of (hardened_cert n parts voted t) x)) n.outputs (λ i x at. listed x (subst (λ k. k < net_count n) (get_or_from_slice_get n.outputs i x 0 at) (is.valid.outputs_in_range i 0 (slice_get_within n.outputs i x at))));
+    outputs = flat_map_agree (λ x. threefold (copy_net n parts voted x)) (λ x. threefold (copy_of (hardened_cert n parts voted t) x)) n.outputs (λ i x at. listed x (subst (λ k. k < net_count n) (get_or_from_slice_get n.outputs i x 0 at) (is.valid.unordered.outputs_in_range i 0 (slice_get_within n.outputs i x at))));
     clock = refl;
     roles = roles_same n parts voted (is_voted n (hardened_net n parts voted) (hardened_cert n parts voted t)) (λ y j h l. sym (votes_read First y j h l)) ∙ ap (λ (p : PlainParts). hardened_roles n p (is_voted n (hardened_net n parts voted) (hardened_cert n parts voted t))) (sym same_parts);
     names = map_map node_name (role_node n parts voted) (hardened_roles n parts voted) ∙ map_agree (λ r. node_name (role_node n parts voted r)) (role_name n) (hardened_roles n parts voted) names_of_roles;

@@ -8,8 +8,10 @@ use Rattle.std.proofs.lemmas.Option.{slice_get-get_or, slice_get_within, get_or_
 use Rattle.tmr_base.specs.declared.copies.CopyNo.{CopyNo}
 use Rattle.tmr_base.specs.Copies.{copy_number}
 use Rattle.tmr_base.specs.Parts.{PlainParts}
-use Rattle.flat_net.specs.Net.{Net, Node, Table, Register, net_count, node_of, table_pins, pins_at, IsTable, ComesBefore, IsOrder}
+use Rattle.flat_net.specs.Net.{Net, Node, Table, Register, net_count, node_of, table_pins, pins_at, IsTable, IsOrder}
 use Rattle.flat_net.proofs.Slots.{slot_within, slot_below, slice_get_there}
+use Rattle.flat_net.specs.Private.ByPlace.{ComesBefore}
+use Rattle.flat_net.proofs.ByPlace.{from_places}
 use Rattle.certificate.specs.declared.role.Role.{Role}
 use Rattle.certificate.specs.declared.role.Role.TheVariants.{Copy, Voter}
 use Rattle.certificate.specs.Cert.{role_of}
@@ -184,7 +186,7 @@ module _ (n : Net) (parts : PlainParts) (voted : ℕ → ℕ → Bool) (t : Labe
               (blocks_before (block_nets n parts voted) (net_order n order) p.at + copy_number d, omega (arith, p.place, offset, three, few), here'.1 ∙ (sym (copy_net_node n parts voted p.net d l) ∙ (sym (pin_is d e) ∙ sym (ap (λ (ps : List ℕ). slice_index ps i) pins_are))))
 
   pub is_order : IsOrder (hardened_net n parts voted) (hardened_order n parts voted order)
-  is_order = record {
+  is_order = from_places (hardened_net n parts voted) (hardened_order n parts voted order) (record {
     nodes = λ k h. let p = place_at k h in let (r, at) = slice_get_there (block n parts voted p.net) p.offset p.within in subst (λ g. (length (hardened_net n parts voted).inputs ≤ g) × (g < net_count (hardened_net n parts voted))) (sym p.number) (in_range (block_start n parts voted p.net + p.offset) r (role_at_entry p.net p.offset r p.below p.within at));
     complete = λ g low high.
         let (r, at) = role_there n parts voted t is g (omega (arith, low, ports)) high in
@@ -199,7 +201,7 @@ module _ (n : Net) (parts : PlainParts) (voted : ℕ → ℕ → Bool) (t : Labe
         let place : p.at ≡ q.at = nets.once p.at q.at q.net (p.listed ∙ ap Some same.0) q.listed in
         omega (arith, less, p.place, q.place, same.1, ap (blocks_before (block_nets n parts voted) (net_order n order)) place);
     after = λ k i h. follows k i (place_at k h);
-  }
+  })
     where
       follows : (k i : ℕ) → Place k → ComesBefore (hardened_net n parts voted) (hardened_order n parts voted order) k i
       follows k i p = let (r, at) = slice_get_there (block n parts voted p.net) p.offset p.within in go r at

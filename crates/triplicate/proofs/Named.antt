@@ -91,14 +91,14 @@ module _ (n : Net) (parts : PlainParts) (voted : ℕ → ℕ → Bool) (t : Labe
       go : IsCopyNet n parts voted g ⊎ IsVoterNet n parts voted g → IsCopyNet n parts voted h ⊎ IsVoterNet n parts voted h → g ≡ h
       go (inl a) (inl b) =
           let same = copies_differ (name_of n a.net) (name_of n b.net) a.copy b.copy (sym a.name ∙ (e ∙ b.name)) in
-          let net : a.net ≡ b.net = is.valid.names_differ a.net b.net a.below b.below same.0 in
+          let net : a.net ≡ b.net = is.valid.unordered.names_differ a.net b.net a.below b.below same.0 in
           let copy : a.copy ≡ b.copy = same.1 in
           a.number ∙ (ap (λ x. copy_net n parts voted x a.copy) net ∙ (ap (copy_net n parts voted b.net) copy ∙ sym b.number))
       go (inl a) (inr b) = absurd (copy_is_no_voter (name_of n a.net) (name_of n b.net) b.part a.copy b.copy (sym a.name ∙ (e ∙ b.name)))
       go (inr a) (inl b) = absurd (copy_is_no_voter (name_of n b.net) (name_of n a.net) a.part b.copy a.copy (sym b.name ∙ (sym e ∙ a.name)))
       go (inr a) (inr b) =
           let same = voters_differ (name_of n a.net) (name_of n b.net) a.part b.part a.copy b.copy (few_part a.part a.in_parts) (few_part b.part b.in_parts) (sym a.name ∙ (e ∙ b.name)) in
-          let net : a.net ≡ b.net = is.valid.names_differ a.net b.net a.below b.below same.0 in
+          let net : a.net ≡ b.net = is.valid.unordered.names_differ a.net b.net a.below b.below same.0 in
           let part : a.part ≡ b.part = same.1 in
           let copy : a.copy ≡ b.copy = same.2 in
           a.number ∙ (ap (λ x. voter_net n parts voted x a.part a.copy) net ∙ (ap (λ p. voter_net n parts voted b.net p a.copy) part ∙ (ap (voter_net n parts voted b.net b.part) copy ∙ sym b.number)))
@@ -107,5 +107,5 @@ module _ (n : Net) (parts : PlainParts) (voted : ℕ → ℕ → Bool) (t : Labe
   names_are_names g l = go (stands_for g l)
     where
       go : IsCopyNet n parts voted g ⊎ IsVoterNet n parts voted g → is_name (name_of (hardened_net n parts voted) g) ≡ true
-      go (inl a) = ap is_name a.name ∙ copy_is_name (name_of n a.net) a.copy (is.valid.names_are_names a.net a.below)
-      go (inr a) = ap is_name a.name ∙ voter_is_name (name_of n a.net) a.part a.copy (few_part a.part a.in_parts) (is.valid.names_are_names a.net a.below)
+      go (inl a) = ap is_name a.name ∙ copy_is_name (name_of n a.net) a.copy (is.valid.unordered.names_are_names a.net a.below)
+      go (inr a) = ap is_name a.name ∙ voter_is_name (name_of n a.net) a.part a.copy (few_part a.part a.in_parts) (is.valid.unordered.names_are_names a.net a.below)

@@ -7,6 +7,8 @@ use Rattle.std.proofs.lemmas.List.FromFn.{length-range_with_len, get_or-range_wi
 use Rattle.std.proofs.lemmas.Option.{slice_get-get_or, slice_get_within, get_or_from_slice_get}
 use Rattle.flat_net.specs.Net.{Net, Node, Table, Register, net_count, node_of, table_pins, IsTable, IsOrder, IsValid}
 use Rattle.flat_net.proofs.Slots.{slot_there, slot_below}
+use Rattle.flat_net.specs.Private.ByPlace.{IsOrderByPlace}
+use Rattle.flat_net.proofs.ByPlace.{by_place}
 use Rattle.recovery_depth.specs.Depths.{is_some_register}
 use Rattle.triplicate.specs.Private.Construction.{is_register_net, net_order}
 use Rattle.triplicate.proofs.Lists.{get_before, get_after}
@@ -26,6 +28,9 @@ pub data Stands (n : Net) (order : List ℕ) (x a : ℕ) : Type 0 where
   as_table : (m : ℕ) → slice_get order m ≡ Some x → not (is_register_net n x) ≡ true → a ≡ length n.inputs + (length (filter (is_register_net n) order) + kept_before (λ x. not (is_register_net n x)) order m) → Stands n order x a
 
 module _ (n : Net) (order : List ℕ) (valid : IsValid n) (ordered : IsOrder n order) where
+  places : IsOrderByPlace n order
+  places = by_place n order ordered
+
   nets_first : length (range_with_len 0 (length n.inputs)) ≡ length n.inputs
   nets_first = length-range_with_len 0 (length n.inputs)
 
@@ -33,14 +38,14 @@ module _ (n : Net) (order : List ℕ) (valid : IsValid n) (ordered : IsOrder n o
   order_at m x h = (slice_get_within order m x h, get_or_from_slice_get order m x 0 h)
 
   node_listed : (x : ℕ) → length n.inputs ≤ x → x < net_count n → (m : ℕ) × (slice_get order m ≡ Some x)
-  node_listed x low high = let (m, l, e) = ordered.complete x low high in (m, slice_get-get_or order m 0 l ∙ ap Some e)
+  node_listed x low high = let (m, l, e) = places.complete x low high in (m, slice_get-get_or order m 0 l ∙ ap Some e)
 
   listed_once : (j m x : ℕ) → slice_get order j ≡ Some x → slice_get order m ≡ Some x → j ≡ m
   listed_once j m x h g = go (cases_lt j m) (cases_lt m j)
     where
       go : (j < m) ⊎ (m ≤ j) → (m < j) ⊎ (j ≤ m) → j ≡ m
-      go (inl l) any = absurd (ordered.once j m l ((order_at m x g).0) ((order_at j x h).1 ∙ sym ((order_at m x g).1)))
-      go (inr l) (inl k) = absurd (ordered.once m j k ((order_at j x h).0) ((order_at m x g).1 ∙ sym ((order_at j x h).1)))
+      go (inl l) any = absurd (places.once j m l ((order_at m x g).0) ((order_at j x h).1 ∙ sym ((order_at m x g).1)))
+      go (inr l) (inl k) = absurd (places.once m j k ((order_at j x h).0) ((order_at m x g).1 ∙ sym ((order_at j x h).1)))
       go (inr l) (inr k) = omega arith
 
   -- each place holds a net that stands there
@@ -100,7 +105,7 @@ module _ (n : Net) (order : List ℕ) (valid : IsValid n) (ordered : IsOrder n o
   listed_in_range : (m x : ℕ) → slice_get order m ≡ Some x → (length n.inputs ≤ x) × (x < net_count n)
   listed_in_range m x at =
       let (l, e) = order_at m x at in
-      let (low, high) = ordered.nodes m l in
+      let (low, high) = places.nodes m l in
       (omega (arith, low, e), omega (arith, high, e))
 
   one_place : (a b x : ℕ) → Stands n order x a → Stands n order x b → a ≡ b
@@ -128,7 +133,7 @@ module _ (n : Net) (order : List ℕ) (valid : IsValid n) (ordered : IsOrder n o
       node low k at' false e =
           let known = order_at m x at in
           let same : node_of n (slice_index order m) ≡ node_of n x = ap (node_of n) known.1 in
-          let (j, before, is) = ordered.after m i known.0 (subst (λ o. i < length (table_pins o)) (sym same) within) (subst (λ o. IsTable (node_of n (slice_index (table_pins o) i))) (sym same) (table e)) in
+          let (j, before, is) = places.after m i known.0 (subst (λ o. i < length (table_pins o)) (sym same) within) (subst (λ o. IsTable (node_of n (slice_index (table_pins o) i))) (sym same) (table e)) in
           let there : slice_get order j ≡ Some (slice_index (table_pins (node_of n x)) i) = slice_get-get_or order j 0 (omega (arith, before, known.0)) ∙ ap Some (is ∙ ap (λ o. slice_index (table_pins o) i) same) in
           (length n.inputs + (length (filter (is_register_net n) order) + kept_before (λ x. not (is_register_net n x)) order j), omega (arith, kept_rises (λ x. not (is_register_net n x)) order j m (slice_index (table_pins (node_of n x)) i) before there (ap not e)), as_table j there (ap not e) refl)
         where
@@ -151,7 +156,7 @@ module _ (n : Net) (order : List ℕ) (valid : IsValid n) (ordered : IsOrder n o
       go None e = absurd (let none : length (table_pins (node_of n x)) ≡ 0 = ap (λ (m : Option Node). length (table_pins m)) e in omega (arith, none, h))
       go (Some (Register name init pin)) e = absurd (let none : length (table_pins (node_of n x)) ≡ 0 = ap (λ (m : Option Node). length (table_pins m)) e in omega (arith, none, h))
       go (Some (Table name cover pins)) e =
-          let wired = valid.wired x (Table name cover pins) e in
+          let wired = valid.unordered.wired x (Table name cover pins) e in
           let same : table_pins (node_of n x) ≡ pins = ap table_pins e in
           subst (λ (ps : List ℕ). slice_index ps i < net_count n) (sym same) (wired.0 i 0 (omega (arith, h, ap length same)))
 

@@ -29,12 +29,12 @@ module _ (n : Net) (parts : PlainParts) (voted : ℕ → ℕ → Bool) (t : Labe
       go : (o : Option Node) → node_of n (length n.inputs + y) ≡ o → x < net_count n
       go None e = absurd (let none : length (node_pins n y) ≡ 0 = ap (λ (m : Option Node). length (pins_at m)) e in omega (arith, none, reads.pin))
       go (Some (Table name cover pins)) e =
-          let wired = is.valid.wired (length n.inputs + y) (Table name cover pins) e in
+          let wired = is.valid.unordered.wired (length n.inputs + y) (Table name cover pins) e in
           let same : node_pins n y ≡ pins = ap pins_at e in
           let within : j < length pins = omega (arith, reads.pin, ap length same) in
           subst (λ k. k < net_count n) (sym (ap (λ (xs : List ℕ). slice_index xs j) same) ∙ reads.is) (wired.0 j 0 within)
       go (Some (Register name init pin)) e =
-          let wired = is.valid.wired (length n.inputs + y) (Register name init pin) e in
+          let wired = is.valid.unordered.wired (length n.inputs + y) (Register name init pin) e in
           let same : node_pins n y ≡ pin ∷ [] = ap pins_at e in
           let first : j ≡ 0 = omega (arith, reads.pin, ap length same) in
           subst (λ k. k < net_count n) (sym (ap (slice_index (pin ∷ [])) first) ∙ (sym (ap (λ (xs : List ℕ). slice_index xs j) same) ∙ reads.is)) wired

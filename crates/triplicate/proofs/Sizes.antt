@@ -218,7 +218,7 @@ module _ (n : Net) (parts : PlainParts) (voted : ℕ → ℕ → Bool) where
       omega (arith, blocks_pins (net_count n) (omega arith), ap (λ k. sum_by (λ y. length (node_pins n y)) (range_with_len 0 k)) e, all_pins)
 
 pub outputs_few : (n : Net) → IsValid n → length n.outputs ≤ net_count n
-outputs_few n valid = few_apart n.outputs (net_count n) valid.outputs_differ valid.outputs_in_range
+outputs_few n valid = few_apart n.outputs (net_count n) valid.unordered.outputs_differ valid.unordered.outputs_in_range
   where
     few_apart : (xs : List ℕ) (m : ℕ) → ((j k : ℕ) → j < k → k < length xs → get_or xs j 0 ≢ get_or xs k 0) → All (λ x. x < m) xs → length xs ≤ m
     few_apart xs m apart below = length-le_from_distinct_below xs m (IsDistinct-from_apart eqb xs (λ j k b jk h. ne_eqb _ _ (λ e. apart j k jk h (get_or_default xs j 0 b (omega arith) ∙ (e ∙ get_or_default xs k b 0 h))))) (λ q t. go q (Any-from_list_any (eqb q) xs t))

@@ -105,7 +105,7 @@ module _ (n : Net) (parts : PlainParts) (voted : ℕ → ℕ → Bool) (t : Labe
       go : (o : Option Node) → node_of n x ≡ o → IsWired (net_count (hardened_net n parts voted)) (node_copy n parts voted (x - length n.inputs) c (node_of n x))
       go None e = absurd (let (node, there) = slot_there (length n.inputs) n.nodes x low high in let none : None ≡ Some node = sym e ∙ there in cc)
       go (Some (Table name cover pins)) e =
-          let wired = is.valid.wired x (Table name cover pins) e in
+          let wired = is.valid.unordered.wired x (Table name cover pins) e in
           let long = length-map-range_with_len (λ j. pin_net n parts voted (x - length n.inputs) c j (slice_index pins j)) 0 (length pins) in
           rw e (
             (λ k d l.
@@ -192,7 +192,7 @@ module _ (n : Net) (parts : PlainParts) (voted : ℕ → ℕ → Bool) (t : Labe
         net = x;
         copy = p.copy;
         listed = at;
-        below = subst (λ k. k < net_count n) (get_or_from_slice_get n.outputs p.triple x 0 at) (is.valid.outputs_in_range p.triple 0 p.below);
+        below = subst (λ k. k < net_count n) (get_or_from_slice_get n.outputs p.triple x 0 at) (is.valid.unordered.outputs_in_range p.triple 0 p.below);
         place = p.is;
         value = ap (slice_get (flat_map (λ x. threefold (copy_net n parts voted x)) n.outputs)) p.is ∙ threes_at (copy_net n parts voted) n.outputs p.triple x p.copy at;
       }
@@ -210,8 +210,8 @@ module _ (n : Net) (parts : PlainParts) (voted : ℕ → ℕ → Bool) (t : Labe
       go a b same.0 same.1 (cases_lt a.output b.output) (cases_lt b.output a.output)
     where
       go : (a : OutputAt j) (b : OutputAt k) → a.net ≡ b.net → a.copy ≡ b.copy → (a.output < b.output) ⊎ (b.output ≤ a.output) → (b.output < a.output) ⊎ (a.output ≤ b.output) → ⊥
-      go a b net copy (inl l) any = is.valid.outputs_differ a.output b.output l (slice_get_within n.outputs b.output b.net b.listed) (get_or_from_slice_get n.outputs a.output a.net 0 a.listed ∙ (net ∙ sym (get_or_from_slice_get n.outputs b.output b.net 0 b.listed)))
-      go a b net copy (inr l) (inl m) = is.valid.outputs_differ b.output a.output m (slice_get_within n.outputs a.output a.net a.listed) (get_or_from_slice_get n.outputs b.output b.net 0 b.listed ∙ (sym net ∙ sym (get_or_from_slice_get n.outputs a.output a.net 0 a.listed)))
+      go a b net copy (inl l) any = is.valid.unordered.outputs_differ a.output b.output l (slice_get_within n.outputs b.output b.net b.listed) (get_or_from_slice_get n.outputs a.output a.net 0 a.listed ∙ (net ∙ sym (get_or_from_slice_get n.outputs b.output b.net 0 b.listed)))
+      go a b net copy (inr l) (inl m) = is.valid.unordered.outputs_differ b.output a.output m (slice_get_within n.outputs a.output a.net a.listed) (get_or_from_slice_get n.outputs b.output b.net 0 b.listed ∙ (sym net ∙ sym (get_or_from_slice_get n.outputs a.output a.net 0 a.listed)))
       go a b net copy (inr l) (inr m) = omega (arith, less, a.place, b.place, l, m, ap copy_number copy)
 
   -- ---- the clock
@@ -251,15 +251,17 @@ module _ (n : Net) (parts : PlainParts) (voted : ℕ → ℕ → Bool) (t : Labe
   pub is_valid : (order : List ℕ) → IsOrder (hardened_net n parts voted) order → IsValid (hardened_net n parts voted)
   unfolding hardened_net
   is_valid order ordered = record {
-    model_is_name = is.valid.model_is_name;
-    few = omega (arith, hardened_count n parts voted t is, is.few);
-    few_pins = is.few_pins;
-    few_outputs = omega (arith, is.few_outputs, length-threes (copy_net n parts voted) n.outputs);
-    names_are_names = names_are_names n parts voted t is;
-    names_differ = names_differ n parts voted t is;
-    wired = wired;
-    outputs_in_range = outputs_below;
-    outputs_differ = outputs_apart;
-    clock = clock_is n.clock is.valid.clock;
+    unordered = record {
+      model_is_name = is.valid.unordered.model_is_name;
+      few = omega (arith, hardened_count n parts voted t is, is.few);
+      few_pins = is.few_pins;
+      few_outputs = omega (arith, is.few_outputs, length-threes (copy_net n parts voted) n.outputs);
+      names_are_names = names_are_names n parts voted t is;
+      names_differ = names_differ n parts voted t is;
+      wired = wired;
+      outputs_in_range = outputs_below;
+      outputs_differ = outputs_apart;
+      clock = clock_is n.clock is.valid.unordered.clock;
+    };
     ordered = (order, ordered);
   }

@@ -184,11 +184,11 @@ pin_in_range n valid y i h = go (node_of n (length n.inputs + y)) refl
     go : (o : Option Node) → node_of n (length n.inputs + y) ≡ o → slice_index (node_pins n y) i < net_count n
     go None e = absurd (let none : length (node_pins n y) ≡ 0 = ap (λ (m : Option Node). length (pins_at m)) e in omega (arith, none, h))
     go (Some (Table name cover pins)) e =
-        let wired = valid.wired (length n.inputs + y) (Table name cover pins) e in
+        let wired = valid.unordered.wired (length n.inputs + y) (Table name cover pins) e in
         let same : node_pins n y ≡ pins = ap pins_at e in
         subst (λ (ps : List ℕ). slice_index ps i < net_count n) (sym same) (wired.0 i 0 (omega (arith, h, ap length same)))
     go (Some (Register name init pin)) e =
-        let wired = valid.wired (length n.inputs + y) (Register name init pin) e in
+        let wired = valid.unordered.wired (length n.inputs + y) (Register name init pin) e in
         let same : node_pins n y ≡ pin ∷ [] = ap pins_at e in
         let first : i ≡ 0 = omega (arith, h, ap length same) in
         subst (λ (ps : List ℕ). slice_index ps i < net_count n) (sym same) (subst (λ k. slice_index (pin ∷ []) k < net_count n) (sym first) wired)

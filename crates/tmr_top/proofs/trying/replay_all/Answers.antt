@@ -19,4 +19,4 @@ replay_wide-requires c =
 pub returns-clause-calm : goal.returns-clause-calm
 returns-clause-calm c =
     calm_outcomes c.args.n.now.net c.args.made.now.net.net c.args.made.now.cert c.args.list.now c.in_ok-outcomes.outcomes.items
-    c.input_count-inputs.ensures.design.valid.few_outputs c.pass_check.ensures c.requires.runnable c.in_ok-outcomes.ensures.outcomes
+    c.input_count-inputs.ensures.design.valid.unordered.few_outputs c.pass_check.ensures c.requires.runnable c.in_ok-outcomes.ensures.outcomes

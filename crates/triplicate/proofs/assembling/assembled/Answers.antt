@@ -1,7 +1,7 @@
 use Rattle.std.proofs.Common.{◌*◌, ℕ, List, map, sym, subst, ap, ◌∙◌}
 use Rattle.flat_net.specs.Net.{Net, Design, IsOrder}
 use Rattle.flat_net.specs.Nodes.{number_of}
-use Rattle.flat_net.proofs.PacksLaws.{net_assembled, wiring_assembled, unordered_from_valid}
+use Rattle.flat_net.proofs.PacksLaws.{net_assembled, wiring_assembled}
 use Rattle.triplicate.specs.Private.Pins.{pin_is_voted}
 use Rattle.triplicate.specs.Private.Construction.{hardened_net}
 use Rattle.triplicate.proofs.Assembly.{assembles}
@@ -9,7 +9,7 @@ use Rattle.triplicate.proofs.assembling.assembled.Goals as goal
 
 pub make-requires-clause-wiring : goal.make-requires-clause-wiring
 make-requires-clause-wiring c =
-    wiring_assembled (hardened_net c.args.n.now.net c.args.parts.now (pin_is_voted c.args.n.now.net c.args.parts.now c.args.votes.now)) _ (assembles c.args.n.now.net c.args.parts.now (pin_is_voted c.args.n.now.net c.args.parts.now c.args.votes.now) (record { model = c.in_ok-model.model; names = c.args.names; inputs = 3 * c.input_count-inputs.result; nodes = c.args.nodes; outputs = c.in_ok-outputs.outputs; clock = c.in_ok-clock.clock }) (c.in_ok-model.ensures ∙ c.model.ensures) c.requires.names (ap (λ k. 3 * k) c.input_count-inputs.ensures.count) c.requires.nodes c.in_ok-outputs.ensures c.in_ok-clock.ensures) (unordered_from_valid (hardened_net c.args.n.now.net c.args.parts.now (pin_is_voted c.args.n.now.net c.args.parts.now c.args.votes.now)) c.requires.valid)
+    wiring_assembled (hardened_net c.args.n.now.net c.args.parts.now (pin_is_voted c.args.n.now.net c.args.parts.now c.args.votes.now)) _ (assembles c.args.n.now.net c.args.parts.now (pin_is_voted c.args.n.now.net c.args.parts.now c.args.votes.now) (record { model = c.in_ok-model.model; names = c.args.names; inputs = 3 * c.input_count-inputs.result; nodes = c.args.nodes; outputs = c.in_ok-outputs.outputs; clock = c.in_ok-clock.clock }) (c.in_ok-model.ensures ∙ c.model.ensures) c.requires.names (ap (λ k. 3 * k) c.input_count-inputs.ensures.count) c.requires.nodes c.in_ok-outputs.ensures c.in_ok-clock.ensures) c.requires.valid.unordered
 
 pub make-requires-clause-order : goal.make-requires-clause-order
 make-requires-clause-order c =
