@@ -110,17 +110,15 @@ fn take_front(
     ensures number { lines.new.number ≤ lines.old.number + 1 }
 {
     match line_end(bytes) {
-        Some(end) => match take_inner(lines, &bytes[..end]) {
-            Ok(()) => match end_line(alloc, lines, progress) {
-                Ok(()) => Ok(end + 1),
-                Err(fault) => Err(fault),
-            },
-            Err(fault) => Err(fault),
-        },
-        None => match take_inner(lines, bytes) {
-            Ok(()) => Ok(bytes.len()),
-            Err(fault) => Err(fault),
-        },
+        Some(end) => {
+            take_inner(lines, &bytes[..end])?;
+            end_line(alloc, lines, progress)?;
+            Ok(end + 1)
+        }
+        None => {
+            take_inner(lines, bytes)?;
+            Ok(bytes.len())
+        }
     }
 }
 
@@ -141,10 +139,7 @@ fn take_bytes(
 {
     let mut taken = 0;
     while taken < piece.len() {
-        match take_front(alloc, lines, progress, &piece[taken..]) {
-            Ok(more) => taken += more,
-            Err(fault) => return Err(fault),
-        }
+        taken += take_front(alloc, lines, progress, &piece[taken..])?;
     }
     Ok(())
 }
