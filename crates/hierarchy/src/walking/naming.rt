@@ -135,7 +135,7 @@ pub(crate) fn name_nets(
     ensures named { OnOk result (AreNamed (get bytes_eq texts.old) (get bytes_eq texts.new) (map (resolve_name (levels_of (map plain_model models.now) walk.now)) names.now)) }
     ensures fault { IfErr result (λ fault. IsNamingFault (get bytes_eq texts.old) (map (resolve_name (levels_of (map plain_model models.now) walk.now)) names.now) fault) }
 {
-    let mut found = Vec::new(alloc);
+    let mut found = Vec::with_capacity(alloc, names.len())?;
     for name in names {
         let text = name_net(alloc, texts, models, rows, walk, name)?;
         found.push(text)?;
