@@ -168,16 +168,9 @@ fn end_text(alloc: Global, lines: &mut Lines, progress: &mut Progress) -> Result
     requires sound { IsSound progress.old }
     ensures { (given : List ℕ) → Stands lines.old progress.old given → Reads result (reading given) }
 {
-    match end_line(alloc, lines, progress) {
-        Ok(()) => match end_line(alloc, lines, progress) {
-            Ok(()) => match ended(alloc, progress) {
-                Ok(library) => Ok(library),
-                Err(fault) => Err(fault),
-            },
-            Err(fault) => Err(fault),
-        },
-        Err(fault) => Err(fault),
-    }
+    end_line(alloc, lines, progress)?;
+    end_line(alloc, lines, progress)?;
+    ended(alloc, progress)
 }
 
 /// Ends the text, unless a fault was met before.
