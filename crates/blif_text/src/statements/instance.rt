@@ -1,17 +1,15 @@
 //! The tokens after `.subckt`.
-ghost use Rattle.std.specs.Prelude.{◌≡◌, ◌++◌, ◌∷◌, [], not, true, false, IfSome, is_some, position, map};
-ghost use Rattle.tmr_base.specs.Names.{is_name};
+ghost use Rattle.std.specs.Prelude.{◌≡◌, ◌++◌, ◌∷◌, [], IfSome, is_some, position, map};
 ghost use Rattle.blif_text.specs.Private.Answers.{Answers, plain};
-ghost use Rattle.blif_text.specs.Kind.{when, is_equals, formal, actual, is_binding, binding_kind, bindings_kind, instance_kind};
+ghost use Rattle.blif_text.specs.Kind.{is_equals, formal, actual, binding_kind, bindings_kind, instance_kind};
 ghost use Rattle.blif_text.specs.Models.{binding, instance};
 ghost use Rattle.blif_text.specs.Views.{plain_element};
-ghost use Rattle.blif_text.specs.declared.fault.TextKind.TheVariants.{BadBinding};
 
 use crate::fault::{Refusal, TextKind};
 use crate::library::Element;
-use crate::statements::name_lists::read_name;
+use crate::statements::name_lists::{read_name, read_name_or};
 use std::alloc::Global;
-use tmr_base::{Name, NameFault};
+use tmr_base::Name;
 
 /// Where the first `=` stands.
 fn equals(token: &[u8]) -> Option<usize>
@@ -32,25 +30,14 @@ fn split(token: &[u8]) -> Option<(&[u8], &[u8])>
     }
 }
 
-/// A name on one side of a binding.
-fn read_side(alloc: Global, bytes: &[u8]) -> Result<Name, Refusal>
-    ensures { Answers result (when (not (is_name bytes.now)) BadBinding) (λ name. name ≡ bytes.now) }
-{
-    match Name::read(alloc, bytes) {
-        Ok(name) => Ok(name),
-        Err(NameFault::Bad) => Err(Refusal::Bad(TextKind::BadBinding)),
-        Err(NameFault::Memory) => Err(Refusal::Memory),
-    }
-}
-
 #[tactic(auto, unfolding(crate::specs::Kind::binding_kind))]
 fn read_binding(alloc: Global, token: &[u8]) -> Result<(Name, Name), Refusal>
     ensures { Answers result (binding_kind token.now) (λ b. b ≡ binding token.now) }
 {
     match split(token) {
         Some((formal, actual)) => {
-            let formal = read_side(alloc, formal)?;
-            let actual = read_side(alloc, actual)?;
+            let formal = read_name_or(alloc, formal, TextKind::BadBinding)?;
+            let actual = read_name_or(alloc, actual, TextKind::BadBinding)?;
             Ok((formal, actual))
         }
         None => Err(Refusal::Bad(TextKind::BadBinding)),

@@ -1,23 +1,31 @@
 //! Names and lists of names.
-ghost use Rattle.std.specs.Prelude.{if◌then◌else◌, ◌≡◌, ◌++◌, ◌∷◌, []};
+ghost use Rattle.tmr_base.specs.Names.{is_name};
+ghost use Rattle.std.specs.Prelude.{not, if◌then◌else◌, ◌≡◌, ◌++◌, ◌∷◌, []};
 ghost use Rattle.blif_text.specs.Models.{appearing};
 ghost use Rattle.blif_text.specs.Private.Answers.{Answers, plain};
-ghost use Rattle.blif_text.specs.Kind.{name_kind, names_kind, port_kind, ports_kind, is_among};
+ghost use Rattle.blif_text.specs.Kind.{when, name_kind, names_kind, port_kind, ports_kind, is_among};
 
 use crate::fault::{Refusal, TextKind};
 use indexmap::IndexSet;
 use std::alloc::Global;
 use tmr_base::{Name, NameFault};
 
+/// The name that the bytes are. Where they are none, they are refused with this kind.
+pub(crate) fn read_name_or(alloc: Global, bytes: &[u8], kind: TextKind) -> Result<Name, Refusal>
+    ensures { Answers result (when (not (is_name bytes.now)) kind) (λ name. name ≡ bytes.now) }
+{
+    match Name::read(alloc, bytes) {
+        Ok(name) => Ok(name),
+        Err(NameFault::Bad) => Err(Refusal::Bad(kind)),
+        Err(NameFault::Memory) => Err(Refusal::Memory),
+    }
+}
+
 #[tactic(auto, unfolding(crate::specs::Kind::name_kind))]
 pub(crate) fn read_name(alloc: Global, token: &[u8]) -> Result<Name, Refusal>
     ensures { Answers result (name_kind token.now) (λ name. name ≡ token.now) }
 {
-    match Name::read(alloc, token) {
-        Ok(name) => Ok(name),
-        Err(NameFault::Bad) => Err(Refusal::Bad(TextKind::BadName)),
-        Err(NameFault::Memory) => Err(Refusal::Memory),
-    }
+    read_name_or(alloc, token, TextKind::BadName)
 }
 
 #[tactic(auto, unfolding(crate::specs::Kind::names_kind))]
