@@ -1,5 +1,6 @@
 -- Definitions that private functions and their proofs alone cite: no public call speaks of them.
 pub mod Texts
+pub mod Names
 pub mod Room
 pub mod Rows
 pub mod Growth

@@ -7,7 +7,7 @@ use std::alloc::Global;
 use tmr_base::{Edge, Name, OutOfMemory};
 
 /// The same names once more.
-fn copy_names(alloc: Global, names: &[Name]) -> Result<Vec<Name>, OutOfMemory>
+pub(crate) fn copy_names(alloc: Global, names: &[Name]) -> Result<Vec<Name>, OutOfMemory>
     ensures { IfOk result (λ copies. copies.items ≡ names.now) }
 {
     let mut copies = Vec::with_capacity(alloc, names.len())?;

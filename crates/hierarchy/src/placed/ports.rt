@@ -2,11 +2,11 @@
 ghost use Rattle.std.specs.Prelude.{◌≡◌, ◌||◌, map, All, IfOk};
 ghost use Rattle.hierarchy.specs.Ports.{ports_of as interface};
 ghost use Rattle.blif_text.specs.Kind.{is_among};
-ghost use Rattle.blif_text.specs.Library.{Differ, IsModel};
+ghost use Rattle.blif_text.specs.Library.{IsModel};
 ghost use Rattle.blif_text.specs.Views.{plain_model};
 
+use crate::placed::names::{Names, is_among, list_of, names_of};
 use blif_text::BlifModel;
-use indexmap::IndexSet;
 use std::alloc::Global;
 use std::marker::Model;
 use tmr_base::{Name, OutOfMemory};
@@ -14,16 +14,17 @@ use tmr_base::{Name, OutOfMemory};
 /// A model's inputs and outputs.
 #[derive(Drop)]
 pub(crate) struct Ports {
-    inputs: IndexSet<Name>,
-    outputs: IndexSet<Name>,
+    inputs: Names,
+    outputs: Names,
 }
 
 impl Model for Ports {
     ghost use Rattle.hierarchy.specs.Ports.{PlainPorts};
+    ghost use Rattle.hierarchy.specs.Private.Names.{names_in};
 
     ghost Value = { PlainPorts };
 
-    ghost view = { λ p. record { inputs = p.inputs.keys; outputs = p.outputs.keys } };
+    ghost view = { λ p. record { inputs = names_in p.inputs; outputs = names_in p.outputs } };
 }
 
 impl Ports {
@@ -31,36 +32,22 @@ impl Ports {
     pub(crate) fn has(&self, name: &Name) -> bool
         ensures { result ≡ (is_among self.now.inputs name.now || is_among self.now.outputs name.now) }
     {
-        self.inputs.contains(name) || self.outputs.contains(name)
+        is_among(&self.inputs, name) || is_among(&self.outputs, name)
     }
 
     /// The name is an output.
     pub(crate) fn has_output(&self, name: &Name) -> bool
         ensures { result ≡ is_among self.now.outputs name.now }
     {
-        self.outputs.contains(name)
+        is_among(&self.outputs, name)
     }
 
     /// The inputs in their order.
     pub(crate) fn inputs(&self) -> &[Name]
         ensures { result.now ≡ self.now.inputs }
     {
-        self.inputs.as_slice()
+        list_of(&self.inputs)
     }
-}
-
-/// Names that differ, as a set.
-#[tactic(auto, using(crate::proofs::NameSets::set_laws))]
-pub(crate) fn name_set(alloc: Global, names: &[Name]) -> Result<IndexSet<Name>, OutOfMemory>
-    requires { Differ names.now }
-    ensures { IfOk result (λ set. set.keys ≡ names.now) }
-{
-    let mut set = IndexSet::with_capacity(alloc, names.len())?;
-    for name in names {
-        let copy = name.copy(alloc)?;
-        set.insert(copy)?;
-    }
-    Ok(set)
 }
 
 /// The inputs and outputs of the model.
@@ -68,8 +55,8 @@ fn ports_of(alloc: Global, model: &BlifModel) -> Result<Ports, OutOfMemory>
     requires { IsModel (plain_model model.now) }
     ensures { IfOk result (λ ports. ports ≡ interface (plain_model model.now)) }
 {
-    let inputs = name_set(alloc, &model.inputs)?;
-    let outputs = name_set(alloc, &model.outputs)?;
+    let inputs = names_of(alloc, &model.inputs)?;
+    let outputs = names_of(alloc, &model.outputs)?;
     Ok(Ports { inputs, outputs })
 }
 
