@@ -10,7 +10,6 @@ use Rattle.blif_text.specs.Library.{name_of}
 use Rattle.hierarchy.specs.Graph.{graph, names_of, number_named, main}
 use Rattle.hierarchy.specs.Found.{IsOrder}
 use Rattle.hierarchy.specs.Flat.{Level, NetTable, NetRegister, no_model, path_of, resolve, resolved_control, main_of, main_level, elements_with, elements_to, flat_elements}
-use Rattle.hierarchy.specs.Flatten.{IsSound}
 use Rattle.hierarchy.specs.Private.Walk.{model_at, no_element}
 use Rattle.hierarchy.specs.Laws.{DepthSuffices}
 use Rattle.hierarchy.proofs.GraphLaws.{number_within}

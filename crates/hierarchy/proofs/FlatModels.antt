@@ -1,5 +1,5 @@
 -- The flat model of a library, and what the design of it needs.
-use Rattle.std.proofs.Common.{◌≡◌, ◌≢◌, ◌≤◌, ◌<◌, ℕ, Bool, List, [], ◌∷◌, length, map, sym, ap, subst, ◌∙◌, arith, None, slice_index_or}
+use Rattle.std.proofs.Common.{◌≡◌, ◌≢◌, ◌≤◌, ◌<◌, ℕ, Bool, List, [], ◌∷◌, length, map, sym, ap, subst, arith, None, slice_index_or}
 use Rattle.std.specs.Prelude.{All}
 use Rattle.blif_text.specs.Models.{PlainModel}
 use Rattle.blif_text.specs.Library.{FitsPins, IsLibrary, Differ}

@@ -1,11 +1,11 @@
 -- The texts that clash are the same where the path of each net is its text.
-use Rattle.std.proofs.Common.{◌≡◌, ◌≢◌, ℕ, zero, suc, ◌+◌, ◌^◌, ◌<◌, ◌≤◌, ◌⊎◌, inl, inr, Bool, true, false, ◌&&◌, cond, not, List, [], ◌∷◌, ◌++◌, length, map, refl, sym, ap, ◌∙◌, subst, arith, append-nil, Option, Some, None}
+use Rattle.std.proofs.Common.{◌≡◌, ℕ, zero, suc, ◌+◌, ◌^◌, ◌<◌, ◌⊎◌, inl, inr, Bool, true, false, ◌&&◌, cond, not, List, [], ◌∷◌, ◌++◌, length, map, refl, sym, ap, ◌∙◌, subst, arith, Option, Some, None}
 use Rattle.std.specs.Prelude.{All, find, flat_map, slice_get, option_map, option_and_then, ◌||◌}
 use Rattle.std.specs.Option.{option_map_or}
 use Rattle.std.specs.List.{list_any}
 use Rattle.std.specs.Str.{bytes_eq}
 use Rattle.std.proofs.lemmas.List.{map-append}
-use Rattle.std.proofs.lemmas.List.Elements.{All-cons, All-nil, All-append, All-head, All-tail}
+use Rattle.std.proofs.lemmas.List.Elements.{All-cons, All-nil, All-append, All-head}
 use Rattle.std.proofs.lemmas.Bool.{false_from_ne_true}
 use Rattle.std.proofs.lemmas.Slice.Eq.{bytes_eq-Decides}
 use Rattle.tmr_base.specs.declared.ids.Edge.{Edge}

@@ -1,4 +1,4 @@
-use Rattle.std.proofs.Common.{◌≡◌, ◌<◌, ◌∙◌, ℕ, length, sym, subst, map, arith}
+use Rattle.std.proofs.Common.{◌∙◌, sym, subst, map, arith}
 use Rattle.std.proofs.lemmas.List.{length-map}
 use Rattle.blif_text.specs.Views.{plain_model}
 use Rattle.hierarchy.specs.Private.Walk.{model_at}

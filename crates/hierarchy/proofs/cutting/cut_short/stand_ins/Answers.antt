@@ -1,8 +1,7 @@
-use Rattle.std.proofs.Common.{◌≡◌, ◌<◌, ◌∙◌, ℕ, suc, ◌+◌, List, [], ◌∷◌, ◌++◌, length, get_or, refl, drop, map, sym, ap, subst, arith}
+use Rattle.std.proofs.Common.{◌≡◌, ◌<◌, ◌∙◌, suc, length, get_or, refl, drop, map, sym, ap, subst, arith}
 use Rattle.std.specs.Vec.Iter.{into_iter_items}
 use Rattle.std.proofs.lemmas.List.{length_push, get_or-map}
 use Rattle.blif_text.specs.Views.{plain_model}
-use Rattle.blif_text.specs.declared.library.BlifModel.{BlifModel}
 use Rattle.hierarchy.specs.Flat.{no_model}
 use Rattle.hierarchy.specs.Private.Walk.{model_at}
 use Rattle.hierarchy.specs.Private.Chains.{IsShort}

@@ -1,11 +1,9 @@
-use Rattle.std.proofs.Common.{◌≡◌, ◌∙◌, ◌<◌, sym, ap, map, length, get_or, subst, arith, Some}
-use Rattle.std.proofs.lemmas.List.{length-map}
-use Rattle.blif_text.specs.Views.{plain_model, plain_element}
-use Rattle.hierarchy.specs.Flat.{actual_of}
+use Rattle.std.proofs.Common.{sym, map, subst, arith, Some}
+use Rattle.blif_text.specs.Views.{plain_model}
 use Rattle.hierarchy.specs.Private.Links.{bindings_of, Binds}
-use Rattle.hierarchy.specs.Private.Walk.{bound_by, element_at, IsPlacing}
+use Rattle.hierarchy.specs.Private.Walk.{IsPlacing}
 use Rattle.hierarchy.proofs.Linked.{rows_long, row_long}
-use Rattle.hierarchy.proofs.Moved.{binds_at, at_element, at_model}
+use Rattle.hierarchy.proofs.Moved.{binds_at}
 use Rattle.hierarchy.proofs.walking.resolve.actual_in.Goals as goal
 
 pub link_at-requires-clause-row : goal.link_at-requires-clause-row
