@@ -10,7 +10,7 @@ use Rattle.aag_reader.specs.declared.fault.GraphFault.TheVariants.{Line, Doubled
 use Rattle.aag_text.specs.declared.aig.Header.{Header}
 use Rattle.aag_text.specs.Lines.{lines_of, words_of, header_of, input_of, latch_of, output_of, gate_of, is_symbol, AreOf, AreSymbols, IsFile}
 use Rattle.aag_reader.specs.BadLine.{due, is_formed, AreFormed, IsBad, IsFirstBadLine, NoLine, NoHeader, BadLine}
-use Rattle.aag_reader.specs.Sections.{Rest, HasNext, HasNoNext, IsStuck, HasSection, StopsIn, HasSymbols, StopsInSymbols, IsLineFault, HasFormed}
+use Rattle.aag_reader.specs.Private.Sections.{Rest, HasNext, HasNoNext, IsStuck, HasSection, StopsIn, HasSymbols, StopsInSymbols, IsLineFault, HasFormed}
 
 -- ---- which form is due
 

@@ -5,8 +5,8 @@ use Rattle.aag_reader.specs.declared.fault.GraphFault.TheVariants.{Line, Doubled
 use Rattle.aag_text.specs.Aig.{PlainAig}
 use Rattle.aag_text.specs.Lines.{IsFile}
 use Rattle.aag_reader.specs.Faults.{defined, read_variables, IsDefinedOnce, IsGraphFault}
-use Rattle.aag_reader.specs.Sections.{IsLineFault}
-use Rattle.aag_reader.specs.Found.{IsDoubledIn, IsUndefinedIn}
+use Rattle.aag_reader.specs.Private.Sections.{IsLineFault}
+use Rattle.aag_reader.specs.Private.Found.{IsDoubledIn, IsUndefinedIn}
 
 pub line_fault : (bytes : List ℕ) (fault : GraphFault) → IsLineFault bytes fault → IsGraphFault bytes fault
 line_fault bytes (Line number) is = is

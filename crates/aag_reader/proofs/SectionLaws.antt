@@ -3,7 +3,7 @@ use Rattle.std.proofs.Common.{◌≡◌, ℕ, ◌+◌, ◌<◌, List, [], ◌∷
 use Rattle.aag_reader.specs.declared.fault.GraphFault.{GraphFault}
 use Rattle.aag_reader.specs.declared.fault.GraphFault.TheVariants.{Line, Doubled, Undefined, Memory}
 use Rattle.aag_text.specs.Lines.{lines_of, words_of}
-use Rattle.aag_reader.specs.Sections.{Rest, HasWords, HasNoWords, HasNext, HasNoNext, IsStuck, HasSection, StopsIn}
+use Rattle.aag_reader.specs.Private.Sections.{Rest, HasWords, HasNoWords, HasNext, HasNoNext, IsStuck, HasSection, StopsIn}
 
 pub has_words : (old new : Rest) (line : List ℕ) (words : List (List ℕ)) → lines_of old.bytes ≡ line ∷ lines_of new.bytes → words ≡ words_of line → new.number ≡ old.number + 1 → HasWords old new words
 has_words old new line words lines are number = record { line = line; lines = lines; are = are; number = number }

@@ -4,7 +4,7 @@ use Rattle.aag_reader.specs.declared.fault.GraphFault.{GraphFault}
 use Rattle.aag_reader.specs.declared.fault.GraphFault.TheVariants.{Line, Doubled, Undefined, Memory}
 use Rattle.aag_text.specs.declared.aig.Header.{Header}
 use Rattle.aag_text.specs.Lines.{lines_of, words_of, is_symbol, AreSymbols}
-use Rattle.aag_reader.specs.Sections.{Rest, NextSymbol, IsNextSymbol, HasNoSymbol, ReadSymbols, HasSymbols, StopsInSymbols}
+use Rattle.aag_reader.specs.Private.Sections.{Rest, NextSymbol, IsNextSymbol, HasNoSymbol, ReadSymbols, HasSymbols, StopsInSymbols}
 
 pub symbols_start : (h : Header) (old : Rest) → ReadSymbols h old old
 symbols_start h old = record { symbols = []; lines = refl; are = tt; number = omega arith }

@@ -6,7 +6,7 @@ use Rattle.flat_net.proofs.Firsts.{none_nil, none_push, first_here}
 use Rattle.aag_reader.specs.declared.fault.GraphFault.{GraphFault}
 use Rattle.aag_reader.specs.declared.fault.GraphFault.TheVariants.{Line, Doubled, Undefined, Memory}
 use Rattle.aag_reader.specs.Faults.{is_among}
-use Rattle.aag_reader.specs.Found.{IsTwice, IsDoubledIn}
+use Rattle.aag_reader.specs.Private.Found.{IsTwice, IsDoubledIn}
 
 module _ (test : List ℕ → ℕ → Bool) (all : List ℕ) where
   pub none_starts : HasNone test (take 0 all)

@@ -1,5 +1,3 @@
-pub mod Words
-pub mod Sections
 pub mod BadLine
 pub mod Faults
-pub mod Found
+pub mod Private

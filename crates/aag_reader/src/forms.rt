@@ -1,7 +1,7 @@
 //! The forms of lines.
 ghost use Rattle.std.specs.Prelude.{◌≡◌, ◌∷◌, [], ℕ, length, Some, None, map, drop, IfOk};
 ghost use Rattle.aag_text.specs.Lines.{words_of, literal_in, variable_in, header_of, input_of, start_named, start_of, latch_of, output_of, gate_of, symbol_count, is_symbol_word, is_symbol};
-ghost use Rattle.aag_reader.specs.Words.{texts};
+ghost use Rattle.aag_reader.specs.Private.Words.{texts};
 ghost use Rattle.tmr_base.specs.Numbers.{number_of};
 
 use aag_text::{Gate, Header, Latch, Literal, Start};

@@ -4,6 +4,7 @@
 //! are defined and read, and the faults (`Faults.antt`). What a file of a graph is stands in `aag_text`.
 #![tactic(auto)]
 
+mod entry;
 mod fault;
 mod file;
 mod forms;

@@ -14,7 +14,7 @@ pub struct Lines<'a> {
 
 impl<'a> Model for Lines<'a> {
     ghost use Rattle.std.specs.Prelude.{◌+◌, ◌<◌, ◌^◌, length};
-    ghost use Rattle.aag_reader.specs.Sections.{Rest};
+    ghost use Rattle.aag_reader.specs.Private.Sections.{Rest};
 
     ghost Value = { Rest };
 

@@ -1,14 +1,15 @@
 //! Reading a file, section by section.
 ghost use Rattle.std.specs.Prelude.{◌≡◌, ◌+◌, ◌<◌, ◌^◌, length, true, OnOk, IfOk, IfErr};
 ghost use Rattle.aag_text.specs.Nets.{plain_aig};
-ghost use Rattle.aag_reader.specs.Words.{texts};
-ghost use Rattle.aag_text.specs.Lines.{header_of, input_of, latch_of, output_of, gate_of, IsFile};
-ghost use Rattle.aag_reader.specs.Sections.{HasWords, HasNoWords, HasNext, HasNoNext, HasSection, StopsIn, NextSymbol, HasNoSymbol, HasSymbols, StopsInSymbols, IsLineFault};
+ghost use Rattle.aag_reader.specs.Private.Words.{texts};
+ghost use Rattle.aag_text.specs.Lines.{header_of, IsFile};
+ghost use Rattle.aag_reader.specs.Private.Sections.{HasWords, HasNoWords, HasNext, HasNoNext, HasSection, StopsIn, NextSymbol, HasNoSymbol, HasSymbols, StopsInSymbols, IsLineFault};
 
 use crate::GraphFault;
-use crate::forms::{gate_of, header_of, input_of, is_symbol, latch_of, output_of, words_of};
+use crate::entry::Entry;
+use crate::forms::{header_of, is_symbol, words_of};
 use crate::lines::Lines;
-use aag_text::{Aig, Gate, Header, Latch, Literal};
+use aag_text::{Aig, Header};
 use std::alloc::Global;
 
 /// The words of the next line, which is due.
@@ -36,124 +37,36 @@ fn next_header(alloc: Global, lines: &mut Lines<'_>) -> Result<Header, GraphFaul
     }
 }
 
-fn next_input(alloc: Global, lines: &mut Lines<'_>, most: u32) -> Result<u32, GraphFault>
-    ensures next { IfOk result (HasNext (input_of most) lines.old lines.new) }
-    ensures none { IfErr result (HasNoNext (input_of most) lines.old) }
+/// The entry on the next line, which is due.
+fn next_entry<E: Entry>(alloc: Global, lines: &mut Lines<'_>, most: u32) -> Result<E, GraphFault>
+    ensures next { IfOk result (HasNext (E.form most) lines.old lines.new) }
+    ensures none { IfErr result (HasNoNext (E.form most) lines.old) }
 {
     let number = lines.number();
     let words = next_words(alloc, lines)?;
-    match input_of(most, &words) {
-        Some(input) => Ok(input),
+    match E::of_words(most, &words) {
+        Some(entry) => Ok(entry),
         None => Err(GraphFault::Line(number)),
     }
 }
 
+/// A section of so many entries, each on a line of its own.
 #[tactic(auto, using(crate::proofs::SectionLaws::sections))]
-fn read_inputs(
+fn read_section<E: Entry>(
     alloc: Global,
     lines: &mut Lines<'_>,
     most: u32,
     count: u32,
-) -> Result<Vec<u32>, GraphFault>
-    ensures section { IfOk result (λ inputs. HasSection (input_of most) count lines.old lines.new inputs.items) }
-    ensures stops { IfErr result (StopsIn (input_of most) count lines.old) }
+) -> Result<Vec<E>, GraphFault>
+    ensures section { IfOk result (λ entries. HasSection (E.form most) count lines.old lines.new entries.items) }
+    ensures stops { IfErr result (StopsIn (E.form most) count lines.old) }
 {
-    let mut inputs = Vec::new(alloc);
+    let mut entries = Vec::new(alloc);
     for _ in 0..count {
-        let input = next_input(alloc, lines, most)?;
-        inputs.push(input)?;
+        let entry = next_entry(alloc, lines, most)?;
+        entries.push(entry)?;
     }
-    Ok(inputs)
-}
-
-fn next_latch(alloc: Global, lines: &mut Lines<'_>, most: u32) -> Result<Latch, GraphFault>
-    ensures next { IfOk result (HasNext (latch_of most) lines.old lines.new) }
-    ensures none { IfErr result (HasNoNext (latch_of most) lines.old) }
-{
-    let number = lines.number();
-    let words = next_words(alloc, lines)?;
-    match latch_of(most, &words) {
-        Some(latch) => Ok(latch),
-        None => Err(GraphFault::Line(number)),
-    }
-}
-
-#[tactic(auto, using(crate::proofs::SectionLaws::sections))]
-fn read_latches(
-    alloc: Global,
-    lines: &mut Lines<'_>,
-    most: u32,
-    count: u32,
-) -> Result<Vec<Latch>, GraphFault>
-    ensures section { IfOk result (λ latches. HasSection (latch_of most) count lines.old lines.new latches.items) }
-    ensures stops { IfErr result (StopsIn (latch_of most) count lines.old) }
-{
-    let mut latches = Vec::new(alloc);
-    for _ in 0..count {
-        let latch = next_latch(alloc, lines, most)?;
-        latches.push(latch)?;
-    }
-    Ok(latches)
-}
-
-fn next_output(alloc: Global, lines: &mut Lines<'_>, most: u32) -> Result<Literal, GraphFault>
-    ensures next { IfOk result (HasNext (output_of most) lines.old lines.new) }
-    ensures none { IfErr result (HasNoNext (output_of most) lines.old) }
-{
-    let number = lines.number();
-    let words = next_words(alloc, lines)?;
-    match output_of(most, &words) {
-        Some(output) => Ok(output),
-        None => Err(GraphFault::Line(number)),
-    }
-}
-
-#[tactic(auto, using(crate::proofs::SectionLaws::sections))]
-fn read_outputs(
-    alloc: Global,
-    lines: &mut Lines<'_>,
-    most: u32,
-    count: u32,
-) -> Result<Vec<Literal>, GraphFault>
-    ensures section { IfOk result (λ outputs. HasSection (output_of most) count lines.old lines.new outputs.items) }
-    ensures stops { IfErr result (StopsIn (output_of most) count lines.old) }
-{
-    let mut outputs = Vec::new(alloc);
-    for _ in 0..count {
-        let output = next_output(alloc, lines, most)?;
-        outputs.push(output)?;
-    }
-    Ok(outputs)
-}
-
-fn next_gate(alloc: Global, lines: &mut Lines<'_>, most: u32) -> Result<Gate, GraphFault>
-    ensures next { IfOk result (HasNext (gate_of most) lines.old lines.new) }
-    ensures none { IfErr result (HasNoNext (gate_of most) lines.old) }
-{
-    let number = lines.number();
-    let words = next_words(alloc, lines)?;
-    match gate_of(most, &words) {
-        Some(gate) => Ok(gate),
-        None => Err(GraphFault::Line(number)),
-    }
-}
-
-#[tactic(auto, using(crate::proofs::SectionLaws::sections))]
-fn read_gates(
-    alloc: Global,
-    lines: &mut Lines<'_>,
-    most: u32,
-    count: u32,
-) -> Result<Vec<Gate>, GraphFault>
-    ensures section { IfOk result (λ gates. HasSection (gate_of most) count lines.old lines.new gates.items) }
-    ensures stops { IfErr result (StopsIn (gate_of most) count lines.old) }
-{
-    let mut gates = Vec::new(alloc);
-    for _ in 0..count {
-        let gate = next_gate(alloc, lines, most)?;
-        gates.push(gate)?;
-    }
-    Ok(gates)
+    Ok(entries)
 }
 
 /// Whether a symbol is next. Else a comment is, or the file ends.
@@ -200,10 +113,10 @@ pub fn aig_of_text(alloc: Global, bytes: &[u8]) -> Result<Aig, GraphFault>
 {
     let mut lines = Lines::new(bytes);
     let header = next_header(alloc, &mut lines)?;
-    let inputs = read_inputs(alloc, &mut lines, header.most, header.inputs)?;
-    let latches = read_latches(alloc, &mut lines, header.most, header.latches)?;
-    let outputs = read_outputs(alloc, &mut lines, header.most, header.outputs)?;
-    let gates = read_gates(alloc, &mut lines, header.most, header.gates)?;
+    let inputs = read_section(alloc, &mut lines, header.most, header.inputs)?;
+    let latches = read_section(alloc, &mut lines, header.most, header.latches)?;
+    let outputs = read_section(alloc, &mut lines, header.most, header.outputs)?;
+    let gates = read_section(alloc, &mut lines, header.most, header.gates)?;
     check_symbols(alloc, &mut lines, &header)?;
     Ok(Aig {
         inputs,

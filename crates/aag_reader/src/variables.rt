@@ -3,7 +3,7 @@ ghost use Rattle.std.specs.Prelude.{◌≡◌, ◌++◌, ◌∷◌, [], ℕ, Boo
 ghost use Rattle.std.specs.List.{flat_map};
 ghost use Rattle.flat_net.specs.First.{HasNone, IsFirst};
 ghost use Rattle.aag_reader.specs.Faults.{defined, is_among, read_variables, is_undefined, IsDefinedOnce, IsDefined};
-ghost use Rattle.aag_reader.specs.Found.{IsTwice, IsDoubledIn, IsUndefinedIn, gate_reads};
+ghost use Rattle.aag_reader.specs.Private.Found.{IsTwice, IsDoubledIn, IsUndefinedIn, gate_reads};
 ghost use Rattle.aag_text.specs.Nets.{plain_aig};
 
 use crate::GraphFault;

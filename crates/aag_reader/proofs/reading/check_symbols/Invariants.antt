@@ -1,5 +1,5 @@
 use Rattle.std.proofs.Common.{length}
-use Rattle.aag_reader.specs.Sections.{ReadSymbols}
+use Rattle.aag_reader.specs.Private.Sections.{ReadSymbols}
 use Rattle.aag_reader.proofs.reading.check_symbols.Given as goal
 
 abbrev pub invariant-loop : goal.invariant-loop

@@ -1,6 +1,6 @@
 use Rattle.std.proofs.Common.{◌≡◌, ◌++◌, drop}
 use Rattle.std.specs.List.{flat_map}
-use Rattle.aag_reader.specs.Found.{gate_reads}
+use Rattle.aag_reader.specs.Private.Found.{gate_reads}
 use Rattle.aag_reader.proofs.variables.push_reads.Given as goal
 
 abbrev pub invariant-loop-gate : goal.invariant-loop-gate

@@ -1,4 +1,4 @@
--- For private functions alone: variables that are found twice, or not at all.
+-- Variables that are found twice, or not at all.
 use Rattle.std.specs.Prelude.{◌≡◌, ℕ, nat_eq, true, not, ◌||◌, List, [], ◌∷◌}
 use Rattle.flat_net.specs.First.{IsFirst}
 use Rattle.aag_text.specs.declared.aig.Gate.{Gate}

@@ -1,4 +1,4 @@
--- For private functions alone: words as they are kept.
+-- Words as they are kept.
 use Rattle.std.specs.Prelude.{ℕ, List, map}
 use Rattle.std.specs.Borrow.{Bor}
 

@@ -1,4 +1,4 @@
--- For private functions alone: a file, read section by section.
+-- A file, read section by section.
 use Rattle.std.specs.Prelude.{◌≡◌, ℕ, ◌+◌, ◌<◌, List, [], ◌∷◌, ◌++◌, length, Bool, true, false, Option, Some, None}
 use Rattle.aag_text.specs.declared.aig.Header.{Header}
 use Rattle.aag_reader.specs.declared.fault.GraphFault.{GraphFault}
