@@ -25,7 +25,7 @@ use Rattle.aag_text.specs.Lines.{◌>>=◌, hold, word, is_line_feed, lines_from
 use Rattle.aag_text.proofs.Spelling.{line_cons}
 use Rattle.aag_reader.specs.Faults.{defined}
 use Rattle.aag_design.specs.Draft.{map_from, numbered, aig_elements}
-use Rattle.aag_design.specs.Drafting.{plain_draft, plain_marks}
+use Rattle.aag_design.specs.Private.Drafting.{plain_draft, plain_marks}
 use Rattle.aag_design.proofs.Places.{some_is, map_from_first, map_get, length-map_from, node_total, IsPlace, AtZero, AtLatch, AtGate, AtNext, AtOutput, place_of}
 use Rattle.aag_design.proofs.Nets.{element, element_get, elements_long}
 use Rattle.aag_design.proofs.Known.{IsDefinition, ByInput, ByLatch, ByGate, definition_of}

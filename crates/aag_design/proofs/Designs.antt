@@ -8,7 +8,7 @@ use Rattle.aag_text.specs.Aig.{PlainAig}
 use Rattle.aag_design.specs.Draft.{numbered, aig_draft, aig_marks}
 use Rattle.aag_text.specs.Nets.{plain_aig}
 use Rattle.aag_reader.specs.Faults.{defined, IsDefinedOnce, IsDefined}
-use Rattle.aag_design.specs.Drafting.{plain_draft, plain_marks, number_behind, IsTurnedFrom, IsGraph, IsSound, IsLoopOf}
+use Rattle.aag_design.specs.Private.Drafting.{plain_draft, plain_marks, number_behind, IsTurnedFrom, IsGraph, IsSound, IsLoopOf}
 use Rattle.aag_design.specs.Loop.{IsLoop, HasNoLoop}
 use Rattle.aag_design.specs.Same.{DoesTheSame}
 use Rattle.aag_design.proofs.Places.{length-map_from, node_total}

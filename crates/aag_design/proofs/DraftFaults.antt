@@ -16,8 +16,8 @@ use Rattle.aag_text.specs.declared.aig.Gate.{Gate}
 use Rattle.aag_text.specs.Aig.{PlainAig}
 use Rattle.aag_reader.specs.Faults.{defined, IsDefinedOnce, IsDefined}
 use Rattle.aag_design.specs.Draft.{map_from, numbered, aig_elements}
-use Rattle.aag_design.specs.Drafting.{plain_draft, plain_marks}
-use Rattle.aag_design.specs.Drafting.{number_behind, IsTurnedFrom, IsSound}
+use Rattle.aag_design.specs.Private.Drafting.{plain_draft, plain_marks}
+use Rattle.aag_design.specs.Private.Drafting.{number_behind, IsTurnedFrom, IsSound}
 use Rattle.aag_design.specs.Loop.{ReadsGate, IsLoop}
 use Rattle.aag_design.proofs.Places.{some_is, get_left, get_right, map_get, length-map_from, node_total, IsPlace, place_of}
 use Rattle.aag_design.proofs.Nets.{element, element_get, elements_long, node_name, names_are, names_long, AreApart, is_there}

@@ -17,8 +17,8 @@ use Rattle.aag_design.specs.declared.fault.AagFault.{AagFault}
 use Rattle.aag_design.specs.declared.fault.AagFault.TheVariants.{Line, Doubled, Undefined, Loop, TooLarge, Memory}
 use Rattle.aag_design.specs.declared.file.CountedDesign.{CountedDesign}
 use Rattle.aag_design.specs.Counts.{counts_of}
-use Rattle.aag_design.specs.Drafting.{plain_draft, plain_marks, number_behind, IsTurnedFrom, IsGraph, IsSound, IsLoopOf}
-use Rattle.aag_design.specs.Small.{is_small}
+use Rattle.aag_design.specs.Private.Drafting.{plain_draft, plain_marks, number_behind, IsTurnedFrom, IsGraph, IsSound, IsLoopOf}
+use Rattle.aag_design.specs.Private.Small.{is_small}
 use Rattle.aag_design.specs.Read.{design_text, IsGraphOf, IsDesignOf, IsFaultOf, IsReadCounted}
 use Rattle.aag_design.specs.Loop.{IsLoop, HasNoLoop}
 use Rattle.aag_design.specs.Same.{DoesTheSame}

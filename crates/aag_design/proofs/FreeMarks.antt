@@ -12,7 +12,7 @@ use Rattle.aag_text.specs.declared.aig.Start.{Start}
 use Rattle.aag_text.specs.declared.aig.Start.TheVariants.{Zero, One, Free}
 use Rattle.aag_text.specs.Aig.{PlainAig}
 use Rattle.aag_design.specs.Draft.{starts_with_1, starts_free, aig_elements}
-use Rattle.aag_design.specs.Drafting.{plain_draft, plain_marks}
+use Rattle.aag_design.specs.Private.Drafting.{plain_draft, plain_marks}
 use Rattle.aag_design.proofs.Places.{node_total, IsPlace, AtZero, AtLatch, AtGate, AtNext, AtOutput, place_of, entry, each_length}
 use Rattle.aag_design.proofs.Nets.{element, elements_long, node_at, input_count}
 use Rattle.aag_design.proofs.Values.{mark_at}

@@ -18,7 +18,7 @@ use Rattle.aag_text.specs.Aig.{PlainAig}
 use Rattle.aag_text.specs.Nets.{positive}
 use Rattle.aag_reader.specs.Faults.{IsDefinedOnce, IsDefined}
 use Rattle.aag_design.specs.Draft.{numbered, net_name}
-use Rattle.aag_design.specs.Drafting.{plain_draft, plain_marks}
+use Rattle.aag_design.specs.Private.Drafting.{plain_draft, plain_marks}
 use Rattle.aag_design.specs.Loop.{ReadsGate, IsLoop}
 use Rattle.aag_design.proofs.Places.{some_is, node_total, IsPlace, AtZero, AtLatch, AtGate, AtNext, AtOutput, place_of}
 use Rattle.aag_design.proofs.Nets.{element, node_at, node_name, input_at, count_is, AreApart, number_is}

@@ -23,7 +23,7 @@ use Rattle.aag_text.specs.Aig.{PlainAig}
 use Rattle.aag_text.specs.Nets.{positive}
 use Rattle.aag_reader.specs.Faults.{defined, is_among, read_variables, IsDefinedOnce, IsDefined}
 use Rattle.aag_design.specs.Draft.{numbered, placed_name, net_name}
-use Rattle.aag_design.specs.Drafting.{plain_draft, plain_marks}
+use Rattle.aag_design.specs.Private.Drafting.{plain_draft, plain_marks}
 use Rattle.aag_design.specs.Same.{net_literals}
 use Rattle.aag_design.proofs.Places.{some_is, get_left, get_right, map_get, IsPlace, AtZero, AtLatch, AtGate}
 use Rattle.aag_design.proofs.Nets.{input_name, node_name, input_literal, literal_get}

@@ -20,7 +20,7 @@ use Rattle.aag_text.specs.declared.aig.Gate.{Gate}
 use Rattle.aag_text.specs.Aig.{PlainAig}
 use Rattle.aag_text.specs.Nets.{positive}
 use Rattle.aag_design.specs.Draft.{map_from, each_node, numbered, table_of, zero_element, latch_element, gate_element, literal_element, aig_elements}
-use Rattle.aag_design.specs.Drafting.{plain_draft, plain_marks}
+use Rattle.aag_design.specs.Private.Drafting.{plain_draft, plain_marks}
 use Rattle.aag_design.specs.Same.{net_literals}
 use Rattle.aag_design.proofs.Places.{some_is, get_left, get_right, map_from_first, map_get, length-map_from, node_total, IsPlace, AtZero, AtLatch, AtGate, AtNext, AtOutput, place_of, entry, each_get, each_length}
 

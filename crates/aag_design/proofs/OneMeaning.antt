@@ -23,7 +23,7 @@ use Rattle.aag_text.specs.Same.{latch_bits}
 use Rattle.aag_text.specs.Nets.{positive}
 use Rattle.aag_reader.specs.Faults.{IsDefinedOnce, IsDefined}
 use Rattle.aag_design.specs.Draft.{numbered, net_name, starts_with_1}
-use Rattle.aag_design.specs.Drafting.{plain_draft, plain_marks}
+use Rattle.aag_design.specs.Private.Drafting.{plain_draft, plain_marks}
 use Rattle.aag_design.specs.Same.{net_literals, DoesTheSame}
 use Rattle.aag_design.proofs.Places.{map_get, node_total, IsPlace, AtZero, AtLatch, AtGate, AtNext, AtOutput, place_of}
 use Rattle.aag_design.proofs.Nets.{element, node_at, node_name, input_at, count_is, input_count, literals_long, literal_get, input_literal, node_literal, AreApart, number_is}

@@ -25,7 +25,7 @@ use Rattle.aag_text.specs.Same.{registers, registers_from, latch_bits}
 use Rattle.aag_text.specs.Nets.{positive}
 use Rattle.aag_reader.specs.Faults.{IsDefinedOnce, IsDefined}
 use Rattle.aag_design.specs.Draft.{map_from, mark_of, literals_cover, latch_element, gate_element, literal_element, net_name, starts_with_1, starts_free}
-use Rattle.aag_design.specs.Drafting.{plain_draft, plain_marks}
+use Rattle.aag_design.specs.Private.Drafting.{plain_draft, plain_marks}
 use Rattle.aag_design.specs.Same.{net_literals}
 use Rattle.aag_design.proofs.Places.{map_get, node_total, IsPlace, AtZero, AtLatch, AtGate, AtNext, AtOutput, place_of, entry, each_get}
 use Rattle.aag_design.proofs.Nets.{input_count, element, node_at, input_at, count_is, literals_long, literal_get, input_literal, node_literal, AreApart, number_is}

@@ -6,7 +6,7 @@ ghost use Rattle.aag_text.specs.declared.aig.Latch.{Latch};
 ghost use Rattle.aag_text.specs.Nets.{plain_aig};
 ghost use Rattle.aag_reader.specs.Faults.{defined};
 ghost use Rattle.aag_design.specs.Draft.{map_from, net_name, numbered, mark_of, literals_cover, table_of, zero_element, starts_with_1, latch_element, gate_element, literal_element, aig_elements, aig_draft};
-ghost use Rattle.aag_design.specs.Drafting.{IsGraph};
+ghost use Rattle.aag_design.specs.Private.Drafting.{IsGraph};
 
 use crate::names::{name_of, net_name, numbered};
 use aag_reader::Graph;

@@ -4,9 +4,9 @@ ghost use Rattle.flat_net.specs.Faults.{net_of_draft};
 ghost use Rattle.aag_text.specs.Aig.{PlainAig};
 ghost use Rattle.aag_text.specs.Nets.{plain_aig};
 ghost use Rattle.aag_design.specs.Draft.{aig_draft, aig_marks};
-ghost use Rattle.aag_design.specs.Drafting.{IsGraph, IsSound};
+ghost use Rattle.aag_design.specs.Private.Drafting.{IsGraph, IsSound};
 ghost use Rattle.aag_design.specs.Loop.{HasNoLoop};
-ghost use Rattle.aag_design.specs.Small.{is_small};
+ghost use Rattle.aag_design.specs.Private.Small.{is_small};
 ghost use Rattle.aag_design.specs.Read.{IsGraphOf, IsDesignOf, IsFaultOf, IsReadAs, IsReadCounted};
 
 use crate::AagFault;
@@ -58,7 +58,7 @@ fn marked(alloc: Global, g: &Graph, net: FlatNet) -> Result<FreeNet, OutOfMemory
 }
 
 /// Whether the flat text of a design has at most so many bytes.
-#[tactic(auto, unfolding(crate::specs::Small::is_small))]
+#[tactic(auto, unfolding(crate::specs::Private::Small::is_small))]
 fn is_within(alloc: Global, net: &FreeNet, limit: u64) -> Result<bool, OutOfMemory>
     ensures { IfOk result (λ within. within ≡ is_small net.now limit) }
 {

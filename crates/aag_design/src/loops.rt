@@ -1,9 +1,10 @@
 //! The variables of gates that are a loop.
-ghost use Rattle.std.specs.Prelude.{◌≡◌, ℕ, Some, ◌+◌, ◌<◌, ◌≤◌, map, length, slice_index, IfOk};
+ghost use Rattle.std.specs.Prelude.{◌≡◌, Some, ◌<◌, map, length, slice_index, IfOk};
 ghost use Rattle.graph.specs.Turned.{IsTurned};
-ghost use Rattle.aag_design.specs.Drafting.{number_behind, IsTurnedFrom};
+ghost use Rattle.aag_design.specs.Private.Drafting.{number_behind, IsTurnedFrom};
 
-use std::alloc::{AllocError, Global};
+use graph::keep_first;
+use std::alloc::Global;
 use tmr_base::{Name, OutOfMemory, read_u32};
 
 /// The number behind a letter.
@@ -30,29 +31,13 @@ fn numbers_of(alloc: Global, names: &[Name]) -> Result<Vec<u32>, OutOfMemory>
     Ok(numbers)
 }
 
-/// The place of the least number.
-fn least_of(numbers: &[u32]) -> usize
-    requires { 0 < length numbers.now }
-    ensures within { result < length numbers.now }
-    ensures lowest { (k : ℕ) → k < length numbers.now → slice_index numbers.now result ≤ slice_index numbers.now k }
-{
-    let mut least = 0;
-    for place in 0..numbers.len() {
-        if numbers[place] < numbers[least] {
-            least = place;
-        }
-    }
-    least
-}
-
 /// The numbers, turned so that the least stands first.
-fn turned(alloc: Global, numbers: &[u32]) -> Result<Vec<u32>, AllocError>
+fn turned(alloc: Global, numbers: &[u32]) -> Result<Vec<u32>, OutOfMemory>
     requires { 0 < length numbers.now }
     ensures { IfOk result (λ found. IsTurned numbers.now (slice_index numbers.now 0) found.items) }
 {
-    let least = least_of(numbers);
-    let mut found = numbers[least..].to_vec(alloc)?;
-    found.extend_from_slice(&numbers[0..least])?;
+    let mut found = Vec::new(alloc);
+    keep_first(&mut found, numbers, numbers[0])?;
     Ok(found)
 }
 

@@ -5,7 +5,7 @@ use Rattle.flat_net.specs.Draft.{PlainDraft, AreDistinct}
 use Rattle.flat_net.specs.Faults.{net_of_draft, IsFaultless, IsFaultOf}
 use Rattle.aag_text.specs.Nets.{plain_aig}
 use Rattle.aag_design.specs.Draft.{aig_draft}
-use Rattle.aag_design.specs.Drafting.{number_behind, IsTurnedFrom}
+use Rattle.aag_design.specs.Private.Drafting.{number_behind, IsTurnedFrom}
 use Rattle.aag_design.proofs.Designs.{inputs_apart, outputs_apart, no_gate_loop, loop_is}
 use Rattle.aag_design.proofs.design.design_of.Goals as goal
 

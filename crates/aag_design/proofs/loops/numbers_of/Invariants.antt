@@ -1,5 +1,5 @@
 use Rattle.std.proofs.Common.{◌≡◌, ◌++◌, map, drop, Some}
-use Rattle.aag_design.specs.Drafting.{number_behind}
+use Rattle.aag_design.specs.Private.Drafting.{number_behind}
 use Rattle.aag_design.proofs.loops.numbers_of.Given as goal
 
 abbrev pub invariant-loop-name : goal.invariant-loop-name

@@ -1,4 +1,4 @@
--- For private functions alone: a graph as it is drafted.
+-- A graph as it is drafted.
 use Rattle.std.specs.Prelude.{◌≡◌, ℕ, ◌+◌, ◌^◌, ◌<◌, ◌≤◌, Bool, false, codes, List, [], ◌∷◌, Option, Some, None, map, length, slice_get, slice_index}
 use Rattle.tmr_base.specs.Numbers.{number_of}
 use Rattle.flat_net.specs.Draft.{PlainDraft}

@@ -1,4 +1,4 @@
--- For private functions alone: whether the flat text of a design keeps a limit.
+-- Whether the flat text of a design keeps a limit.
 use Rattle.std.specs.Prelude.{ℕ, Bool, nat_le, length}
 use Rattle.flat_net.specs.Free.{FreeDesign}
 use Rattle.blif_writer.specs.Text.{free_text}

@@ -1,8 +1,0 @@
-use Rattle.std.proofs.Common.{ℕ, ◌<◌, ◌≤◌, get_or, length}
-use Rattle.aag_design.proofs.loops.least_of.Given as goal
-
-abbrev pub invariant-loop-place : goal.invariant-loop-place
-invariant-loop-place l = record {
-  within : l.least < length l.numbers;
-  lowest : (k : ℕ) → k < l.place → get_or l.numbers l.least 0 ≤ get_or l.numbers k 0;
-}
