@@ -24,13 +24,14 @@ fn add_names(alloc: Global, set: &mut IndexSet<Name>, names: &[Name]) -> Result<
     Ok(())
 }
 
-/// The inputs and outputs of a model.
+/// The inputs and outputs of a model, in a set without room for more.
 fn port_names(alloc: Global, model: &BlifModel) -> Result<IndexSet<Name>, OutOfMemory>
     ensures { IfOk result (λ set. (name : List ℕ) → is_among set.keys name ≡ (is_among (plain_model model.now).inputs name || is_among (plain_model model.now).outputs name)) }
 {
     let mut set = IndexSet::new(alloc);
     add_names(alloc, &mut set, &model.inputs)?;
     add_names(alloc, &mut set, &model.outputs)?;
+    set.shrink_to_fit();
     Ok(set)
 }
 
@@ -79,7 +80,7 @@ pub(crate) fn count_models(
     ensures counted { IfOk result (λ counts. AreCounted (map plain_model models.now) limit order.now counts.items) }
     ensures all { IfOk result (λ counts. length counts.items ≡ length order.now) }
 {
-    let mut counts = Vec::new(alloc);
+    let mut counts = Vec::with_capacity(alloc, order.len())?;
     for x in order {
         let formals = formals_of(alloc, models, *x)?;
         let count = count_model(
