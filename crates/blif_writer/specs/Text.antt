@@ -63,7 +63,8 @@ control_words (Some (edge, clock)) = edge_word edge ∷ clock ∷ []
 -- `.names PINS NAME` and the table's rows; `.latch D Q I` or `.latch D Q E CLOCK I`
 abbrev pub node_lines : Net → Node × Bool → List (List (List ℕ))
 node_lines n (Table name cover pins, free) = (codes ".names" ∷ (net_words n pins ++ name ∷ [])) ∷ row_lines cover
-node_lines n (Register name init pin, free) = (codes ".latch" ∷ name_of n pin ∷ name ∷ (control_words n.clock ++ init_word (start_of free init) ∷ [])) ∷ []
+node_lines n (Register name init pin, free) =
+    (codes ".latch" ∷ name_of n pin ∷ name ∷ (control_words n.clock ++ init_word (start_of free init) ∷ [])) ∷ []
 
 -- `.model NAME`, `.inputs INPUTS CLOCK`, `.outputs OUTPUTS`, the lines of each node in order, `.end`
 unfoldable pub free_lines : Net → List Bool → List (List (List ℕ))

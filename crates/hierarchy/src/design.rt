@@ -3,4 +3,3 @@
 pub(crate) mod copies;
 pub(crate) mod drafted;
 pub(crate) mod flattening;
-pub(crate) mod shrinking;

@@ -26,7 +26,8 @@ fn set_by_weight(sorted: &mut Vec<u32>, row: &[u32], weights: &[u32]) -> Result<
     Ok(())
 }
 
-/// The same rows, each in ascending order of how long the rows of its numbers are in `by`.
+/// The same rows, each put in ascending order of how long the rows of its numbers are in `by`. That is for speed alone: the clauses
+/// promise the same numbers, in some order.
 pub fn sorted_rows(
     alloc: Global,
     rows: &Readers,

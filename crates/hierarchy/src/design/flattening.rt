@@ -28,7 +28,6 @@ use crate::cutting::bare::{branching_models, filled_models};
 use crate::cutting::cut_short::cut_short;
 use crate::design::copies::copy_models;
 use crate::design::drafted::{into_draft, open_marks};
-use crate::design::shrinking::shrunk_models;
 use crate::flat_fault::FlatFault;
 use crate::lengths::count::Count;
 use crate::lengths::counting::{count_models, places_of};
@@ -412,7 +411,8 @@ fn owned_flat(alloc: Global, lib: Library, limit: u64) -> Result<FreeNet, FlatFa
     ensures nets { IfOk result (λ flat. 2 * (net_count flat.design.net + pin_total flat.design.net) ≤ limit) }
     ensures rows { IfOk result (λ flat. row_total flat.design.net ≤ limit) }
 {
-    let models = shrunk_models(alloc, lib.into_models())?;
+    let mut models = lib.into_models();
+    models.shrink_to_fit();
     taken_flat(alloc, models, limit)
 }
 
@@ -422,7 +422,7 @@ fn owned_flat(alloc: Global, lib: Library, limit: u64) -> Result<FreeNet, FlatFa
 /// Where the library has a flat design, that design is the answer. Where it has a fault, the first one is,
 /// of which a loop may be told by any list that is one. It never has both. `Memory` may come in place of
 /// either. Nets and pins of a design are together at most half of `limit`, and the rows of all covers,
-/// each of the cover's width plus 1, at most `limit`. The library is not changed.
+/// each of the cover's width plus 1, at most `limit`. The library is not changed: its models are copied first.
 pub fn flatten_free(alloc: Global, lib: &Library, limit: u64) -> Result<FreeNet, FlatFault>
     requires { limit ≤ 1073741824 }
     ensures ok { IfOk result (λ flat. IsFreeFlat lib.now limit flat.design.net flat.free) }
