@@ -263,20 +263,27 @@ fn found_nets(net: &FlatNet, names: &[Name]) -> u32 {
     found
 }
 
-fn find_text(alloc: Global, net: &FlatNet) -> Result<String, AllocError> {
+/// How many bytes the flat text has.
+fn written_length(alloc: Global, net: &FlatNet) -> Result<usize, Stop> {
+    let bytes = written(alloc, net)?;
+    Ok(bytes.len())
+}
+
+fn find_text(alloc: Global, net: &FlatNet, length: usize) -> Result<String, AllocError> {
     let names = net.net_names().as_slice();
     let found = found_nets(net, names);
     format!(in alloc;
-        "{found} of {} nets, {} pins",
+        "{found} of {} nets, {} pins, {length} bytes",
         names.len(),
         net.all_pins().len()
     )
 }
 
-/// Of how many nets the name gives their number, and how many nets and pins there are.
+/// Of how many nets the name gives their number, and how many nets, pins and bytes of flat text there are.
 fn find_answer(alloc: Global, bytes: &[u8]) -> Result<String, Stop> {
     let net = design_of(alloc, bytes)?;
-    Ok(find_text(alloc, &net)?)
+    let length = written_length(alloc, &net)?;
+    Ok(find_text(alloc, &net, length)?)
 }
 
 /// What flattening answers, or what ends it.

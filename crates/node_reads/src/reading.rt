@@ -20,7 +20,7 @@ fn ends_in(row: &[u32], k: u32) -> bool
     }
 }
 
-/// Puts k behind row x, unless it stands there.
+/// Puts k behind row x, unless it is the last number of that row.
 pub fn note(rows: &mut Readers, x: u32, k: u32) -> Result<(), OutOfMemory>
     requires { x < length rows.old }
     ensures { OnOk result (rows.new ≡ noted rows.old x k) }
