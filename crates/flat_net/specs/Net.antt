@@ -1,5 +1,5 @@
 -- A flat synchronous design: inputs, then nodes, which are tables and registers.
-use Rattle.std.specs.Prelude.{◌≡◌, ◌≢◌, ℕ, ◌+◌, ◌-◌, ◌<◌, ◌≤◌, Bool, true, false, nat_lt, List, [], ◌∷◌, ◌++◌, map, length, Option, Some, None, slice_get, slice_index, slice_index_or, position, sum_by, count_by, codes, All, Contains, if◌then◌else◌}
+use Rattle.std.specs.Prelude.{◌≡◌, ◌≢◌, ℕ, ◌+◌, ◌-◌, ◌<◌, ◌≤◌, Bool, true, false, nat_lt, List, [], ◌∷◌, ◌++◌, map, length, Option, Some, None, slice_get, slice_index, slice_index_or, position, sum_by, count_by, codes, All, Contains, IsSomeAnd, ⊤, if◌then◌else◌}
 use Rattle.std.specs.List.{flat_map}
 use Rattle.std.specs.Str.{bytes_eq}
 use Rattle.tmr_base.specs.Names.{is_name}
@@ -71,27 +71,31 @@ is_register (Register name init pin) = true
 abbrev pub register_count : Net → ℕ
 register_count n = count_by is_register n.nodes
 
+-- the cover of a table; a register and an input have none
+abbrev pub cover_at : Option Node → Option PlainCover
+cover_at None = None
+cover_at (Some (Table name cover pins)) = Some cover
+cover_at (Some (Register name init pin)) = None
+
+-- the value of a register in cycle 0; a table and an input have none
+abbrev pub init_at : Option Node → Option Bool
+init_at None = None
+init_at (Some (Table name cover pins)) = None
+init_at (Some (Register name init pin)) = Some init
+
 abbrev pub IsTable : Option Node → Type 0
-IsTable None = ⊥
-IsTable (Some (Table name cover pins)) = Unit {0}
-IsTable (Some (Register name init pin)) = ⊥
+IsTable net = IsSomeAnd (cover_at net) (λ cover. ⊤)
 
 abbrev pub IsRegister : Option Node → Type 0
-IsRegister None = ⊥
-IsRegister (Some (Table name cover pins)) = ⊥
-IsRegister (Some (Register name init pin)) = Unit {0}
+IsRegister net = IsSomeAnd (init_at net) (λ init. ⊤)
 
 -- the net is a table with this cover
 abbrev pub IsCoverOf : Option Node → PlainCover → Type 0
-IsCoverOf None k = ⊥
-IsCoverOf (Some (Table name cover pins)) k = cover ≡ k
-IsCoverOf (Some (Register name init pin)) k = ⊥
+IsCoverOf net k = IsSomeAnd (cover_at net) (λ cover. cover ≡ k)
 
 -- the net is a register with this initial value
 abbrev pub IsInitOf : Option Node → Bool → Type 0
-IsInitOf None b = ⊥
-IsInitOf (Some (Table name cover pins)) b = ⊥
-IsInitOf (Some (Register name init pin)) b = init ≡ b
+IsInitOf net b = IsSomeAnd (init_at net) (λ init. init ≡ b)
 
 -- the pins of a table
 abbrev pub table_pins : Option Node → List ℕ
