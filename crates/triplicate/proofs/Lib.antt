@@ -26,3 +26,4 @@ pub mod Assembly
 pub mod Rooms
 pub mod PartRanges
 pub mod Building
+pub mod Planned

@@ -1,5 +1,5 @@
 -- Where blocks begin, and where a partition stands in a row.
-use Rattle.std.proofs.Common.{◌≡◌, ℕ, suc, ◌+◌, ◌-◌, ◌*◌, ◌<◌, ◌≤◌, ◌⊎◌, inl, inr, List, [], ◌∷◌, ◌++◌, length, filter, Some, sym, ap, ◌∙◌, arith, Bool, true}
+use Rattle.std.proofs.Common.{◌≡◌, ℕ, suc, ◌+◌, ◌-◌, ◌*◌, ◌<◌, ◌≤◌, ◌⊎◌, refl, inl, inr, List, [], ◌∷◌, ◌++◌, length, filter, Some, sym, ap, ◌∙◌, arith, Bool, true}
 use Rattle.std.specs.Prelude.{slice_index, Contains}
 use Rattle.std.specs.List.{flat_map, range_with_len}
 use Rattle.std.proofs.lemmas.Bool.{cases_lt}
@@ -54,6 +54,11 @@ module _ (n : Net) (parts : PlainParts) (voted : ℕ → ℕ → Bool) where
   pub start_none : block_start n parts voted 0 ≡ 3 * length n.inputs
   unfolding block_start
   start_none = omega arith
+
+  -- behind all nets stands the number of all
+  pub start_all : block_start n parts voted (net_count n) ≡ 3 * length n.inputs + length (hardened_roles n parts voted)
+  unfolding block_start hardened_roles
+  start_all = refl
 
   pub start_more : (x : ℕ) → block_start n parts voted (x + 1) ≡ block_start n parts voted x + (length (copies_of n x) + 3 * length (voting_parts n parts voted x))
   unfolding block_start

@@ -3,3 +3,4 @@ pub mod Blocks
 pub mod Form
 pub mod Result
 pub mod Private
+pub mod Planned

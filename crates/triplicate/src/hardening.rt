@@ -1,7 +1,9 @@
 //! Hardening.
 ghost use Rattle.std.specs.Prelude.{◌≡◌, ◌+◌, ◌<◌, ◌≤◌, ◌⊎◌, length, IfOk};
 ghost use Rattle.flat_net.specs.Net.{net_count, pin_total};
-ghost use Rattle.triplicate.specs.Private.Pins.{pin_is_voted, AreVotesOf};
+ghost use Rattle.triplicate.specs.Planned.{votes_in, voted_in};
+ghost use Rattle.triplicate.specs.Private.Pins.{AreVotesOf};
+ghost use Rattle.triplicate.specs.Private.Starts.{AreVoterRows};
 ghost use Rattle.triplicate.specs.Private.Construction.{hardened_net, hardened_cert};
 ghost use Rattle.triplicate.specs.Private.Given.{IsGiven};
 ghost use Rattle.triplicate.specs.Private.Labels.{labeling};
@@ -11,37 +13,38 @@ ghost use Rattle.triplicate.specs.Result.{IsHardened, IsFreeHardened, IsBounded}
 use crate::assembling::{assembled, certified};
 use crate::blocks::block_starts;
 use crate::marking::hardened_marks;
+use crate::planning::{Plan, make_plan};
 use crate::tripling::make_tripled;
-use crate::voters::voting_parts;
 use crate::voting::VotedPins;
 use crate::{Hardened, HardenedFree};
 use certificate::Certificate;
-use feedback_cut::cut;
 use flat_net::{FlatNet, FreeNet, nodes_of};
-use partitioner::{plain, refine_counted};
-use recovery_depth::{Extra, bound};
 use std::alloc::Global;
-use tmr_base::{OutOfMemory, Parts};
+use tmr_base::OutOfMemory;
 
-/// The hardened design and its certificate, for these partitions, these voted pins and these labels.
+/// The hardened design and its certificate, for this plan.
 fn triplicate(
     alloc: Global,
     n: &FlatNet,
-    parts: &Parts,
-    votes: &VotedPins,
-    extra: &Extra,
+    plan: &Plan,
 ) -> Result<(FlatNet, Certificate), OutOfMemory>
-    requires votes { AreVotesOf n.now.net parts.now votes.now }
-    requires given { IsGiven n.now.net parts.now (pin_is_voted n.now.net parts.now votes.now) (labeling votes.now.inputs extra.now.table) }
-    ensures net { IfOk result (λ r. r.0.net ≡ hardened_net n.now.net parts.now (pin_is_voted n.now.net parts.now votes.now)) }
-    ensures cert { IfOk result (λ r. r.1 ≡ hardened_cert n.now.net parts.now (pin_is_voted n.now.net parts.now votes.now) (labeling votes.now.inputs extra.now.table)) }
+    requires votes { AreVotesOf n.now.net plan.now.parts (votes_in plan.now) }
+    requires voters { AreVoterRows n.now.net plan.now.parts (voted_in n.now.net plan.now) plan.now.voters }
+    requires given { IsGiven n.now.net plan.now.parts (voted_in n.now.net plan.now) (labeling plan.now.inputs plan.now.extra.table) }
+    ensures net { IfOk result (λ r. r.0.net ≡ hardened_net n.now.net plan.now.parts (voted_in n.now.net plan.now)) }
+    ensures cert { IfOk result (λ r. r.1 ≡ hardened_cert n.now.net plan.now.parts (voted_in n.now.net plan.now) (labeling plan.now.inputs plan.now.extra.table)) }
 {
     let _nodes = nodes_of(n);
-    let voters = voting_parts(alloc, n, parts, votes)?;
-    let starts = block_starts(alloc, n, parts, votes, &voters)?;
-    let made = make_tripled(alloc, n, parts, votes, &voters, &starts)?;
-    let net = assembled(alloc, n, parts, votes, &starts, made.names, made.nodes)?;
-    let cert = certified(alloc, n, parts, votes, extra, &starts, made.roles)?;
+    let parts = &plan.parts;
+    let votes = VotedPins {
+        inputs: plan.inputs,
+        cut: &plan.cut,
+        extra: &plan.extra,
+    };
+    let starts = block_starts(alloc, n, parts, &votes, &plan.voters)?;
+    let made = make_tripled(alloc, n, parts, &votes, &plan.voters, &starts)?;
+    let net = assembled(alloc, n, parts, &votes, &starts, made.names, made.nodes)?;
+    let cert = certified(alloc, n, parts, &votes, &plan.extra, &starts, made.roles)?;
     Ok((net, cert))
 }
 
@@ -59,25 +62,15 @@ fn build(
     ensures { IfOk result (λ r. IsBuilt n.now.net size inputs most r) }
 {
     let _nodes = nodes_of(n);
-    let start = plain(alloc, n, size)?;
-    let refined = refine_counted(alloc, n, &start, size, 8)?;
-    let parts = refined.parts;
-    let _count = parts.count();
-    let cut = cut(alloc, n, &parts)?;
-    let extra = bound(alloc, n, &parts, &cut, most)?;
-    let votes = VotedPins {
-        inputs,
-        cut: &cut,
-        extra: &extra,
-    };
-    let (net, cert) = triplicate(alloc, n, &parts, &votes, &extra)?;
+    let plan = make_plan(alloc, n, size, inputs, most)?;
+    let (net, cert) = triplicate(alloc, n, &plan)?;
     let voters = net.node_count() - 3 * n.node_count();
     Ok(Hardened {
         net,
         cert,
-        cost: refined.cost,
-        plain: refined.before,
-        minimal: refined.minimal,
+        cost: plan.cost,
+        plain: plan.plain,
+        minimal: plan.minimal,
         voters,
     })
 }

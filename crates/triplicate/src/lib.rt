@@ -13,9 +13,12 @@ mod marking;
 mod naming;
 mod ordering;
 mod pins;
+mod planning;
 mod tripling;
 mod voters;
 mod voting;
 
 pub use hardened::{Hardened, HardenedFree};
 pub use hardening::{harden, harden_deep, harden_free};
+pub use planning::{Plan, make_plan};
+pub use voting::VotedPins;

@@ -1,0 +1,61 @@
+-- What a hardened form is made of.
+use Rattle.std.specs.Prelude.{◌≡◌, ◌↔◌, ℕ, ◌<◌, Bool, false, IsTrue, length, count_by}
+use Rattle.flat_net.specs.Net.{Net}
+use Rattle.flat_net.specs.Free.{FreeDesign}
+use Rattle.certificate.specs.Cert.{PlainCert}
+use Rattle.certificate.specs.Starts.{counted, spread_start}
+use Rattle.recovery_depth.specs.Extra.{is_extra, AreExtra}
+use Rattle.partitioner.specs.Cost.{cost}
+use Rattle.partitioner.specs.Sizes.{plain_parts}
+use Rattle.partitioner.specs.Refining.{refined, IsMinimal}
+use Rattle.triplicate.specs.declared.hardened.HardenedFree.{HardenedFree}
+use Rattle.triplicate.specs.declared.planning.Plan.{Plan}
+use Rattle.triplicate.specs.Blocks.{hardened_roles}
+use Rattle.triplicate.specs.Result.{is_voter_role}
+use Rattle.triplicate.specs.Private.Construction.{hardened_net, hardened_cert, hardened_order}
+use Rattle.triplicate.specs.Private.Given.{IsGiven}
+use Rattle.triplicate.specs.Private.Labels.{labeling}
+use Rattle.triplicate.specs.Private.Pins.{PlainVotes, pin_is_voted, AreVotesOf}
+use Rattle.triplicate.specs.Private.Starts.{AreVoterRows}
+
+-- the pins that are voted
+abbrev pub votes_in : Plan → PlainVotes
+votes_in p = record { inputs = p.inputs; cut = p.cut; marks = p.extra.marks }
+
+-- pin j of node y is voted
+abbrev pub voted_in : Net → Plan → ℕ → ℕ → Bool
+voted_in n p = pin_is_voted n p.parts (votes_in p)
+
+-- the certificate
+abbrev pub cert_in : Net → Plan → PlainCert
+cert_in n p = hardened_cert n p.parts (voted_in n p) (labeling p.inputs p.extra.table)
+
+-- the pair that is made of a plan, and what is told of it
+abbrev pub pair_in : FreeDesign → Plan → HardenedFree
+pair_in n p = record {
+  net = record {
+    design = record { net = hardened_net n.design.net p.parts (voted_in n.design.net p); order = hardened_order n.design.net p.parts (voted_in n.design.net p) n.design.order };
+    free = spread_start (cert_in n.design.net p) (counted (cert_in n.design.net p) n.free);
+  };
+  cert = cert_in n.design.net p;
+  cost = p.cost;
+  plain = p.plain;
+  minimal = p.minimal;
+  voters = count_by is_voter_role (hardened_roles n.design.net p.parts (voted_in n.design.net p));
+}
+
+-- refined partitions of this size, a cut of the loops inside them, and the extra pins that the bound `most` wants; for each
+-- net the partitions that need a voter of it; and what is told of the partitions
+pub record IsPlan (n : Net) (size : ℕ) (inputs : Bool) (most : ℕ) (p : Plan) : Type 0 where
+  pub inputs_are : p.inputs ≡ inputs
+  pub given : IsGiven n p.parts (voted_in n p) (labeling p.inputs p.extra.table)
+  pub cut_is : given.cut ≡ p.cut
+  pub extra_is : given.extra ≡ is_extra p.extra.marks
+  pub votes : AreVotesOf n p.parts (votes_in p)
+  pub bound : AreExtra n p.parts p.cut most p.extra
+  pub none : length n.nodes < most → (y j : ℕ) → is_extra p.extra.marks y j ≡ false
+  pub exact : p.parts ≡ refined n size (plain_parts n size) 8
+  pub voters : AreVoterRows n p.parts (voted_in n p) p.voters
+  pub pairs : p.cost ≡ cost n p.parts
+  pub plain_pairs : p.plain ≡ cost n (plain_parts n size)
+  pub minimal : IsTrue p.minimal ↔ IsMinimal n size p.parts

@@ -1,0 +1,122 @@
+//! What a hardened form is made of.
+ghost use Rattle.std.specs.Prelude.{◌≡◌, ◌+◌, ◌*◌, ◌<◌, ◌≤◌, ◌^◌, All, length, IfOk, OnOk};
+ghost use Rattle.flat_net.specs.Net.{net_count, pin_total};
+ghost use Rattle.feedback_cut.specs.Inner.{node_pins};
+ghost use Rattle.triplicate.specs.Private.Pins.{pin_is_voted, AreVotesOf};
+ghost use Rattle.triplicate.specs.Blocks.{hardened_roles};
+ghost use Rattle.triplicate.specs.Planned.{IsPlan, votes_in, voted_in};
+ghost use Rattle.triplicate.specs.Private.Numbers.{HasFewNets};
+ghost use Rattle.triplicate.specs.Private.Starts.{AreVoterRows};
+
+use crate::blocks::hardened_nets;
+use crate::certifying::depths_of;
+use crate::voters::voting_parts;
+use crate::voting::{VotedPins, is_voted};
+use feedback_cut::{CutPins, cut};
+use flat_net::{FlatNet, nodes_of};
+use graph::Graph;
+use partitioner::{plain, refine_counted};
+use recovery_depth::{Extra, bound};
+use std::alloc::Global;
+use tmr_base::{OutOfMemory, Parts};
+
+/// What a hardened form is made of. All else of it follows.
+#[derive(Drop)]
+pub struct Plan {
+    /// The partition of each node.
+    pub parts: Parts,
+    /// Whether pins that read inputs are voted, which is so in version 2 alone.
+    pub inputs: bool,
+    /// The pins that are voted since they close a loop inside a partition.
+    pub cut: CutPins,
+    /// The pins that are voted so that no depth is above the bound, and all labels and depths.
+    pub extra: Extra,
+    /// For each net the partitions that need a voter of it, in ascending order.
+    pub voters: Graph,
+    /// In how many pairs of a node and another partition the node is read there.
+    pub cost: u64,
+    /// That number for the plain cut.
+    pub plain: u64,
+    /// Whether no single move of a node lowers the cost.
+    pub minimal: bool,
+}
+
+impl Plan {
+    /// The pins that are voted.
+    pub fn votes(&self) -> VotedPins<'_>
+        ensures { result ≡ votes_in self.now }
+    {
+        VotedPins {
+            inputs: self.inputs,
+            cut: &self.cut,
+            extra: &self.extra,
+        }
+    }
+
+    /// Whether pin j of node y is voted. Nodes and pins are counted from 0.
+    pub fn is_voted(&self, n: &FlatNet, y: u32, j: u32) -> bool
+        requires votes { AreVotesOf n.now.net self.now.parts (votes_in self.now) }
+        requires node { y < length n.now.net.nodes }
+        requires pin { j < length (node_pins n.now.net y) }
+        ensures { result ≡ pin_is_voted n.now.net self.now.parts (votes_in self.now) y j }
+    {
+        is_voted(n, &self.parts, &self.votes(), y, j)
+    }
+
+    /// The depth of each partition.
+    pub fn depths(&self, alloc: Global) -> Result<Vec<u32>, OutOfMemory>
+        requires { length self.now.extra.table.depths ≡ self.now.parts.count }
+        ensures depths { IfOk result (λ depths. depths.items ≡ self.now.extra.table.depths) }
+        ensures small { OnOk result (All (λ d. d < 2 ^ 32) self.now.extra.table.depths) }
+    {
+        depths_of(alloc, &self.extra, self.parts.count())
+    }
+
+    /// How many nets the hardened design has.
+    pub fn nets(&self, n: &FlatNet) -> u32
+        requires voters { AreVoterRows n.now.net self.now.parts (voted_in n.now.net self.now) self.now.voters }
+        requires few { HasFewNets n.now.net self.now.parts (voted_in n.now.net self.now) }
+        ensures { result ≡ 3 * length n.now.net.inputs + length (hardened_roles n.now.net self.now.parts (voted_in n.now.net self.now)) }
+    {
+        hardened_nets(n, &self.parts, &self.votes(), &self.voters)
+    }
+}
+
+/// What the hardened form of a design is made of, for partitions of this size. With `inputs` pins that read inputs are
+/// voted too, as version 2 has it; no depth is above `most`. The one refusal is want of memory.
+pub fn make_plan(
+    alloc: Global,
+    n: &FlatNet,
+    size: u32,
+    inputs: bool,
+    most: u32,
+) -> Result<Plan, OutOfMemory>
+    requires size { 0 < size }
+    requires most { 0 < most }
+    requires few { net_count n.now.net + pin_total n.now.net ≤ 16777216 }
+    ensures { IfOk result (λ p. IsPlan n.now.net size inputs most p) }
+{
+    let _nodes = nodes_of(n);
+    let start = plain(alloc, n, size)?;
+    let refined = refine_counted(alloc, n, &start, size, 8)?;
+    let parts = refined.parts;
+    let _count = parts.count();
+    let cut = cut(alloc, n, &parts)?;
+    let extra = bound(alloc, n, &parts, &cut, most)?;
+    let votes = VotedPins {
+        inputs,
+        cut: &cut,
+        extra: &extra,
+    };
+    let voters = voting_parts(alloc, n, &parts, &votes)?;
+    Ok(Plan {
+        parts,
+        inputs,
+        cut,
+        extra,
+        voters,
+        cost: refined.cost,
+        plain: refined.before,
+        minimal: refined.minimal,
+    })
+}
