@@ -12,3 +12,4 @@ mod text;
 mod words;
 
 pub use text::{write_flat, write_free};
+pub use words::{put_rows, put_start};

@@ -1,0 +1,9 @@
+pub mod Ranges
+pub mod CopyPuts
+pub mod VoterPuts
+pub mod BlockPuts
+pub mod CertPuts
+pub mod ReadNames
+pub mod DesignText
+pub mod CertText
+pub mod Pairs

@@ -1,0 +1,12 @@
+use Rattle.std.proofs.Common.{◌∙◌, refl}
+use Rattle.flat_net.specs.Net.{node_of}
+use Rattle.triplicate.specs.Blocks.{hardened_clock}
+use Rattle.hardened_text.specs.Private.Spelled.{pins_spelled}
+use Rattle.hardened_text.proofs.CopyPuts.{table_put}
+use Rattle.hardened_text.proofs.copies.put_table.Goals as goal
+
+pub returns : goal.returns
+returns c =
+    let n = c.args.n.now.net in
+    table_put n (hardened_clock n.clock) (pins_spelled n c.args.digits.now c.args.votes.now c.args.x.0 c.args.c) c.args.c c.args.free c.args.x.0 (node_of n c.args.x.0) c.cover.result.now c.bytes.result.now c.args.out.now.items c.extend_from_slice.new.self.items c.put_pins.new.out.items c.put_copy_name.new.out.items c.push.new.self.items c.put_rows.new.out.items refl c.cover.ensures.cover (c.bytes.ensures.bytes ∙ c.name.ensures)
+    c.in_ok-extend_from_slice.ensures.items c.in_ok-put_pins.ensures c.in_ok-put_copy_name.ensures c.in_ok-push.ensures.items c.in_ok-put_rows.ensures
