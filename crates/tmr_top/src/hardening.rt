@@ -1,13 +1,8 @@
 //! `harden ORIG HARD CERT`.
-ghost use Rattle.std.specs.Prelude.{◌≡◌, ◌≤◌, ◌+◌, length, Ok, IfOk, count_by};
-ghost use Rattle.blif_writer.specs.NetOf.{IsFreeNetOf};
-ghost use Rattle.blif_writer.specs.Text.{free_text};
-ghost use Rattle.certificate.specs.Cert.{Fits, IsCert};
+ghost use Rattle.std.specs.Prelude.{◌≡◌, ◌≤◌, ◌+◌, IfOk, count_by};
 ghost use Rattle.hardened_size.specs.Size.{KeepLimits};
-ghost use Rattle.certificate.specs.Reading.{cert_of_text};
-ghost use Rattle.certificate.specs.Text.{cert_text};
+ghost use Rattle.hardened_text.specs.Texts.{AreTexts};
 ghost use Rattle.flat_net.specs.Net.{net_count, pin_total};
-ghost use Rattle.triplicate.specs.Result.{IsBounded};
 ghost use Rattle.tmr_outside.specs.Contents.{Contents};
 ghost use Rattle.tmr_top.specs.Line.{Harden};
 ghost use Rattle.tmr_top.specs.FileWords.{hardening_in};
@@ -23,110 +18,66 @@ use crate::designs::{Unread, checked_nodes, read_design};
 use crate::form_text::{FormNumbers, hardened_lines};
 use crate::harden_words::HardenWords;
 use crate::loads::{Loaded, ORIGINAL_LIMIT};
-use crate::texts::greatest_depth;
+use crate::texts::greatest_of;
 use blif_text::{Library, TextFault};
-use blif_writer::write_free;
-use certificate::{Certificate, write_cert};
 use flat_net::FreeNet;
 use hardened_size::hardened_texts_are_short;
+use hardened_text::{HardenedTexts, harden_texts};
 use std::alloc::Global;
 use tmr_base::OutOfMemory;
-use triplicate::{HardenedFree, harden_deep};
 
 /// What is told of a hardened form of a design.
 fn form_text(
     alloc: Global,
     words: &HardenWords,
     n: &FreeNet,
-    made: &HardenedFree,
+    made: &HardenedTexts,
 ) -> Result<Vec<u8>, OutOfMemory>
-    requires { IsBounded n.now words.now.size words.now.version words.now.most made.now }
-    ensures { IfOk result (λ text. text.items ≡ hardened_lines
-        (form_numbers n.now.design.net words.now.size made.now.net.design.net made.now.cert made.now.minimal)
-        made.now.cert.version (count_by (λ bit. bit) n.now.free)) }
+    ensures { (a : AreTexts n.now words.now.size words.now.version words.now.most made.now) → IfOk result (λ text. text.items ≡ hardened_lines
+        (form_numbers n.now.design.net words.now.size a.pair.net.design.net a.pair.cert made.now.minimal)
+        a.pair.cert.version (count_by (λ bit. bit) n.now.free)) }
 {
     let numbers = FormNumbers {
         nodes: n.net().node_count(),
-        hardened_nodes: made.net.net().node_count(),
-        partitions: made.cert.parts(),
+        hardened_nodes: made.nodes,
+        partitions: made.partitions,
         cost: made.cost,
         plain: made.plain,
         minimal: made.minimal,
         voters: made.voters,
-        depth: greatest_depth(&made.cert),
+        depth: greatest_of(&made.depths),
     };
-    hardened_lines(alloc, &numbers, made.cert.version(), n.free_count())
-}
-
-/// How many partitions a certificate has, which is a consistent one.
-fn checked_parts(c: &Certificate) -> u32
-    ensures { IsCert c.now }
-{
-    c.parts()
+    hardened_lines(alloc, &numbers, words.version, n.free_count())
 }
 
 /// Both texts of a hardened form keep the limits of their files, where the flat text of its original keeps its own.
-fn texts_keep_limits(words: &HardenWords, n: &FreeNet, made: &HardenedFree)
-    requires bounded { IsBounded n.now words.now.size words.now.version words.now.most made.now }
-    requires flat { IsFlatWithin 8388608 n.now.design.net n.now.free }
-    ensures { KeepLimits n.now.design.net made.now.net.design.net made.now.cert }
+fn texts_keep_limits(words: &HardenWords, n: &FreeNet, made: &HardenedTexts)
+    requires { IsFlatWithin 8388608 n.now.design.net n.now.free }
+    ensures { (a : AreTexts n.now words.now.size words.now.version words.now.most made.now) → KeepLimits n.now.design.net a.pair.net.design.net a.pair.cert }
 {
     hardened_texts_are_short();
     let _original = checked_nodes(n);
-    let _hardened = checked_nodes(&made.net);
-    let _parts = checked_parts(&made.cert);
-}
-
-/// The text of a hardened design, which keeps its limit.
-fn design_text(alloc: Global, h: &FreeNet) -> Result<Vec<u8>, OutOfMemory>
-    requires { length (free_text h.now.design.net h.now.free) ≤ 1073741824 }
-    ensures text { IfOk result (λ text. text.items ≡ free_text h.now.design.net h.now.free) }
-    ensures short { IfOk result (λ text. length text.items ≤ 1073741824) }
-    ensures read { IfOk result (λ text. IsFreeNetOf text.items 1073741824 h.now.design.net h.now.free) }
-{
-    let text = write_free(alloc, h)?;
-    Ok(text)
-}
-
-/// The text of a certificate, which keeps its limit.
-fn certificate_text(
-    alloc: Global,
-    n: &FreeNet,
-    h: &FreeNet,
-    c: &Certificate,
-) -> Result<Vec<u8>, OutOfMemory>
-    requires fits { Fits n.now.design.net h.now.design.net c.now }
-    requires short { length (cert_text n.now.design.net h.now.design.net c.now) ≤ 1073741824 }
-    ensures text { IfOk result (λ text. text.items ≡ cert_text n.now.design.net h.now.design.net c.now) }
-    ensures short { IfOk result (λ text. length text.items ≤ 1073741824) }
-    ensures read { IfOk result (λ text. cert_of_text n.now.design.net h.now.design.net text.items ≡ Ok c.now) }
-{
-    let text = write_cert(alloc, n.net(), h.net(), c)?;
-    Ok(text)
 }
 
 /// The texts of a hardened form, and what is told of it.
-#[tactic(auto, using(crate::proofs::HardenLaws::works))]
 fn tell_form(
     alloc: Global,
     words: &HardenWords,
     n: &FreeNet,
-    made: &HardenedFree,
+    made: HardenedTexts,
 ) -> Result<Work, OutOfMemory>
-    requires bounded { IsBounded n.now words.now.size words.now.version words.now.most made.now }
+    requires made { AreTexts n.now words.now.size words.now.version words.now.most made }
     requires flat { IsFlatWithin 8388608 n.now.design.net n.now.free }
     ensures texts { IfOk result (HasTexts (Harden (hardening_in words.now))) }
     ensures work { (held : Contents)
         → HoldsDesign held (original_file words.now.original.now) n.now.design.net n.now.free
         → IfOk result (IsWork (Harden (hardening_in words.now)) held) }
 {
-    texts_keep_limits(words, n, made);
-    let design = design_text(alloc, &made.net)?;
-    let certificate = certificate_text(alloc, n, &made.net, &made.cert)?;
-    let text = form_text(alloc, words, n, made)?;
+    texts_keep_limits(words, n, &made);
+    let text = form_text(alloc, words, n, &made)?;
     let mut saves = Vec::new(alloc);
-    saves.push(design)?;
-    saves.push(certificate)?;
+    saves.push(made.design)?;
+    saves.push(made.certificate)?;
     Ok(Work {
         verdict: Verdict::Done,
         saves,
@@ -144,8 +95,8 @@ fn harden_design(alloc: Global, words: &HardenWords, n: &FreeNet) -> Result<Work
         → HoldsDesign held (original_file words.now.original.now) n.now.design.net n.now.free
         → IfOk result (IsWork (Harden (hardening_in words.now)) held) }
 {
-    let made = harden_deep(alloc, n, words.size, words.version, words.most)?;
-    tell_form(alloc, words, n, &made)
+    let made = harden_texts(alloc, n, words.size, words.version, words.most)?;
+    tell_form(alloc, words, n, made)
 }
 
 /// The work over the text that was read of the original.

@@ -53,6 +53,18 @@ pub fn greatest_depth(c: &Certificate) -> u32
     most
 }
 
+/// The greatest of these depths, or 0 where there is none.
+#[tactic(auto, using(crate::proofs::TextLaws::numbers))]
+pub fn greatest_of(depths: &[u32]) -> u32
+    ensures { result ≡ greatest depths.now }
+{
+    let mut most = 0;
+    for p in 0..depths.len() {
+        most = most.max(depths[p]);
+    }
+    most
+}
+
 /// What is said of open initial values by certificates of this version.
 pub fn open_word(version: u8) -> &'static [u8]
     ensures { result.now ≡ open_word version }
