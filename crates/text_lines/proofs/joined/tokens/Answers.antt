@@ -1,0 +1,20 @@
+use Rattle.std.proofs.Common.{ap, ◌∙◌, ◌==◌, not, length}
+use Rattle.std.specs.Slice.Iter.{split_rest, split_done, split_callee}
+use Rattle.std.proofs.lemmas.Iterator.Consumers.{map_from_collect, YieldsList-from_filter}
+use Rattle.std.proofs.lemmas.Iterator.Splits.{YieldsList-from_slice_split}
+use Rattle.std.proofs.Common.{rules, tests}
+use Rattle.text_lines.specs.Joined.{is_blank, tokens}
+use Rattle.text_lines.proofs.joined.tokens.Goals as goal
+
+pub returns : goal.returns
+unfolding tokens
+returns c =
+    map_from_collect _ c.collect.ensures.ran
+    (YieldsList-from_filter _ (λ token. not (length token == 0))
+    (YieldsList-from_slice_split _ is_blank c.args.text.now
+    (ap split_rest c.filter.ensures.source ∙ c.split.ensures.rest)
+    (ap split_done c.filter.ensures.source ∙ c.split.ensures.done)
+    (ap split_callee c.filter.ensures.source ∙ c.split.ensures.closure)
+    (λ x r q k. search (rules, tests)))
+    c.filter.ensures.closure
+    (λ x r q k. search (rules, tests)))

@@ -1,0 +1,13 @@
+use Rattle.std.proofs.Common.{◌≡◌, ◌≤◌, ◌+◌, length, take}
+use Rattle.std.specs.List.{suffix_len}
+use Rattle.text_lines.specs.Joined.{is_blank}
+use Rattle.text_lines.proofs.joined.trimmed.Given as goal
+
+abbrev pub invariant-loop-n : goal.invariant-loop-n
+invariant-loop-n l = record {
+  within : l.n ≤ length l.text;
+  trimmed : l.n + suffix_len is_blank l.text ≡ length l.text + suffix_len is_blank (take l.n l.text);
+}
+
+abbrev pub decreases-loop-n : goal.decreases-loop-n
+decreases-loop-n l = l.n
