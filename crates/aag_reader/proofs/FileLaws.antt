@@ -86,11 +86,11 @@ module _ {A : Type 0} (form : List (List ℕ) → Option A) where
   bad_here h k (line ∷ rest) lt is stuck = (is line ∙ ap is_some stuck, λ le. absurd (omega (arith, lt, le)))
 
   -- a section stops at a line that is not of its form
-  section_bad : (bytes : List ℕ) (h : Header) (i count : ℕ) (start a b : Rest) (fault : GraphFault) → start ≡ record { number = 1; bytes = bytes } → HasNext header_of start a h → HasFormed h 0 i a b → i + count ≤ due h
+  section_bad : (bytes : List ℕ) (h : Header) (i count : ℕ) (start a b : Rest) (fault : GraphFault) → start ≡ record { line = 1; bytes = bytes } → HasNext header_of start a h → HasFormed h 0 i a b → i + count ≤ due h
       → ((j : ℕ) (line : List ℕ) → i ≤ j → j < i + count → is_formed h j line ≡ is_some (form (words_of line))) → StopsIn form count b fault → IsLineFault bytes fault
   section_bad bytes h i count start a b (Line number) e head so_far within is s =
       let long = as_long s.before s.items s.are in
-      let first = ap (λ (r : Rest). r.number) e in
+      let first = ap (λ (r : Rest). r.line) e in
       BadLine h head.line (so_far.before ++ s.before) s.rest
       (ap (λ (r : Rest). lines_of r.bytes) (sym e) ∙ (head.lines ∙ ap (λ (r : List (List ℕ)). head.line ∷ r) (so_far.lines ∙ (ap (λ (r : List (List ℕ)). so_far.before ++ r) s.lines ∙ sym (append_assoc so_far.before s.before s.rest)))))
       head.is
@@ -106,7 +106,7 @@ module _ {A : Type 0} (form : List (List ℕ) → Option A) where
 
 -- ---- the sections of a file, as they are read
 
-module _ (bytes : List ℕ) (h : Header) (r0 r1 : Rest) (e : r0 ≡ record { number = 1; bytes = bytes }) (head : HasNext header_of r0 r1 h) where
+module _ (bytes : List ℕ) (h : Header) (r0 r1 : Rest) (e : r0 ≡ record { line = 1; bytes = bytes }) (head : HasNext header_of r0 r1 h) where
   nothing_formed : HasFormed h 0 0 r1 r1
   nothing_formed = record { before = []; lines = refl; are = tt; long = refl; number = omega arith }
 
@@ -140,7 +140,7 @@ module _ (bytes : List ℕ) (h : Header) (r0 r1 : Rest) (e : r0 ≡ record { num
 
           pub symbols_bad : (fault : GraphFault) → StopsInSymbols h r5 fault → IsLineFault bytes fault
           symbols_bad (Line number) s =
-              let first = ap (λ (r : Rest). r.number) e in
+              let first = ap (λ (r : Rest). r.line) e in
               let so_far = formed_gates in
               let long = length-append so_far.before s.before in
               BadLine h head.line (so_far.before ++ s.before) (s.line ∷ s.rest)
@@ -186,9 +186,9 @@ stuck_bad : (bytes : List ℕ) (number : ℕ) (lines : List (List ℕ)) → line
 stuck_bad bytes number [] is e stuck = NoLine is e
 stuck_bad bytes number (line ∷ rest) is e stuck = NoHeader line rest is stuck e
 
-pub header_bad : (bytes : List ℕ) (r0 : Rest) (fault : GraphFault) → r0 ≡ record { number = 1; bytes = bytes } → HasNoNext header_of r0 fault → IsLineFault bytes fault
+pub header_bad : (bytes : List ℕ) (r0 : Rest) (fault : GraphFault) → r0 ≡ record { line = 1; bytes = bytes } → HasNoNext header_of r0 fault → IsLineFault bytes fault
 header_bad bytes r0 (Line number) e none =
-    let first = ap (λ (r : Rest). r.number) e in
+    let first = ap (λ (r : Rest). r.line) e in
     stuck_bad bytes number (lines_of r0.bytes) (ap (λ (r : Rest). lines_of r.bytes) (sym e)) (none.0 ∙ first) none.1
 header_bad bytes r0 (Doubled v) e none = none
 header_bad bytes r0 (Undefined v) e none = none

@@ -5,7 +5,7 @@ use Rattle.aag_reader.specs.declared.fault.GraphFault.TheVariants.{Line, Doubled
 use Rattle.aag_text.specs.Lines.{lines_of, words_of}
 use Rattle.aag_reader.specs.Private.Sections.{Rest, HasWords, HasNoWords, HasNext, HasNoNext, IsStuck, HasSection, StopsIn}
 
-pub has_words : (old new : Rest) (line : List ℕ) (words : List (List ℕ)) → lines_of old.bytes ≡ line ∷ lines_of new.bytes → words ≡ words_of line → new.number ≡ old.number + 1 → HasWords old new words
+pub has_words : (old new : Rest) (line : List ℕ) (words : List (List ℕ)) → lines_of old.bytes ≡ line ∷ lines_of new.bytes → words ≡ words_of line → new.line ≡ old.line + 1 → HasWords old new words
 has_words old new line words lines are number = record { line = line; lines = lines; are = are; number = number }
 
 module _ {A : Type 0} (form : List (List ℕ) → Option A) where
@@ -17,7 +17,7 @@ module _ {A : Type 0} (form : List (List ℕ) → Option A) where
   stuck_none lines e = subst (IsStuck form) (sym e) tt
 
   -- it is not
-  pub next_is_none : (old new : Rest) (words : List (List ℕ)) → HasWords old new words → form words ≡ None → HasNoNext form old (Line old.number)
+  pub next_is_none : (old new : Rest) (words : List (List ℕ)) → HasWords old new words → form words ≡ None → HasNoNext form old (Line old.line)
   next_is_none old new words has is = (refl, subst (IsStuck form) (sym has.lines) (ap form (sym has.are) ∙ is))
 
   -- there is none

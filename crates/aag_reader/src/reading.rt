@@ -8,9 +8,10 @@ ghost use Rattle.aag_reader.specs.Private.Sections.{HasWords, HasNoWords, HasNex
 use crate::GraphFault;
 use crate::entry::Entry;
 use crate::forms::{header_of, is_symbol, words_of};
-use crate::lines::Lines;
+use crate::lines::next_line;
 use aag_text::{Aig, Header};
 use std::alloc::Global;
+use text_lines::Lines;
 
 /// The words of the next line, which is due.
 #[tactic(auto, using(crate::proofs::SectionLaws::has_words))]
@@ -19,7 +20,7 @@ fn next_words<'a>(alloc: Global, lines: &mut Lines<'a>) -> Result<Vec<&'a [u8]>,
     ensures none { IfErr result (HasNoWords lines.old) }
 {
     let number = lines.number();
-    match lines.next() {
+    match next_line(lines) {
         Some(line) => Ok(words_of(alloc, line)?),
         None => Err(GraphFault::Line(number)),
     }
@@ -76,7 +77,7 @@ fn next_symbol(alloc: Global, lines: &mut Lines<'_>, h: &Header) -> Result<bool,
     ensures shorter { IfOk result (λ more. more ≡ true → length lines.new.bytes < length lines.old.bytes) }
 {
     let number = lines.number();
-    match lines.next() {
+    match next_line(lines) {
         None => Ok(false),
         Some(line) => {
             if line == b"c".as_slice() {

@@ -3,6 +3,7 @@ use Rattle.std.specs.Prelude.{◌≡◌, ℕ, ◌+◌, ◌*◌, ◌/◌, ◌%◌
 use Rattle.std.specs.List.{slice_split}
 use Rattle.std.specs.Str.{bytes_eq}
 use Rattle.tmr_base.specs.Numbers.{number_of}
+pub use Rattle.text_lines.specs.Lines.{is_line_feed}
 use Rattle.aag_text.specs.declared.aig.Header.{Header}
 use Rattle.aag_text.specs.declared.aig.Literal.{Literal}
 use Rattle.aag_text.specs.declared.aig.Latch.{Latch}
@@ -12,9 +13,6 @@ use Rattle.aag_text.specs.declared.aig.Start.TheVariants.{Zero, One, Free}
 use Rattle.aag_text.specs.Aig.{PlainAig}
 
 -- ---- lines and words
-
-abbrev pub is_line_feed : ℕ → Bool
-is_line_feed b = b == 10
 
 abbrev pub is_blank : ℕ → Bool
 is_blank b = b == 32

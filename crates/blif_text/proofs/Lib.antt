@@ -1,4 +1,5 @@
 pub mod Pieces
+pub mod InOrder
 pub mod Steps
 pub mod Pass
 pub mod Rows
@@ -9,6 +10,5 @@ pub mod Examples
 pub mod Sound
 pub mod Told
 pub mod Tokens
-pub mod FirstByte
 pub mod Bounds
 pub mod Latches

@@ -1,7 +1,7 @@
 -- When a statement is bad, and the kind that it is refused with: the first that fits.
 --
 -- Each definition tries its kinds in the order in which they are written. A statement is judged after the list of
--- those before it, of which the latest stands first.
+-- those before it, which stand in the order of the text.
 use Rattle.std.specs.Prelude.{ℕ, ◌-◌, ◌==◌, Bool, true, false, ◌&&◌, ◌||◌, not, List, [], ◌∷◌, ◌++◌, length, Option, Some, None, option_map, option_and_then, position, is_some, codes, if◌then◌else◌}
 use Rattle.std.specs.List.{list_all, list_any, before_first, after_first}
 use Rattle.std.specs.Str.{bytes_eq}
@@ -162,12 +162,12 @@ unfoldable pub row_kind : Option Shape → List (List ℕ) → Option TextKind
 row_kind None tokens = Some RowOutside
 row_kind (Some table) tokens = marks_kind table.output (row_of table.width tokens)
 
--- What the statements before another decide. They stand the latest first.
+-- What the statements before another decide. They stand in the order of the text.
 
--- what statements of one word list, in their order
-abbrev pub lists : (Word → Bool) → List Statement → List (List ℕ)
-lists of [] = []
-lists of (s ∷ earlier) = if of s.word then lists of earlier ++ s.arguments else lists of earlier
+-- names that statements of one word list, one statement after the other
+unfoldable pub listed : (Word → Bool) → List Statement → List (List ℕ)
+listed of [] = []
+listed of (s ∷ rest) = if of s.word then s.arguments ++ listed of rest else listed of rest
 
 abbrev pub is_model : Word → Bool
 is_model Model = true
@@ -185,17 +185,22 @@ abbrev pub is_clock : Word → Bool
 is_clock Clock = true
 is_clock _ = false
 
--- the statements of the open model behind its `.model`; none is open before the first `.model` and behind an `.end`
+-- the statements of the open model, one statement later: a `.model` begins it, and an `.end` ends it
 abbrev pub in_model : Word → Statement → Option (List Statement) → Option (List Statement)
 in_model Model s body = Some []
 in_model End s body = None
-in_model _ s body = option_map (λ body. s ∷ body) body
+in_model _ s body = option_map (λ body. body ++ s ∷ []) body
 
+-- what is open behind these statements, where this was open before them
+abbrev pub open_from : Option (List Statement) → List Statement → Option (List Statement)
+open_from body [] = body
+open_from body (s ∷ rest) = open_from (in_model s.word s body) rest
+
+-- the statements of the open model behind its `.model`; none is open before the first `.model` and behind an `.end`
 unfoldable pub open_model : List Statement → Option (List Statement)
-open_model [] = None
-open_model (s ∷ earlier) = in_model s.word s (open_model earlier)
+open_model earlier = open_from None earlier
 
--- The table that the latest statement begins or has a row of: rows follow their `.names` directly.
+-- The table that may have a row next, one statement later: that of the statement itself, since rows follow their `.names` directly.
 abbrev pub shape_from : Word → List (List ℕ) → Option Shape → Option Shape
 shape_from Names tokens table = Some (record { width = length tokens - 1; output = None })
 shape_from Row tokens table = option_and_then (λ t. option_map (λ row. record { width = t.width; output = Some row.output }) (row_of t.width tokens)) table
@@ -208,9 +213,14 @@ abbrev pub table_tokens : Word → Statement → List (List ℕ)
 table_tokens Row s = tokens_of s
 table_tokens _ s = s.arguments
 
+-- the table that may have a row behind these statements, where this one might before them
+abbrev pub table_from : Option Shape → List Statement → Option Shape
+table_from table [] = table
+table_from table (s ∷ rest) = table_from (shape_from s.word (table_tokens s.word s) table) rest
+
+-- the table that may have a row next, behind these statements
 unfoldable pub table_before : List Statement → Option Shape
-table_before [] = None
-table_before (s ∷ earlier) = shape_from s.word (table_tokens s.word s) (table_before earlier)
+table_before earlier = table_from None earlier
 
 -- what of the open model decides
 pub record Here : Type 0 where
@@ -220,7 +230,7 @@ pub record Here : Type 0 where
   pub table : Option Shape
 
 abbrev pub here_of : List Statement → Here
-here_of body = record { inputs = lists is_inputs body; outputs = lists is_outputs body; clocks = lists is_clock body; table = table_before body }
+here_of body = record { inputs = listed is_inputs body; outputs = listed is_outputs body; clocks = listed is_clock body; table = table_before body }
 
 unfoldable pub here : List Statement → Option Here
 here earlier = option_map here_of (open_model earlier)
@@ -248,9 +258,9 @@ unfoldable pub kind_at : List (List ℕ) → Option Here → Statement → Optio
 kind_at models None s = kind_outside s.word models s
 kind_at models (Some h) s = kind_here s.word models h s
 
--- the kind of a statement behind these
+-- the kind of a statement behind these earlier ones
 abbrev pub kind : List Statement → Statement → Option TextKind
-kind earlier s = kind_at (lists is_model earlier) (here earlier) s
+kind earlier s = kind_at (listed is_model earlier) (here earlier) s
 
 -- a bad line
 pub record Bad : Type 0 where
@@ -264,4 +274,4 @@ bad_or line (Some kind) rest = Some (record { line = line; kind = kind })
 -- the first bad one of these statements, behind earlier ones
 unfoldable pub first_bad : List Statement → List Statement → Option Bad
 first_bad earlier [] = None
-first_bad earlier (s ∷ rest) = bad_or s.line (kind earlier s) (first_bad (s ∷ earlier) rest)
+first_bad earlier (s ∷ rest) = bad_or s.line (kind earlier s) (first_bad (earlier ++ s ∷ []) rest)

@@ -12,6 +12,7 @@ use Rattle.blif_text.specs.declared.library.Init.TheVariants.{Zero, One, Free, U
 use Rattle.table_cover.specs.Cover.{PlainCover}
 use Rattle.blif_text.specs.Text.{Statement, all_but_last}
 use Rattle.blif_text.specs.Kind.{is_among, Marks, row_of, tokens_of, formal, actual}
+unfoldable pub use Rattle.blif_text.specs.Kind.{listed}
 
 -- a table, a register or a placed model, whose bindings are pairs of a formal and an actual
 pub data PlainElement : Type 0 where
@@ -93,11 +94,6 @@ element_then _ s rest elements = elements
 unfoldable pub elements : List Statement → List PlainElement
 elements [] = []
 elements (s ∷ rest) = element_then s.word s rest (elements rest)
-
--- names that statements of one word list
-unfoldable pub listed : (Word → Bool) → List Statement → List (List ℕ)
-listed of [] = []
-listed of (s ∷ rest) = if of s.word then s.arguments ++ listed of rest else listed of rest
 
 abbrev pub is_port_in : Word → Bool
 is_port_in Inputs = true

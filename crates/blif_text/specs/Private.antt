@@ -2,6 +2,7 @@
 -- believed by these: they say how it is done.
 pub mod Answers
 pub mod Pending
+pub mod Latest
 pub mod Progress
 pub mod Sound
 pub mod Latches

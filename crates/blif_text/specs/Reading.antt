@@ -1,6 +1,6 @@
 -- What the bytes of a text give: its models, or the first bad line with its kind.
 --
--- The definition of reading is this file and those that it names: Text, Word, Kind and Models.
+-- The definition of reading is this file and those that it names: Text, Word, Kind and Models, and Joined of text_lines.
 use Rattle.std.specs.Prelude.{◌≡◌, ℕ, List, [], ◌∷◌, Option, Some, None, Result, Ok, Err}
 use Rattle.blif_text.specs.declared.fault.TextKind.TheVariants.{NoModel}
 use Rattle.blif_text.specs.declared.fault.TextFault.{TextFault}

@@ -8,7 +8,6 @@
 
 mod fault;
 mod library;
-mod lines;
 mod progress;
 mod reader;
 mod statements;

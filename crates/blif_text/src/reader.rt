@@ -7,11 +7,11 @@ mod text;
 
 use crate::fault::TextFault;
 use crate::library::Library;
-use crate::lines::Lines;
 use crate::progress::Progress;
 use crate::reader::text::{finish, take_piece};
 use std::alloc::Global;
 use std::marker::Model;
+use text_lines::PendingLine;
 use tmr_base::OutOfMemory;
 
 /// Reads a text that comes in pieces, and keeps of it the models so far and the statement in hand.
@@ -21,7 +21,7 @@ use tmr_base::OutOfMemory;
 #[derive(Drop)]
 pub struct Reader {
     alloc: Global,
-    lines: Lines,
+    lines: PendingLine,
     progress: Progress,
     refused: Option<TextFault>,
     room: u32,
@@ -45,7 +45,7 @@ impl Reader {
     {
         Ok(Reader {
             alloc,
-            lines: Lines::new(alloc),
+            lines: PendingLine::new(alloc),
             progress: Progress::new(alloc),
             refused: None,
             room: 1_073_741_824,
@@ -104,7 +104,7 @@ pub fn read_library(alloc: Global, bytes: &[u8]) -> Result<Library, TextFault>
     requires { length bytes.now ≤ most_bytes }
     ensures { Reads result (reading bytes.now) }
 {
-    let mut lines = Lines::new(alloc);
+    let mut lines = PendingLine::new(alloc);
     let mut progress = Progress::new(alloc);
     let fault = take_piece(alloc, &mut lines, &mut progress, None, bytes);
     finish(alloc, lines, progress, fault)

@@ -11,7 +11,7 @@ use Rattle.std.proofs.lemmas.List.Elements.{All-append}
 use Rattle.std.proofs.lemmas.List.Sums.{position_or_len_is, suffix_len_is}
 use Rattle.std.proofs.lemmas.List.Splits.{slice_split_none, slice_split_at}
 use Rattle.tmr_base.specs.Names.{is_name, is_name_byte}
-use Rattle.blif_text.specs.Text.{is_lf, lines, last_byte, is_hash, without_cr, content, is_blank, trimmed, joins_next, part, joined_from, tokens, Statement, statement, spoken, statement_of, statements_of, statements}
+use Rattle.blif_text.specs.Text.{is_line_feed, lines_of, last_byte, is_hash, without_cr, content, is_blank, trimmed, joins_next, part, joined_from, tokens, Statement, statement, spoken, statement_of, statements_of, statements}
 use Rattle.blif_writer.specs.Text.{lines_text}
 
 pub both_true : (a b : Bool) → a && b ≡ true → (a ≡ true) × (b ≡ true)
@@ -177,16 +177,16 @@ tokens_again w ws e names = ap (filter (λ token. not (length token == 0))) (spl
 
 -- ---- lines
 
-line_feeds : (text : List ℕ) → AreLineBytes text → All (λ b. is_lf b ≡ false) text
+line_feeds : (text : List ℕ) → AreLineBytes text → All (λ b. is_line_feed b ≡ false) text
 line_feeds text bytes = λ k d lt. let up = (bytes k d lt).0 in other (get_or text k d) 10 (omega arith)
 
-pub lines_again : (ls : List (List (List ℕ))) → AreLines ls → lines (lines_text ls) ≡ map (join_with_byte 32) ls ++ [] ∷ []
+pub lines_again : (ls : List (List (List ℕ))) → AreLines ls → lines_of (lines_text ls) ≡ map (join_with_byte 32) ls ++ [] ∷ []
 lines_again [] ok = refl
 lines_again ([] ∷ ls) ok = absurd ok.0
 lines_again ((w ∷ ws) ∷ ls) ok =
     let text : List ℕ = join_with_byte 32 (w ∷ ws) in
     let clean = clean_line w ws ok.0.0 ok.0.1 in
-    ap lines (append_assoc text (10 ∷ []) (lines_text ls)) ∙ (slice_split_at is_lf text 10 (lines_text ls) (line_feeds text clean.bytes) refl ∙ ap (λ (t : List (List ℕ)). text ∷ t) (lines_again ls ok.1))
+    ap lines_of (append_assoc text (10 ∷ []) (lines_text ls)) ∙ (slice_split_at is_line_feed text 10 (lines_text ls) (line_feeds text clean.bytes) refl ∙ ap (λ (t : List (List ℕ)). text ∷ t) (lines_again ls ok.1))
 
 -- the statements of lines of words, of which the first has this number
 abbrev pub numbered : ℕ → List (List (List ℕ)) → List Statement
@@ -215,5 +215,5 @@ statements_from number ((w ∷ ws) ∷ ls) ok =
 pub statements_again : (ls : List (List (List ℕ))) → AreLines ls → statements (lines_text ls) ≡ numbered 1 ls
 unfolding statements
 statements_again ls ok =
-    let all : lines (lines_text ls) ++ [] ∷ [] ≡ map (join_with_byte 32) ls ++ [] ∷ [] ∷ [] = ap (λ (ts : List (List ℕ)). ts ++ [] ∷ []) (lines_again ls ok) ∙ append_assoc (map (join_with_byte 32) ls) ([] ∷ []) ([] ∷ []) in
+    let all : lines_of (lines_text ls) ++ [] ∷ [] ≡ map (join_with_byte 32) ls ++ [] ∷ [] ∷ [] = ap (λ (ts : List (List ℕ)). ts ++ [] ∷ []) (lines_again ls ok) ∙ append_assoc (map (join_with_byte 32) ls) ([] ∷ []) ([] ∷ []) in
     ap (λ (ts : List (List ℕ)). statements_of (joined_from 1 ts)) all ∙ statements_from 1 ls ok

@@ -17,7 +17,9 @@ use Rattle.blif_text.specs.Word.{word_of}
 use Rattle.blif_text.specs.Text.{Statement, statement, statement_by}
 use Rattle.blif_text.specs.Library.{Differ}
 use Rattle.blif_text.specs.Views.{bit as output, marked}
-use Rattle.blif_text.specs.Kind.{name_kind, names_kind, model_kind, port_kind, ports_kind, table_kind, type_kind, init_kind, ends_kind, control_kind, latch_kind, row_of, row_kind, open_model, table_before, Shape, here_of, here, kind_here, kind_at, lists, is_model, first_bad}
+use Rattle.blif_text.specs.Kind.{name_kind, names_kind, model_kind, port_kind, ports_kind, table_kind, type_kind, init_kind, ends_kind, control_kind, latch_kind, row_of, row_kind, Shape, kind_here, kind_at, is_model, first_bad as first_bad_of_text}
+use Rattle.blif_text.specs.Private.Latest.{open_model, table_before, here_of, here, lists, first_bad}
+use Rattle.blif_text.proofs.InOrder.{bad_same}
 use Rattle.hierarchy.proofs.NameSets.{none_before}
 use Rattle.blif_text.specs.declared.library.Init.{Init}
 use Rattle.blif_text.specs.declared.library.Init.TheVariants.{Zero, One, Free, Unknown}
@@ -341,9 +343,9 @@ unfolding open_model word_of
 opens_outputs n = refl
 
 -- no statement of the text is bad
-pub text_good : (n : Net) (free : List Bool) → IsText n free → first_bad [] (numbered 1 (free_lines n free)) ≡ None
+none_bad : (n : Net) (free : List Bool) → IsText n free → first_bad [] (numbered 1 (free_lines n free)) ≡ None
 unfolding word_of
-text_good n free t =
+none_bad n free t =
     let rest : List Statement = numbered 4 (behind_ports n free) in
     let earlier : List Statement = model_statement n ∷ [] in
     let later : List Statement = inputs_statement n ∷ earlier in
@@ -351,6 +353,9 @@ text_good n free t =
     let outputs = good later (inputs_statement n ∷ []) (outputs_statement n) rest (opens_inputs n) (ports_good [] (net_words n n.outputs) t.outputs t.outputs_differ) nodes in
     let inputs = good earlier [] (inputs_statement n) (outputs_statement n ∷ rest) (opens_model n) (ports_good [] (n.inputs ++ clock_words n.clock) t.inputs t.inputs_differ) outputs in
     ap (first_bad []) (flat_numbered n free) ∙ model_good n (inputs_statement n ∷ outputs_statement n ∷ rest) t.model inputs
+
+pub text_good : (n : Net) (free : List Bool) → IsText n free → first_bad_of_text [] (numbered 1 (free_lines n free)) ≡ None
+text_good n free t = bad_same (numbered 1 (free_lines n free)) ∙ none_bad n free t
 
 -- ---- all lines are lines of names
 

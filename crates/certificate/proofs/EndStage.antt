@@ -1,6 +1,6 @@
 -- The last line, and the certificate that the lines spell.
 use Rattle.std.proofs.Common.{◌≡◌, ℕ, ◌+◌, ◌<◌, Bool, true, false, List, [], ◌∷◌, ◌++◌, length, Option, Some, None, Result, Ok, Err, refl, sym, ap, ◌∙◌, arith}
-use Rattle.std.specs.Prelude.{if◌then◌else◌, codes, ◌&&◌, ◌==◌, map}
+use Rattle.std.specs.Prelude.{if◌then◌else◌, codes, ◌==◌, map}
 use Rattle.std.specs.Str.{bytes_eq}
 use Rattle.std.specs.List.{filter_map}
 use Rattle.std.proofs.lemmas.Bool.{eqb-true}

@@ -1,17 +1,19 @@
 -- What is read is the text that the certificate is written with.
-use Rattle.std.proofs.Common.{◌≡◌, ℕ, suc, ◌+◌, Bool, true, false, cond, nat_lt, List, [], ◌∷◌, ◌++◌, length, get_or, Option, Some, None, Ok, Err, refl, sym, ap, subst, ◌∙◌, arith}
+use Rattle.std.proofs.Common.{◌≡◌, ℕ, suc, ◌+◌, Bool, true, false, cond, List, [], ◌∷◌, ◌++◌, length, get_or, Option, Some, None, Ok, Err, refl, sym, ap, subst, ◌∙◌, arith}
 use Rattle.std.proofs.Common.{append_assoc, ◌⊎◌, inl, inr}
 use Rattle.std.proofs.lemmas.Fmt.{decimal_digit}
 use Rattle.std.specs.Prelude.{◌==◌, codes}
 use Rattle.std.specs.Str.{bytes_eq}
 use Rattle.std.specs.List.{flat_map, join_with_byte, position_or_len, before_first, after_first}
 use Rattle.std.specs.Fmt.{decimal}
-use Rattle.std.proofs.lemmas.Bool.{ltb-true, eqb-true}
+use Rattle.std.proofs.lemmas.Bool.{eqb-true}
 use Rattle.std.proofs.lemmas.List.{length-append, append-nil, nil_from_length}
 use Rattle.std.proofs.lemmas.List.Concat.{flat_map-append}
 use Rattle.std.proofs.lemmas.List.Splits.{join_with_byte-slice_split}
 use Rattle.std.proofs.lemmas.List.Sums.{split_at_first, passes_at_first}
 use Rattle.std.proofs.lemmas.Slice.Eq.{bytes_eq-Decides}
+use Rattle.text_lines.specs.Lines.{has_line_feed}
+use Rattle.text_lines.proofs.NextLine.{line_feed_within}
 use Rattle.tmr_base.specs.declared.copies.CopyNo.{CopyNo}
 use Rattle.tmr_base.specs.Copies.{Three}
 use Rattle.flat_net.specs.Net.{Net}
@@ -35,8 +37,8 @@ next_is : (r : Rest) (x : List ℕ × Rest) → next_line r ≡ Ok x → r.bytes
 unfolding next_line
 next_is r x e =
     let made : List ℕ × Rest = (before_first is_line_feed r.bytes, record { line = r.line + 1; bytes = after_first is_line_feed r.bytes }) in
-    let c = chosen (nat_lt (position_or_len is_line_feed r.bytes) (length r.bytes)) made x (Line r.line) e in
-    let there = ltb-true _ _ c.0 in
+    let c = chosen (has_line_feed r.bytes) made x (Line r.line) e in
+    let there = line_feed_within r.bytes c.0 in
     let feed : get_or r.bytes (position_or_len is_line_feed r.bytes) 0 ≡ 10 = eqb-true _ _ (passes_at_first is_line_feed r.bytes 0 there) in
     let parts : r.bytes ≡ made.0 ++ (10 ∷ made.1.bytes) = split_at_first is_line_feed r.bytes 0 there ∙ ap (λ (b : ℕ). made.0 ++ (b ∷ made.1.bytes)) feed in
     subst (λ (y : List ℕ × Rest). r.bytes ≡ (y.0 ++ 10 ∷ []) ++ y.1.bytes) c.1 (parts ∙ sym (append_assoc made.0 (10 ∷ []) made.1.bytes))

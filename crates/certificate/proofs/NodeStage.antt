@@ -1,19 +1,19 @@
 -- The stage of the original nodes.
-use Rattle.std.proofs.Common.{◌≡◌, ℕ, zero, suc, ◌+◌, ◌<◌, ◌≤◌, Bool, true, false, nat_lt, List, [], ◌∷◌, ◌++◌, length, Option, Some, None, Result, Ok, Err, refl, sym, ap, subst, ◌∙◌, arith}
-use Rattle.std.specs.Prelude.{if◌then◌else◌, codes, ◌&&◌}
+use Rattle.std.proofs.Common.{◌≡◌, ℕ, zero, suc, ◌+◌, ◌<◌, ◌≤◌, Bool, true, false, List, [], ◌∷◌, ◌++◌, length, Option, Some, None, Result, Ok, Err, refl, sym, ap, subst, ◌∙◌, arith}
+use Rattle.std.specs.Prelude.{if◌then◌else◌, codes}
 use Rattle.std.proofs.lemmas.Bool.{eqb-true}
 use Rattle.std.proofs.lemmas.List.{length-append}
 use Rattle.flat_net.specs.Net.{Net}
 use Rattle.certificate.specs.declared.fault.CertFault.{CertFault}
-use Rattle.certificate.specs.declared.fault.CertFault.TheVariants.{Line, UnknownNet, Order, Range, Doubled}
+use Rattle.certificate.specs.declared.fault.CertFault.TheVariants.{Line, Doubled}
 use Rattle.certificate.specs.declared.role.Role.{Role}
 use Rattle.certificate.specs.Cert.{PlainCert}
 use Rattle.certificate.specs.Lines.{◌>>=◌, Rest, next_line}
-use Rattle.certificate.specs.Words.{word_of, number_in, node_in, is, value, is_form, are_numbers, are_nodes}
+use Rattle.certificate.specs.Words.{word_of, number_in, node_in, is, value}
 use Rattle.certificate.specs.Reading.{tests_of, parts_in, node_gives, given, all_new, NodeDue, due}
 use Rattle.certificate.specs.Folding.{repeat, NodeLine, Nodes, node_step, read_node, give_copies}
 use Rattle.certificate.proofs.Cases.{read_node_read}
-use Rattle.certificate.proofs.LineTests.{passes, first_failed, fault_at, or_else, guard, node_same, node_more, node_checks, node_said, copies_in, labels_in}
+use Rattle.certificate.proofs.LineTests.{passes, first_failed, fault_at, or_else, guard, node_same, node_checks, node_said, copies_in, labels_in}
 use Rattle.certificate.proofs.GivenRoles.{Held, Gave, gave, twice, three_gifts, copies_gave}
 use Rattle.certificate.proofs.Told.{Told, told_node, begins}
 use Rattle.certificate.proofs.Stages.{Cut, last, more, cut, answer, no_line, bad_line, good_line, node_due, repeat_err, repeat_ok, repeat_none, one_later}

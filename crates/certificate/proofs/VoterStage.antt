@@ -1,6 +1,6 @@
 -- The stage of the hardened nodes: a copy has its role, and each other one has a voter's line.
 use Rattle.std.proofs.Common.{◌≡◌, ◌≢◌, ℕ, zero, suc, ◌+◌, ◌<◌, ◌≤◌, ◌⊎◌, inl, inr, Bool, true, false, cond, nat_lt, nat_eq, List, [], ◌∷◌, ◌++◌, length, get_or, Option, Some, None, Result, Ok, Err, refl, sym, ap, subst, ◌∙◌, arith}
-use Rattle.std.specs.Prelude.{if◌then◌else◌, codes, ◌&&◌, is_some, is_none}
+use Rattle.std.specs.Prelude.{if◌then◌else◌, codes, is_some, is_none}
 use Rattle.std.specs.List.{filter, filter_map}
 use Rattle.std.specs.Option.{unwrap_or}
 use Rattle.std.proofs.lemmas.List.{length-append}
@@ -10,15 +10,15 @@ use Rattle.tmr_base.specs.declared.copies.CopyNo.TheVariants.{First}
 use Rattle.tmr_base.specs.Copies.{Three}
 use Rattle.flat_net.specs.Net.{Net}
 use Rattle.certificate.specs.declared.fault.CertFault.{CertFault}
-use Rattle.certificate.specs.declared.fault.CertFault.TheVariants.{Line, UnknownNet, Order, Range}
+use Rattle.certificate.specs.declared.fault.CertFault.TheVariants.{Line}
 use Rattle.certificate.specs.declared.role.Role.{Role}
 use Rattle.certificate.specs.declared.role.Role.TheVariants.{Copy, Voter}
 use Rattle.certificate.specs.Cert.{PlainCert}
 use Rattle.certificate.specs.Lines.{◌>>=◌, Rest, next_line}
-use Rattle.certificate.specs.Words.{word_of, number_in, net_in, node_in, node_or_none, voted_in, copy_named, is, value, is_form, are_numbers, are_nodes}
+use Rattle.certificate.specs.Words.{word_of, number_in, net_in, node_in, node_or_none, voted_in, copy_named, value}
 use Rattle.certificate.specs.Reading.{tests_of, parts_in, version_in, voter_gives, role_in, numbers, VoterDue, EndDue, voter_or_end, due}
 use Rattle.certificate.specs.Folding.{repeat, Roles, voter_step, role_step, read_voter}
-use Rattle.certificate.proofs.LineTests.{passes, first_failed, fault_at, guard, voter_same, voter_more, voter_checks, voter_said}
+use Rattle.certificate.proofs.LineTests.{passes, first_failed, fault_at, guard, voter_same, voter_checks, voter_said}
 use Rattle.certificate.proofs.GivenRoles.{gift, role_new, role_other}
 use Rattle.certificate.proofs.Told.{Told, told_voter, begins}
 use Rattle.certificate.proofs.Stages.{Cut, last, more, cut, answer, no_line, bad_line, good_line, later_due, repeat_err, repeat_ok, repeat_none, one_later}

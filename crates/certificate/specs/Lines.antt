@@ -1,6 +1,8 @@
 -- The code's own way to take a text line by line, up to the first fault: specs/Words says what lines and words are.
-use Rattle.std.specs.Prelude.{ℕ, ◌+◌, Bool, nat_lt, List, length, Option, Some, None, Result, Ok, Err, if◌then◌else◌}
-use Rattle.std.specs.List.{position_or_len, before_first, after_first}
+use Rattle.std.specs.Prelude.{ℕ, Bool, List, Option, Some, None, Result, Ok, Err, if◌then◌else◌}
+use Rattle.std.specs.List.{before_first}
+pub use Rattle.text_lines.specs.Lines.{Rest}
+use Rattle.text_lines.specs.Lines.{has_line_feed, behind_line}
 use Rattle.tmr_base.specs.Numbers.{number_of}
 pub use Rattle.certificate.specs.Words.{is_line_feed, is_blank, words_of, word, is_full, has_form}
 use Rattle.certificate.specs.declared.fault.CertFault.{CertFault}
@@ -21,17 +23,9 @@ want (Some x) fault = Ok x
 abbrev pub hold : Bool → CertFault → Result (Unit {0}) CertFault
 hold b fault = if b then Ok tt else Err fault
 
--- what is still to be read of a file, and the number of its next line
-pub record Rest : Type 0 where
-  pub line : ℕ
-  pub bytes : List ℕ
-
 -- the bytes before the next line feed, and what stands after it
 unfoldable pub next_line : Rest → Result (List ℕ × Rest) CertFault
-next_line r =
-    if nat_lt (position_or_len is_line_feed r.bytes) (length r.bytes)
-    then Ok (before_first is_line_feed r.bytes, record { line = r.line + 1; bytes = after_first is_line_feed r.bytes })
-    else Err (Line r.line)
+next_line r = if has_line_feed r.bytes then Ok (before_first is_line_feed r.bytes, behind_line r) else Err (Line r.line)
 
 -- the words of a line of this form
 unfoldable pub form_words : List ℕ → ℕ → List ℕ → ℕ → Result (List (List ℕ)) CertFault

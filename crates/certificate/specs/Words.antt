@@ -6,17 +6,12 @@ use Rattle.std.specs.Str.{bytes_eq}
 use Rattle.tmr_base.specs.declared.copies.CopyNo.{CopyNo}
 use Rattle.tmr_base.specs.declared.copies.CopyNo.TheVariants.{First, Second, Third}
 use Rattle.tmr_base.specs.Numbers.{number_of}
+-- `lines_of`: a text cut at its line feeds, which is its lines, and what follows the last line feed
+pub use Rattle.text_lines.specs.Lines.{is_line_feed, lines_of}
 use Rattle.flat_net.specs.Net.{Net, net_named}
-
-abbrev pub is_line_feed : ℕ → Bool
-is_line_feed b = b == 10
 
 abbrev pub is_blank : ℕ → Bool
 is_blank b = b == 32
-
--- a text cut at its line feeds: its lines, and what follows the last line feed
-abbrev pub lines_of : List ℕ → List (List ℕ)
-lines_of bytes = slice_split is_line_feed bytes
 
 -- a line cut at its blanks
 abbrev pub words_of : List ℕ → List (List ℕ)

@@ -8,10 +8,11 @@ ghost use Rattle.certificate.specs.Threes.{three_of, three_ids};
 ghost use Rattle.certificate.specs.Folding.{version_named, first_line, last_line, read_parts, read_part, known, voted, known_three, three_numbers, node_numbers, read_node, copy_named, voter_numbers, read_voter, parts_line};
 
 use crate::forms::form_words;
-use crate::lines::{Lines, number};
+use crate::lines::{next_line, number};
 use crate::{CertFault, Role};
 use flat_net::FlatNet;
 use std::alloc::Global;
+use text_lines::Lines;
 use tmr_base::{CopyNo, Name, NameFault, NetId, PartId};
 
 /// What a node's line says.
@@ -41,7 +42,7 @@ pub fn first_line(lines: &mut Lines<'_>) -> Result<u8, CertFault>
     ensures { Gives (λ version. (version, lines.new)) result (first_line lines.old) }
 {
     let number = lines.number();
-    let line = lines.next()?;
+    let line = next_line(lines)?;
     match version_named(line) {
         Some(version) => Ok(version),
         None => Err(CertFault::Line(number)),
@@ -54,7 +55,7 @@ pub fn last_line(lines: &mut Lines<'_>) -> Result<(), CertFault>
     ensures { Gives (λ _. lines.new) result (last_line lines.old) }
 {
     let number = lines.number();
-    let line = lines.next()?;
+    let line = next_line(lines)?;
     if line != b"end".as_slice() {
         return Err(CertFault::Line(number));
     }
@@ -182,7 +183,7 @@ pub fn parts_line(alloc: Global, lines: &mut Lines<'_>) -> Result<u32, CertFault
     ensures { Gives (λ count. (count, lines.new)) result (parts_line lines.old) }
 {
     let line = lines.number();
-    let text = lines.next()?;
+    let text = next_line(lines)?;
     read_parts(alloc, text, line)
 }
 

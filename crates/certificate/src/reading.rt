@@ -11,10 +11,11 @@ ghost use Rattle.std.specs.Prelude.{◌^◌, IfErr};
 ghost use Rattle.certificate.specs.declared.fault.CertFault.TheVariants.{Memory};
 
 use crate::line_kinds::{first_line, last_line, parts_line, read_node, read_part, read_voter};
-use crate::lines::Lines;
+use crate::lines::next_line;
 use crate::{CertDraft, CertFault, Role};
 use flat_net::FlatNet;
 use std::alloc::Global;
+use text_lines::Lines;
 use tmr_base::{CopyNo, NetId};
 
 /// What was read of the nodes' lines, and the roles that they give to hardened nodes.
@@ -91,7 +92,7 @@ fn part_step(alloc: Global, depths: &mut Vec<u32>, lines: &mut Lines<'_>) -> Res
     ensures length { OnOk result (length depths.new.items ≡ length depths.old.items + 1) }
 {
     let line = lines.number();
-    let text = lines.next()?;
+    let text = next_line(lines)?;
     let depth = read_part(alloc, depths.len() as u32, text, line)?;
     depths.push(depth)?;
     Ok(())
@@ -114,7 +115,7 @@ fn node_step(
     ensures roles { OnOk result (length nodes.new.roles.items ≡ length nodes.old.roles.items) }
 {
     let line = lines.number();
-    let text = lines.next()?;
+    let text = next_line(lines)?;
     let x = NetId(n.input_count() + nodes.part.len() as u32);
     let node = read_node(alloc, n, h, x, parts, text, line)?;
     give_copies(&mut nodes.roles, h.input_count(), x, node.copies, line)?;
@@ -193,7 +194,7 @@ fn voter_step(
         Some(role) => roles.push(role)?,
         None => {
             let line = lines.number();
-            let text = lines.next()?;
+            let text = next_line(lines)?;
             let g = NetId(inputs + roles.len() as u32);
             let role = read_voter(alloc, version, n, h, g, parts, text, line)?;
             roles.push(role)?;

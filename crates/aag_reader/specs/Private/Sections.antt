@@ -1,26 +1,22 @@
 -- A file, read section by section.
 use Rattle.std.specs.Prelude.{◌≡◌, ℕ, ◌+◌, ◌<◌, List, [], ◌∷◌, ◌++◌, length, Bool, true, false, Option, Some, None}
+pub use Rattle.text_lines.specs.Lines.{Rest}
 use Rattle.aag_text.specs.declared.aig.Header.{Header}
 use Rattle.aag_reader.specs.declared.fault.GraphFault.{GraphFault}
 use Rattle.aag_reader.specs.declared.fault.GraphFault.TheVariants.{Line, Doubled, Undefined, Memory}
 use Rattle.aag_text.specs.Lines.{lines_of, words_of, is_symbol, is_comment, AreOf, AreSymbols, IsEnd}
 use Rattle.aag_reader.specs.BadLine.{AreFormed, IsFirstBadLine}
 
--- the number of the next line, and the bytes that are left
-pub record Rest : Type 0 where
-  pub number : ℕ
-  pub bytes : List ℕ
-
 -- there is a next line, of these words
 pub record HasWords (old new : Rest) (words : List (List ℕ)) : Type 0 where
   pub line : List ℕ
   pub lines : lines_of old.bytes ≡ line ∷ lines_of new.bytes
   pub are : words ≡ words_of line
-  pub number : new.number ≡ old.number + 1
+  pub number : new.line ≡ old.line + 1
 
 -- a fault, where there is no next line
 abbrev pub HasNoWords : Rest → GraphFault → Type 0
-HasNoWords old (Line number) = (number ≡ old.number) × (lines_of old.bytes ≡ [])
+HasNoWords old (Line number) = (number ≡ old.line) × (lines_of old.bytes ≡ [])
 HasNoWords old (Doubled v) = ⊥
 HasNoWords old (Undefined v) = ⊥
 HasNoWords old Memory = Unit {0}
@@ -30,7 +26,7 @@ pub record HasNext {A : Type 0} (form : List (List ℕ) → Option A) (old new :
   pub line : List ℕ
   pub lines : lines_of old.bytes ≡ line ∷ lines_of new.bytes
   pub is : form (words_of line) ≡ Some item
-  pub number : new.number ≡ old.number + 1
+  pub number : new.line ≡ old.line + 1
 
 -- there is no line, or the first is not of this form
 abbrev pub IsStuck : {A : Type 0} → (List (List ℕ) → Option A) → List (List ℕ) → Type 0
@@ -39,7 +35,7 @@ IsStuck form (line ∷ lines) = form (words_of line) ≡ None
 
 -- a fault in the next line
 abbrev pub HasNoNext : {A : Type 0} → (List (List ℕ) → Option A) → Rest → GraphFault → Type 0
-HasNoNext form old (Line number) = (number ≡ old.number) × IsStuck form (lines_of old.bytes)
+HasNoNext form old (Line number) = (number ≡ old.line) × IsStuck form (lines_of old.bytes)
 HasNoNext form old (Doubled v) = ⊥
 HasNoNext form old (Undefined v) = ⊥
 HasNoNext form old Memory = Unit {0}
@@ -50,7 +46,7 @@ pub record HasSection {A : Type 0} (form : List (List ℕ) → Option A) (count 
   pub lines : lines_of old.bytes ≡ section ++ lines_of new.bytes
   pub are : AreOf form section items
   pub long : length items ≡ count
-  pub number : new.number ≡ old.number + count
+  pub number : new.line ≡ old.line + count
 
 -- among so many lines of this form, this one is the first that is not, or is missing
 pub record StopsAt {A : Type 0} (form : List (List ℕ) → Option A) (count : ℕ) (old : Rest) (number : ℕ) : Type 0 where
@@ -61,7 +57,7 @@ pub record StopsAt {A : Type 0} (form : List (List ℕ) → Option A) (count : �
   pub are : AreOf form before items
   pub short : length items < count
   pub stuck : IsStuck form rest
-  pub is : number ≡ old.number + length items
+  pub is : number ≡ old.line + length items
 
 abbrev pub StopsIn : {A : Type 0} → (List (List ℕ) → Option A) → ℕ → Rest → GraphFault → Type 0
 StopsIn form count old (Line number) = StopsAt form count old number
@@ -74,7 +70,7 @@ pub record IsNextSymbol (h : Header) (old new : Rest) : Type 0 where
   pub line : List ℕ
   pub lines : lines_of old.bytes ≡ line ∷ lines_of new.bytes
   pub is : is_symbol h (words_of line) ≡ true
-  pub number : new.number ≡ old.number + 1
+  pub number : new.line ≡ old.line + 1
 
 abbrev pub NextSymbol : Header → Rest → Rest → Bool → Type 0
 NextSymbol h old new true = IsNextSymbol h old new
@@ -87,7 +83,7 @@ pub record IsNoSymbol (h : Header) (old : Rest) (number : ℕ) : Type 0 where
   pub lines : lines_of old.bytes ≡ line ∷ rest
   pub no_symbol : is_symbol h (words_of line) ≡ false
   pub no_comment : is_comment line ≡ false
-  pub is : number ≡ old.number
+  pub is : number ≡ old.line
 
 abbrev pub HasNoSymbol : Header → Rest → GraphFault → Type 0
 HasNoSymbol h old (Line number) = IsNoSymbol h old number
@@ -100,7 +96,7 @@ pub record ReadSymbols (h : Header) (old new : Rest) : Type 0 where
   pub symbols : List (List ℕ)
   pub lines : lines_of old.bytes ≡ symbols ++ lines_of new.bytes
   pub are : AreSymbols h symbols
-  pub number : new.number ≡ old.number + length symbols
+  pub number : new.line ≡ old.line + length symbols
 
 -- symbols up to a comment or the end
 pub record HasSymbols (h : Header) (old : Rest) : Type 0 where
@@ -119,7 +115,7 @@ pub record StopsAtSymbol (h : Header) (old : Rest) (number : ℕ) : Type 0 where
   pub are : AreSymbols h before
   pub no_symbol : is_symbol h (words_of line) ≡ false
   pub no_comment : is_comment line ≡ false
-  pub is : number ≡ old.number + length before
+  pub is : number ≡ old.line + length before
 
 abbrev pub StopsInSymbols : Header → Rest → GraphFault → Type 0
 StopsInSymbols h old (Line number) = StopsAtSymbol h old number
@@ -140,4 +136,4 @@ pub record HasFormed (h : Header) (k count : ℕ) (old new : Rest) : Type 0 wher
   pub lines : lines_of old.bytes ≡ before ++ lines_of new.bytes
   pub are : AreFormed h k before
   pub long : length before ≡ count
-  pub number : new.number ≡ old.number + count
+  pub number : new.line ≡ old.line + count

@@ -4,7 +4,8 @@ use Rattle.blif_text.specs.declared.fault.TextKind.{TextKind}
 use Rattle.blif_text.specs.declared.statements.word.Word.{Word}
 use Rattle.blif_text.specs.declared.statements.word.Word.TheVariants.{Model, Inputs, Outputs, Clock, Names, Latch, Subckt, End, Row}
 use Rattle.blif_text.specs.Text.{Statement}
-use Rattle.blif_text.specs.Kind.{Shape, Here, Marks, row_of, tokens_of, kind_at, here, lists, is_model}
+use Rattle.blif_text.specs.Kind.{Shape, Here, Marks, row_of, tokens_of, kind_at, is_model}
+use Rattle.blif_text.specs.Private.Latest.{here, lists}
 use Rattle.table_cover.specs.Cover.{PlainCover}
 use Rattle.blif_text.specs.Views.{bit, marked_rows}
 use Rattle.blif_text.specs.Models.{PlainElement, PlainModel, appearing, listed, is_port_in, is_port_out, table, register, instance, rows, elements, own, models, first_token}

@@ -6,7 +6,8 @@ use Rattle.blif_text.specs.declared.fault.TextFault.TheVariants as faults
 use Rattle.blif_text.specs.declared.fault.Refusal.{Refusal}
 use Rattle.blif_text.specs.declared.fault.Refusal.TheVariants as refusals
 use Rattle.blif_text.specs.Text.{Statement, ended_statements}
-use Rattle.blif_text.specs.Kind.{Bad, first_bad}
+use Rattle.blif_text.specs.Kind.{Bad}
+use Rattle.blif_text.specs.Private.Latest.{first_bad}
 use Rattle.blif_text.specs.Models.{PlainModel}
 use Rattle.blif_text.specs.Private.Pending.{Pending, IsOneLine, to_come}
 use Rattle.blif_text.specs.Private.Progress.{Progress, Keeps, before, kind_in, after, all_models}

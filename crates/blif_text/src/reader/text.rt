@@ -1,21 +1,18 @@
 //! Takes the bytes of a text, its lines and their statements.
 ghost use Rattle.std.specs.Prelude.{◌≡◌, ◌≤◌, ◌<◌, ◌+◌, ◌-◌, ◌^◌, ◌++◌, ◌∷◌, [], List, ℕ, Ok, length, map, take, OnOk, IfOk, IfErr, IfSome, IsOkUnless, Some, None};
-ghost use Rattle.std.specs.List.{position};
 ghost use Rattle.blif_text.specs.Private.Stands.{Stands, Takes, Refuses, IsBadOf, reading_in};
 ghost use Rattle.blif_text.specs.Reading.{Reads, reading};
 ghost use Rattle.blif_text.specs.Private.Sound.{IsSound};
 ghost use Rattle.blif_text.specs.Private.Bounds.{rows_in, IsShort};
 ghost use Rattle.blif_text.specs.Reader.{HasRead};
-ghost use Rattle.blif_text.specs.Text.{spoken, tokens, joins_next, part, is_lf};
+ghost use Rattle.blif_text.specs.Text.{spoken, tokens};
 ghost use Rattle.blif_text.specs.Private.Pending.{with_bytes};
 
 use crate::fault::{Refusal, TextFault, TextKind};
 use crate::library::Library;
-use crate::lines::Lines;
-use crate::lines::line::tokens;
 use crate::progress::Progress;
-use memchr::memchr;
 use std::alloc::Global;
+use text_lines::{PendingLine, line_end, tokens};
 
 /// Takes the statement of a joined line, if it has tokens.
 #[tactic(auto, unfolding(crate::specs::Text::spoken))]
@@ -32,7 +29,11 @@ fn take_text(alloc: Global, progress: &mut Progress, text: &[u8]) -> Result<(), 
 }
 
 /// Takes the statement of the joined line in hand, and begins the next.
-fn take_joined(alloc: Global, lines: &mut Lines, progress: &mut Progress) -> Result<(), TextFault>
+fn take_joined(
+    alloc: Global,
+    lines: &mut PendingLine,
+    progress: &mut Progress,
+) -> Result<(), TextFault>
     requires text { length lines.old.text < 2 ^ 32 - 1 }
     requires rows { rows_in progress.old.open_model < 2 ^ 32 - 1 }
     ensures begun { OnOk result (lines.new ≡ record { first = lines.old.number; text = []; number = lines.old.number; line = lines.old.line }) }
@@ -53,7 +54,11 @@ fn take_joined(alloc: Global, lines: &mut Lines, progress: &mut Progress) -> Res
 }
 
 /// Ends the line in hand, and takes the statement that ends with it.
-fn end_line(alloc: Global, lines: &mut Lines, progress: &mut Progress) -> Result<(), TextFault>
+fn end_line(
+    alloc: Global,
+    lines: &mut PendingLine,
+    progress: &mut Progress,
+) -> Result<(), TextFault>
     requires number { lines.old.number < 2 ^ 32 - 1 }
     requires short { IsShort lines.old progress.old 0 }
     ensures short { OnOk result ((more : ℕ) → IsShort lines.old progress.old more → IsShort lines.new progress.new more) }
@@ -72,16 +77,8 @@ fn end_line(alloc: Global, lines: &mut Lines, progress: &mut Progress) -> Result
     }
 }
 
-/// Where the line in hand ends, if it does.
-#[tactic(auto, using(crate::proofs::FirstByte::first_byte))]
-fn line_end(bytes: &[u8]) -> Option<usize>
-    ensures { result ≡ position is_lf bytes.now }
-{
-    memchr(b'\n', bytes)
-}
-
 /// Takes bytes of the line in hand.
-fn take_inner(lines: &mut Lines, bytes: &[u8]) -> Result<(), TextFault>
+fn take_inner(lines: &mut PendingLine, bytes: &[u8]) -> Result<(), TextFault>
     ensures ok { OnOk result (lines.new ≡ with_bytes lines.old bytes.now) }
     ensures number { lines.new.number ≡ lines.old.number }
     ensures kinds { IsOkUnless result TextFault.Memory }
@@ -95,7 +92,7 @@ fn take_inner(lines: &mut Lines, bytes: &[u8]) -> Result<(), TextFault>
 /// Takes bytes up to the first end of a line, or all. The result is how many.
 fn take_front(
     alloc: Global,
-    lines: &mut Lines,
+    lines: &mut PendingLine,
     progress: &mut Progress,
     bytes: &[u8],
 ) -> Result<usize, TextFault>
@@ -125,7 +122,7 @@ fn take_front(
 /// Takes a piece.
 fn take_bytes(
     alloc: Global,
-    lines: &mut Lines,
+    lines: &mut PendingLine,
     progress: &mut Progress,
     piece: &[u8],
 ) -> Result<(), TextFault>
@@ -162,7 +159,11 @@ fn ended(alloc: Global, progress: &mut Progress) -> Result<Library, TextFault>
 }
 
 /// Ends the text: an LF ends the last line, and another what a backslash there leaves open.
-fn end_text(alloc: Global, lines: &mut Lines, progress: &mut Progress) -> Result<Library, TextFault>
+fn end_text(
+    alloc: Global,
+    lines: &mut PendingLine,
+    progress: &mut Progress,
+) -> Result<Library, TextFault>
     requires number { lines.old.number < 2 ^ 32 - 2 }
     requires short { IsShort lines.old progress.old 0 }
     requires sound { IsSound progress.old }
@@ -176,7 +177,7 @@ fn end_text(alloc: Global, lines: &mut Lines, progress: &mut Progress) -> Result
 /// Ends the text, unless a fault was met before.
 fn end_unrefused(
     alloc: Global,
-    lines: &mut Lines,
+    lines: &mut PendingLine,
     progress: &mut Progress,
     refused: Option<TextFault>,
 ) -> Result<Library, TextFault>
@@ -195,7 +196,7 @@ fn end_unrefused(
 /// The same, of a text of which no more is read. All that is kept of it is freed here alone.
 pub(crate) fn finish(
     alloc: Global,
-    mut lines: Lines,
+    mut lines: PendingLine,
     mut progress: Progress,
     refused: Option<TextFault>,
 ) -> Result<Library, TextFault>
@@ -211,7 +212,7 @@ pub(crate) fn finish(
 /// Takes a piece, unless a fault was met before. Gives the fault that is met by then.
 pub(crate) fn take_piece(
     alloc: Global,
-    lines: &mut Lines,
+    lines: &mut PendingLine,
     progress: &mut Progress,
     refused: Option<TextFault>,
     piece: &[u8],

@@ -1,6 +1,6 @@
 use Rattle.std.proofs.Common.{◌≡◌, ◌++◌, Some, None, take, subst}
 use Rattle.std.specs.List.{position}
-use Rattle.blif_text.specs.Text.{is_lf}
+use Rattle.blif_text.specs.Text.{is_line_feed}
 use Rattle.blif_text.specs.Private.Stands.{Stands}
 use Rattle.blif_text.proofs.Taken.{front_taken, all_taken, line_front, bad_line, passed_on}
 use Rattle.blif_text.proofs.Bounds.{short_front}
@@ -8,14 +8,14 @@ use Rattle.blif_text.proofs.reader.text.take_front.Goals as goal
 
 pub returns-in_ok-end_line-in-Some-clause-ok : goal.returns-in_ok-end_line-in-Some-clause-ok
 returns-in_ok-end_line-in-Some-clause-ok c = λ given s.
-    let e : position is_lf c.args.bytes.now ≡ Some c.in-Some.end = cc in
+    let e : position is_line_feed c.args.bytes.now ≡ Some c.in-Some.end = cc in
     subst (λ xs. Stands c.end_line.new.lines c.end_line.new.progress xs) (line_front given c.args.bytes.now c.in-Some.end e)
     (c.in_ok-end_line-in-Some.ensures.ok (given ++ take c.in-Some.end c.args.bytes.now)
     (front_taken c.args.lines.now c.take_inner.new.lines c.args.progress.now c.args.bytes.now c.in-Some.end e c.in_ok-take_inner-in-Some.ensures.ok given s))
 
 pub returns-in_err-end_line-in-Some-clause-bad : goal.returns-in_err-end_line-in-Some-clause-bad
 returns-in_err-end_line-in-Some-clause-bad c =
-    let e : position is_lf c.args.bytes.now ≡ Some c.in-Some.end = cc in
+    let e : position is_line_feed c.args.bytes.now ≡ Some c.in-Some.end = cc in
     passed_on _ _ c.in_err-end_line-in-Some.field-0.0 c.from_residual-in_err-end_line-in-Some.ensures.1 (λ given s.
     bad_line given c.args.bytes.now c.in-Some.end c.in_err-end_line-in-Some.field-0.0 e
     (c.in_err-end_line-in-Some.ensures.bad (given ++ take c.in-Some.end c.args.bytes.now)
@@ -23,7 +23,7 @@ returns-in_err-end_line-in-Some-clause-bad c =
 
 pub returns-in_ok-take_inner-in-None-clause-ok : goal.returns-in_ok-take_inner-in-None-clause-ok
 returns-in_ok-take_inner-in-None-clause-ok c = λ given s.
-    let e : position is_lf c.args.bytes.now ≡ None = cc in
+    let e : position is_line_feed c.args.bytes.now ≡ None = cc in
     all_taken c.args.lines.now c.take_inner-in-None.new.lines c.args.progress.now c.args.bytes.now e c.in_ok-take_inner-in-None.ensures.ok given s
 
 pub returns-in_ok-end_line-in-Some-clause-short : goal.returns-in_ok-end_line-in-Some-clause-short

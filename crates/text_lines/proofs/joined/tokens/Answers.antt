@@ -3,8 +3,8 @@ use Rattle.std.specs.Slice.Iter.{split_rest, split_done, split_callee}
 use Rattle.std.proofs.lemmas.Iterator.Consumers.{map_from_collect, YieldsList-from_filter}
 use Rattle.std.proofs.lemmas.Iterator.Splits.{YieldsList-from_slice_split}
 use Rattle.std.proofs.Common.{rules, tests}
-use Rattle.blif_text.specs.Text.{is_blank, tokens}
-use Rattle.blif_text.proofs.lines.line.tokens.Goals as goal
+use Rattle.text_lines.specs.Joined.{is_blank, tokens}
+use Rattle.text_lines.proofs.joined.tokens.Goals as goal
 
 pub returns : goal.returns
 unfolding tokens

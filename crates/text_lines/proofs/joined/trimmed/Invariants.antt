@@ -1,7 +1,7 @@
 use Rattle.std.proofs.Common.{◌≡◌, ◌≤◌, ◌+◌, length, take}
 use Rattle.std.specs.List.{suffix_len}
-use Rattle.blif_text.specs.Text.{is_blank}
-use Rattle.blif_text.proofs.lines.line.trimmed.Given as goal
+use Rattle.text_lines.specs.Joined.{is_blank}
+use Rattle.text_lines.proofs.joined.trimmed.Given as goal
 
 abbrev pub invariant-loop-n : goal.invariant-loop-n
 invariant-loop-n l = record {
