@@ -1,12 +1,12 @@
 //! Takes the bytes of a text, its lines and their statements.
-ghost use Rattle.std.specs.Prelude.{◌≡◌, ◌≤◌, ◌<◌, ◌+◌, ◌-◌, ◌^◌, ◌++◌, ◌∷◌, [], List, ℕ, Ok, length, map, take, OnOk, IfOk, IfErr, IfSome, IsOkUnless, Some, None};
+ghost use Rattle.std.specs.Prelude.{◌≡◌, ◌≤◌, ◌<◌, ◌+◌, ◌-◌, ◌^◌, ◌++◌, ◌∷◌, [], List, ℕ, Ok, length, take, OnOk, IfOk, IfErr, IfSome, IsOkUnless, Some, None};
 ghost use Rattle.std.specs.List.{position};
 ghost use Rattle.blif_text.specs.Private.Stands.{Stands, Takes, Refuses, IsBadOf, reading_in};
 ghost use Rattle.blif_text.specs.Reading.{Reads, reading};
 ghost use Rattle.blif_text.specs.Private.Sound.{IsSound};
 ghost use Rattle.blif_text.specs.Private.Bounds.{rows_in, IsShort};
 ghost use Rattle.blif_text.specs.Reader.{HasRead};
-ghost use Rattle.blif_text.specs.Text.{spoken, tokens, joins_next, part, is_lf};
+ghost use Rattle.blif_text.specs.Text.{spoken, tokens, is_lf};
 ghost use Rattle.blif_text.specs.Private.Pending.{with_bytes};
 
 use crate::fault::{Refusal, TextFault, TextKind};
@@ -146,7 +146,8 @@ fn take_bytes(
 
 /// The library, where no more statements come.
 fn ended(alloc: Global, progress: &mut Progress) -> Result<Library, TextFault>
-    requires { IsSound progress.old }
+    requires sound { IsSound progress.old }
+    requires few { length progress.old.names < 2 ^ 32 }
     ensures { Reads result (reading_in progress.old) }
 {
     if progress.is_empty() {
