@@ -1,23 +1,9 @@
--- Numbers and spans of which the first are stored in 32 bits.
-use Rattle.std.proofs.Common.{◌≡◌, ℕ, ◌+◌, ◌-◌, ◌<◌, ◌≤◌, List, [], ◌∷◌, ◌++◌, length, map, set, get_or, sym, ◌∙◌, ap, arith, append_assoc, append-nil}
+-- Spans of which the first are stored in 32 bits.
+use Rattle.std.proofs.Common.{◌≡◌, ℕ, ◌+◌, ◌-◌, ◌<◌, ◌≤◌, List, ◌++◌, length, map, set, get_or, sym, ◌∙◌, ap, arith}
 use Rattle.std.proofs.lemmas.List.{length-map, get_or_append_left, get_or-append_right, get_or-map, map-set, set-append_left, set-append_right}
 use Rattle.graph.specs.declared.spans.Span.{Span}
 use Rattle.graph.specs.declared.spans.NarrowSpan.{NarrowSpan}
 use Rattle.graph.specs.Private.Packed.{widened, span_at, grown}
-
-pub front_at : (narrow wide : List ℕ) (x : ℕ) → x < length narrow → get_or narrow x 0 ≡ get_or (narrow ++ wide) x 0
-front_at narrow wide x l = sym (get_or_append_left narrow wide 0 x l)
-
-pub back_at : (narrow wide : List ℕ) (x n : ℕ) → n ≡ length narrow → n ≤ x → get_or wide (x - n) 0 ≡ get_or (narrow ++ wide) x 0
-back_at narrow wide x n e l = sym (get_or-append_right narrow wide n x 0 (sym e) l)
-
--- one more in front of none, and behind all
-pub front_more : {A : Type 0} (narrow wide : List A) (x : A) → length wide ≡ 0 → (narrow ++ x ∷ []) ++ wide ≡ (narrow ++ wide) ++ x ∷ []
-front_more narrow [] x e = append-nil (narrow ++ x ∷ []) ∙ ap (λ xs. xs ++ x ∷ []) (sym (append-nil narrow))
-front_more narrow (y ∷ wide) x e = absurd (omega (arith, e))
-
-pub back_more : {A : Type 0} (narrow wide : List A) (x : A) → narrow ++ (wide ++ x ∷ []) ≡ (narrow ++ wide) ++ x ∷ []
-back_more narrow wide x = sym (append_assoc narrow wide (x ∷ []))
 
 module _ (narrow : List NarrowSpan) (wide : List Span) (x : ℕ) where
   pub span_front : x < length narrow → span_at (map widened narrow) x ≡ span_at (map widened narrow ++ wide) x
@@ -46,5 +32,3 @@ pub narrow_grown : (narrow : List NarrowSpan) (x : ℕ) → x < length narrow �
 narrow_grown narrow x l =
     map-set widened narrow x (record { from = (get_or narrow x no_span).from; to = (get_or narrow x no_span).to + 1; limit = (get_or narrow x no_span).limit })
     ∙ ap (λ s. set (map widened narrow) x (grown s)) (sym (get_or-map widened narrow x no_span (record { from = 0; to = 0; limit = 0 }) l))
-
-pub ruleset width_laws = (front_at, back_at)

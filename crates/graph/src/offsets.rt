@@ -22,7 +22,6 @@ impl Model for Offsets {
 }
 
 /// Number x of these, one list behind the other.
-#[tactic(auto, using(crate::proofs::Widths::width_laws))]
 fn offset_at(narrow: &[u32], wide: &[usize], x: usize) -> usize
     requires { x < length narrow.now + length wide.now }
     ensures { result ≡ slice_index (narrow.now ++ wide.now) x }
@@ -57,7 +56,6 @@ impl Offsets {
     }
 
     /// How many there are.
-    #[tactic(auto, using(crate::proofs::Widths::width_laws))]
     pub fn len(&self) -> usize
         ensures { result ≡ length self.now }
     {
@@ -65,7 +63,6 @@ impl Offsets {
     }
 
     /// Number x of them.
-    #[tactic(auto, using(crate::proofs::Widths::width_laws))]
     pub fn at(&self, x: usize) -> usize
         requires { x < length self.now }
         ensures { result ≡ slice_index self.now x }
@@ -74,7 +71,6 @@ impl Offsets {
     }
 
     /// One more.
-    #[tactic(auto, using(crate::proofs::Widths::width_laws))]
     pub fn push(&mut self, offset: usize) -> Result<(), OutOfMemory>
         ensures more { OnOk result (self.new ≡ self.old ++ offset ∷ []) }
         ensures kept { IfErr result (λ _. self.new ≡ self.old) }

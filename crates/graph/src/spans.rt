@@ -1,5 +1,5 @@
 //! Where rows stand that grow side by side in one list.
-ghost use Rattle.std.specs.Prelude.{◌≡◌, ◌+◌, ◌-◌, ◌<◌, ◌≤◌, ◌++◌, ◌∷◌, [], length, map, slice_set, IfOk, OnOk};
+ghost use Rattle.std.specs.Prelude.{◌≡◌, ◌+◌, ◌<◌, ◌≤◌, ◌++◌, ◌∷◌, [], length, map, slice_set, IfOk, OnOk};
 ghost use Rattle.graph.specs.Private.Packed.{widened, grown, span_at};
 
 use std::alloc::Global;
@@ -66,7 +66,6 @@ fn widened(span: NarrowSpan) -> Span
 }
 
 /// Span x of these, one list behind the other.
-#[tactic(auto, using(crate::proofs::Widths::width_laws))]
 fn span_at(narrow: &[NarrowSpan], wide: &[Span], x: usize) -> Span
     requires { x < length narrow.now + length wide.now }
     ensures { result ≡ span_at (map widened narrow.now ++ wide.now) x }
@@ -133,7 +132,6 @@ impl Spans {
     }
 
     /// Span x.
-    #[tactic(auto, using(crate::proofs::Widths::width_laws))]
     pub fn at(&self, x: usize) -> Span
         requires { x < length self.now }
         ensures { result ≡ span_at self.now x }
@@ -142,7 +140,6 @@ impl Spans {
     }
 
     /// One more.
-    #[tactic(auto, using(crate::proofs::Widths::width_laws))]
     pub fn push(&mut self, span: Span) -> Result<(), OutOfMemory>
         requires order { span.from ≤ span.to }
         requires room { span.to ≤ span.limit }
@@ -157,7 +154,6 @@ impl Spans {
     }
 
     /// Row x is one longer.
-    #[tactic(auto, using(crate::proofs::Widths::width_laws))]
     pub fn grow(&mut self, x: usize)
         requires within { x < length self.old }
         requires room { (span_at self.old x).to < (span_at self.old x).limit }
