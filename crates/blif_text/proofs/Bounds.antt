@@ -8,9 +8,10 @@ use Rattle.std.proofs.lemmas.List.Splits.{length-slice_split}
 use Rattle.blif_text.specs.declared.statements.word.Word.{Word}
 use Rattle.blif_text.specs.declared.statements.word.Word.TheVariants.{Model, Inputs, Outputs, Clock, Names, Latch, Subckt, End, Unknown, Row}
 use Rattle.blif_text.specs.Text.{Statement, is_hash, is_blank, last_byte, all_but_last, without_cr, content, trimmed, joins_next, part, tokens, spoken, statement}
-use Rattle.blif_text.specs.Kind.{Marks, row_of, tokens_of}
+use Rattle.blif_text.specs.Kind.{Marks, row_of, tokens_of, model_kind, kind_at}
+use Rattle.blif_text.specs.Models.{PlainModel}
 use Rattle.blif_text.specs.Private.Pending.{Pending, start, with_joined, with_bytes}
-use Rattle.blif_text.specs.Private.Progress.{OpenTable, OpenModel, Progress, nothing, more_of, after, with_row, width_of}
+use Rattle.blif_text.specs.Private.Progress.{OpenTable, OpenModel, Progress, nothing, here_in, more_of, after, with_row, width_of}
 use Rattle.blif_text.specs.Private.Stands.{Takes}
 use Rattle.blif_text.specs.Private.Bounds.{rows_of, rows_in, IsShort}
 
@@ -127,10 +128,40 @@ taken_more line (first ∷ args) q r t =
     let s = statement line first args in
     omega (arith, ap (λ q. rows_in q.open_model) t.1, word_more s.word line first args q)
 
+-- Names of models.
+
+one_named : (names args : List (List ℕ)) → model_kind names args ≡ None → length args ≡ 1
+unfolding model_kind
+one_named names [] good = absurd cc
+one_named names (x ∷ []) good = refl
+one_named names (x ∷ y ∷ args) good = absurd cc
+
+named_more : (w : Word) (line : ℕ) (first : List ℕ) (args names : List (List ℕ)) (o : Option OpenModel) (ms : List PlainModel) → kind_at names (option_map here_in o) (st w line first args) ≡ None
+    → length ((after (record { models = ms; names = names; open_model = o }) (st w line first args)).names) ≤ length names + 1
+unfolding kind_at
+named_more Model line first args names None ms good = omega (arith, length-append names args, one_named names args good)
+named_more Model line first args names (Some m) ms good = omega (arith, length-append names args, one_named names args good)
+named_more End line first args names o ms good = omega arith
+named_more Inputs line first args names o ms good = omega arith
+named_more Clock line first args names o ms good = omega arith
+named_more Outputs line first args names o ms good = omega arith
+named_more Names line first args names o ms good = omega arith
+named_more Latch line first args names o ms good = omega arith
+named_more Subckt line first args names o ms good = omega arith
+named_more Unknown line first args names o ms good = omega arith
+named_more Row line first args names o ms good = omega arith
+
+taken_named : (line : ℕ) (ts : List (List ℕ)) (q r : Progress) → Takes (spoken line ts) q r (Ok tt) → length r.names ≤ length q.names + 1
+unfolding spoken
+taken_named line [] q r t = omega (arith, ap (λ q. length q.names) t.1)
+taken_named line (first ∷ args) q r t =
+    let s = statement line first args in
+    omega (arith, ap (λ q. length q.names) t.1, named_more s.word line first args q.names q.open_model q.models t.0)
+
 -- What the calls keep.
 
 pub short_less : (p : Pending) (q : Progress) (most more : ℕ) → more ≤ most → IsShort p q most → IsShort p q more
-short_less p q most more less s = record { text = omega (arith, less, s.text); rows = s.rows }
+short_less p q most more less s = record { text = omega (arith, less, s.text); rows = s.rows; models = s.models }
 
 -- the line is joined
 pub short_text : (p o : Pending) (q : Progress) → o ≡ with_joined p → IsShort p q 0 → length o.text < 4294967295
@@ -140,6 +171,7 @@ pub short_joined : (p o : Pending) (q : Progress) → o ≡ with_joined p → (m
 short_joined p o q e more s = record {
   text = omega (arith, ap (λ x. length x.text) e, ap (λ x. length x.line) e, joined_short p, s.text);
   rows = omega (arith, ap (λ x. x.number) e, s.rows);
+  models = omega (arith, ap (λ x. x.number) e, s.models);
 }
 
 -- and its statement is taken
@@ -149,6 +181,7 @@ pub short_line : (p o n : Pending) (q r : Progress) → o ≡ with_joined p
 short_line p o n q r e en taken more s = record {
   text = omega (arith, ap (λ x. length x.line) e, ap (λ x. length x.text) en, ap (λ x. length x.line) en, s.text);
   rows = omega (arith, ap (λ x. x.number) e, ap (λ x. x.number) en, taken_more o.first (tokens o.text) q r taken, s.rows);
+  models = omega (arith, ap (λ x. x.number) e, ap (λ x. x.number) en, taken_named o.first (tokens o.text) q r taken, s.models);
 }
 
 -- bytes of the line are taken
@@ -156,6 +189,7 @@ pub short_bytes : (p o : Pending) (q : Progress) (bytes : List ℕ) (more : ℕ)
 short_bytes p o q bytes more e s = record {
   text = omega (arith, ap (λ x. length x.text) e, ap (λ x. length x.line) e, length-append p.line bytes, s.text);
   rows = omega (arith, ap (λ x. x.number) e, s.rows);
+  models = omega (arith, ap (λ x. x.number) e, s.models);
 }
 
 -- and those up to the end of a line, with that end
@@ -167,4 +201,5 @@ pub short_new : (p : Pending) (q : Progress) (more : ℕ) → more ≤ 107374182
 short_new p q more less ep eq = record {
   text = omega (arith, less, ap (λ x. length x.text) ep, ap (λ x. length x.line) ep);
   rows = omega (arith, ap (λ x. x.number) ep, ap (λ x. rows_in x.open_model) eq);
+  models = omega (arith, ap (λ x. x.number) ep, ap (λ x. length x.names) eq);
 }

@@ -56,7 +56,7 @@ pub struct BlifModel {
 
 /// The models of a text, in its order. The first is the main one.
 ///
-/// There is a model, the models' names differ, and in each model the inputs differ, the outputs
+/// There is a model, there are fewer than 2^32, the models' names differ, and in each model the inputs differ, the outputs
 /// differ, and each cover is as wide as its table has pins.
 #[derive(Debug, Drop)]
 pub struct Library {

@@ -43,9 +43,9 @@ pub fn cut(alloc: Global, n: &FlatNet, parts: &Parts) -> Result<CutPins, OutOfMe
     requires { length parts.now.of ≡ length n.now.net.nodes }
     ensures { IfOk result (λ cut. CutMeets n.now.net parts.now cut) }
 {
-    let _nodes = nodes_of(n);
+    let count = nodes_of(n);
     let graph = inner_reads(alloc, n, parts)?;
-    let searched = search(alloc, &graph)?;
+    let searched = search(alloc, &graph, count)?;
     Ok(CutPins {
         reads: searched.cut,
     })

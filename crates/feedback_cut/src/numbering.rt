@@ -1,5 +1,5 @@
 //! One number for the vertices that lead to each other.
-ghost use Rattle.std.specs.Prelude.{◌≡◌, ◌<◌, ◌≤◌, ◌-◌, ℕ, length, map, slice_index, IfOk};
+ghost use Rattle.std.specs.Prelude.{◌≡◌, ◌<◌, ◌-◌, ℕ, length, map, slice_index, IfOk};
 ghost use Rattle.feedback_cut.specs.Private.Numbering.{IsNumbered};
 
 use crate::gathering::{gather, number_of};
@@ -40,7 +40,7 @@ pub(crate) fn number_vertices(
     requires { count ≡ length graph.now }
     ensures { IfOk result (λ n. IsNumbered graph.now n.numbers.items n.groups) }
 {
-    let searched = search(alloc, graph)?;
+    let searched = search(alloc, graph, count)?;
     let readers = readers_of(alloc, graph, count)?;
     let mut numbers = vec![in alloc; count; count as usize]?;
     let mut groups = 0;

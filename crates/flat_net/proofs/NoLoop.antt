@@ -33,16 +33,18 @@ module _ (order around : List ℕ) (before : (k j : ℕ) → k < length order �
   pub none_contained : 0 < length around → Contains order (slice_index around 0) → ⊥
   none_contained some (k, h, e) = none_stands k 0 h some (get_or_default order k 0 (slice_index around 0) h ∙ e)
 
--- ---- tables
-
-pub read_next : (n : Net) (tables : List ℕ) → IsLoop n tables → (k : ℕ) → k < length tables → (j : ℕ) × (j < length tables) × ReadsTable n (slice_index tables k) (slice_index tables j)
-read_next n tables loop k h = go (cases_lt (suc k) (length tables))
+-- in a loop each has a next, that of the last being the first
+pub next_around : (Next : ℕ → ℕ → Type 0) (around : List ℕ) → 0 < length around → ((k : ℕ) → suc k < length around → Next (slice_index around k) (slice_index around (suc k))) → Next (slice_index around (length around - 1)) (slice_index around 0)
+    → (k : ℕ) → k < length around → (j : ℕ) × (j < length around) × Next (slice_index around k) (slice_index around j)
+next_around Next around some next closed k h = go (cases_lt (suc k) (length around))
   where
-    go : (suc k < length tables) ⊎ (length tables ≤ suc k) → (j : ℕ) × (j < length tables) × ReadsTable n (slice_index tables k) (slice_index tables j)
-    go (inl more) = (suc k, more, loop.next k more)
+    go : (suc k < length around) ⊎ (length around ≤ suc k) → (j : ℕ) × (j < length around) × Next (slice_index around k) (slice_index around j)
+    go (inl more) = (suc k, more, next k more)
     go (inr last) =
-        let e : length tables - 1 ≡ k = omega arith in
-        (0, loop.some, subst (λ (i : ℕ). ReadsTable n (slice_index tables i) (slice_index tables 0)) e loop.closed)
+        let e : length around - 1 ≡ k = omega arith in
+        (0, some, subst (λ (i : ℕ). Next (slice_index around i) (slice_index around 0)) e closed)
+
+-- ---- tables
 
 pub no_loop : (n : Net) (order tables : List ℕ) → IsOrder n order → IsLoop n tables → ⊥
 no_loop n order tables ordered loop = go (places.complete (slice_index tables 0) first.0 first.1)
@@ -55,7 +57,7 @@ no_loop n order tables ordered loop = go (places.complete (slice_index tables 0)
 
     before : (k j : ℕ) → k < length order → j < length tables → slice_index order k ≡ slice_index tables j → Meets order tables k
     before k j h l e =
-        let (at, within, reads) = read_next n tables loop j l in
+        let (at, within, reads) = next_around (ReadsTable n) tables loop.some loop.next loop.closed j l in
         let (i, below, is) = subst (λ (x : ℕ). Contains (table_pins (node_of n x)) (slice_index tables at)) (sym e) reads in
         let pin : slice_index (table_pins (node_of n (slice_index order k))) i ≡ slice_index tables at = get_or_default (table_pins (node_of n (slice_index order k))) i 0 (slice_index tables at) below ∙ is in
         let (place, earlier, same) = places.after k i h below (subst (λ (x : ℕ). IsTable (node_of n x)) (sym pin) (loop_table n tables loop at within)) in

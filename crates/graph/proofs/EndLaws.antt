@@ -1,11 +1,11 @@
 -- Rows that stand in one list, which is cut at their ends.
 use Rattle.std.proofs.Common.{◌≡◌, ℕ, zero, suc, ◌+◌, ◌-◌, ◌<◌, ◌≤◌, List, [], ◌∷◌, ◌++◌, length, map, get_or, take, drop, replicate, refl, sym, ◌∙◌, ap, ap₂, arith}
 use Rattle.std.specs.Prelude.{slice_range}
-use Rattle.std.proofs.lemmas.List.{take_all, take-append-le, drop-append-le, length-drop, length-append, length_push}
+use Rattle.std.proofs.lemmas.List.{take_all, take-append-le, drop-append-le, length-drop, length-append}
 use Rattle.std.proofs.lemmas.List.Edits.{length-between, between_none}
 use Rattle.std.proofs.Math.Seq.{drop-append_seam}
 use Rattle.graph.specs.declared.spans.Span.{Span}
-use Rattle.graph.specs.Private.Packed.{rows_from, AreEnds, AreRows, start_of, emptied_from, span_in, room_in, ArePacked}
+use Rattle.graph.specs.Private.Packed.{rows_from, AreEnds, start_of, emptied_from, span_in, room_in, ArePacked}
 
 pub length-rows_from : (from : ℕ) (ends items : List ℕ) → length (rows_from from ends items) ≡ length ends
 length-rows_from from [] items = refl
@@ -73,13 +73,9 @@ emptied_more from (end ∷ ends) (suc (suc x)) h = ap (λ (spans : List Span). r
 -- ---- a graph
 
 -- one row more
-module _ (ends items more : List ℕ) (from end : ℕ) (is : AreRows ends items) (f : from ≡ length items) (e : end ≡ from + length more) where
-  pub rows_kept : (ends' items' : List ℕ) → ends' ≡ ends ++ end ∷ [] → items' ≡ items ++ more → length ends < 4294967295 → length more < 4294967296 - from → AreRows ends' items'
-  rows_kept ends' items' d i few room = rw (d, i, e, f) (record {
-    ends_are = rw (length-append items more) (ends_push 0 ends (length items) (length more) is.ends_are);
-    few = omega (arith, length_push ends (length items + length more), few);
-    few_items = omega (arith, length-append items more, f, is.few_items, room);
-  })
+module _ (ends items more : List ℕ) (from end : ℕ) (is : AreEnds 0 ends (length items)) (f : from ≡ length items) (e : end ≡ from + length more) where
+  pub rows_kept : (ends' items' : List ℕ) → ends' ≡ ends ++ end ∷ [] → items' ≡ items ++ more → AreEnds 0 ends' (length items')
+  rows_kept ends' items' d i = rw (d, i, e, f, length-append items more) (ends_push 0 ends (length items) (length more) is)
 
   pub rows_added : (ends' items' : List ℕ) → ends' ≡ ends ++ end ∷ [] → items' ≡ items ++ more → rows_from 0 ends' items' ≡ rows_from 0 ends items ++ more ∷ []
-  rows_added ends' items' d i = rw (d, i, e, f) (rows_push 0 ends items more is.ends_are)
+  rows_added ends' items' d i = rw (d, i, e, f) (rows_push 0 ends items more is)

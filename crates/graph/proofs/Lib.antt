@@ -1,4 +1,5 @@
 pub mod RowLaws
+pub mod Widths
 pub mod EndLaws
 pub mod PackedLaws
 pub mod Places

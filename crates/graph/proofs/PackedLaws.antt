@@ -5,7 +5,7 @@ use Rattle.std.proofs.lemmas.List.Edits.{length-between, between_more}
 use Rattle.std.proofs.lemmas.Slice.{between_is}
 use Rattle.std.proofs.Math.Seq.{map-set_same}
 use Rattle.graph.specs.declared.spans.Span.{Span}
-use Rattle.graph.specs.Private.Packed.{span_in, grown, room_in, ArePacked}
+use Rattle.graph.specs.Private.Packed.{span_in, span_at, grown, room_in, ArePacked}
 
 -- a span stands behind `start`, and within the first `count` places
 pub record IsPlaced (start count : ℕ) (s : Span) : Type 0 where
@@ -82,10 +82,6 @@ has_room items spans x s p l e m =
     let long : length (get_or (map (span_in items) spans) x []) ≡ s.to - s.from = ap length (row_is items spans x s l e) ∙ length-between items s.from s.to (omega (arith, r.room, r.last)) in
     let room : get_or (map room_in spans) x 0 ≡ s.limit - s.from = get_or-map room_in spans x s 0 l ∙ ap room_in (sym e) in
     omega (arith, long, room, m, r.order)
-
--- the span at a place
-abbrev pub span_at : List Span → ℕ → Span
-span_at spans x = get_or spans x (record { from = 0; to = 0; limit = 0 })
 
 span_at_is : (spans : List Span) (x : ℕ) → x < length spans → span_at spans x ≡ get_or spans x (span_at spans x)
 span_at_is spans x l = get_or_default spans x (record { from = 0; to = 0; limit = 0 }) (span_at spans x) l

@@ -1,15 +1,15 @@
 //! Rows of bits that grow in the places that are kept for them.
 ghost use Rattle.std.specs.Prelude.{◌≡◌, ◌<◌, ◌≤◌, ◌++◌, ◌∷◌, [], length, map, false, slice_set, slice_index, slice_index_or};
 ghost use Rattle.graph.specs.Rows.{row};
-ghost use Rattle.graph.specs.Private.Packed.{span_in, grown, room_in, ArePacked};
+ghost use Rattle.graph.specs.Private.Packed.{span_in, room_in, ArePacked};
 
-use crate::spans::Span;
+use crate::spans::{Span, Spans};
 use std::marker::Model;
 
 /// For each vertex, the bits that are decided of its reads so far. All rows lie side by side in one list.
 #[derive(Drop)]
 pub struct Decisions {
-    spans: Vec<Span>,
+    spans: Spans,
     bits: Vec<bool>,
 }
 
@@ -21,9 +21,9 @@ impl Model for Decisions {
 
     ghost use Rattle.graph.specs.Private.Packed.{span_in, room_in, ArePacked};
 
-    ghost view = { λ d. record { rows = map (span_in d.bits.items) d.spans.items; room = map room_in d.spans.items } };
+    ghost view = { λ d. record { rows = map (span_in d.bits.items) d.spans; room = map room_in d.spans } };
 
-    ghost invariant = { λ d. ArePacked 0 d.spans.items (length d.bits.items) };
+    ghost invariant = { λ d. ArePacked 0 d.spans (length d.bits.items) };
 }
 
 /// The part of the list that stands there.
@@ -32,32 +32,20 @@ fn part(bits: &[bool], span: Span) -> &[bool]
     requires end { span.to ≤ length bits.now }
     ensures { result.now ≡ span_in bits.now span }
 {
-    &bits[span.from as usize..span.to as usize]
+    &bits[span.from..span.to]
 }
 
 /// The row of vertex x.
-fn bit_row<'a>(spans: &[Span], bits: &'a [bool], x: usize) -> &'a [bool]
+fn bit_row<'a>(spans: &Spans, bits: &'a [bool], x: usize) -> &'a [bool]
     requires packed { ArePacked 0 spans.now (length bits.now) }
     requires within { x < length spans.now }
     ensures { result.now ≡ row (map (span_in bits.now) spans.now) x }
 {
-    part(bits, spans[x])
-}
-
-/// A row that is one longer.
-fn grown(span: Span) -> Span
-    requires { span.to < span.limit }
-    ensures { result ≡ grown span }
-{
-    Span {
-        from: span.from,
-        to: span.to + 1,
-        limit: span.limit,
-    }
+    part(bits, spans.at(x))
 }
 
 /// One more bit in the row of vertex x.
-fn put(spans: &mut [Span], bits: &mut [bool], x: usize, bit: bool)
+fn put(spans: &mut Spans, bits: &mut [bool], x: usize, bit: bool)
     requires packed { ArePacked 0 spans.old (length bits.old) }
     requires within { x < length spans.old }
     requires room { length (row (map (span_in bits.old) spans.old) x) < slice_index (map room_in spans.old) x }
@@ -65,17 +53,17 @@ fn put(spans: &mut [Span], bits: &mut [bool], x: usize, bit: bool)
     ensures rows { map (span_in bits.new) spans.new ≡ slice_set (map (span_in bits.old) spans.old) x (row (map (span_in bits.old) spans.old) x ++ bit ∷ []) }
     ensures room { map room_in spans.new ≡ map room_in spans.old }
 {
-    let span = spans[x];
-    bits[span.to as usize] = bit;
-    spans[x] = grown(span);
+    let span = spans.at(x);
+    bits[span.to] = bit;
+    spans.grow(x);
 }
 
 impl Decisions {
     /// Rows that stand so in these bits.
-    pub fn new(spans: Vec<Span>, bits: Vec<bool>) -> Decisions
-        requires { ArePacked 0 spans.items (length bits.items) }
-        ensures rows { result.rows ≡ map (span_in bits.items) spans.items }
-        ensures room { result.room ≡ map room_in spans.items }
+    pub fn new(spans: Spans, bits: Vec<bool>) -> Decisions
+        requires { ArePacked 0 spans (length bits.items) }
+        ensures rows { result.rows ≡ map (span_in bits.items) spans }
+        ensures room { result.room ≡ map room_in spans }
     {
         Decisions { spans, bits }
     }

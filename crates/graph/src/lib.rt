@@ -10,6 +10,7 @@
 
 mod cuts;
 mod deciding;
+mod offsets;
 mod ordering;
 mod readers;
 mod reversing;

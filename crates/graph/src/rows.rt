@@ -1,10 +1,11 @@
 //! Which vertex reads which.
-ghost use Rattle.std.specs.Prelude.{◌≡◌, ◌<◌, ◌≤◌, ◌++◌, ◌∷◌, [], ℕ, List, length, map, replicate, slice_index, slice_range, IfOk, OnOk};
+ghost use Rattle.std.specs.Prelude.{◌≡◌, ◌<◌, ◌≤◌, ◌++◌, ◌∷◌, [], ℕ, List, length, map, replicate, slice_range, IfOk, OnOk};
 ghost use Rattle.graph.specs.Rows.{row};
 ghost use Rattle.graph.specs.Private.Packed.{rows_from, emptied_from, start_of, AreEnds};
 
 use crate::deciding::Decisions;
-use crate::spans::Span;
+use crate::offsets::Offsets;
+use crate::spans::{Span, Spans};
 use std::alloc::Global;
 use std::marker::Model;
 use tmr_base::OutOfMemory;
@@ -13,28 +14,28 @@ use tmr_base::OutOfMemory;
 /// stands for something else that is read. All rows stand in one list, which is cut at their ends.
 #[derive(Drop)]
 pub struct Graph {
-    ends: Vec<u32>,
+    ends: Offsets,
     reads: Vec<u32>,
 }
 
 impl Model for Graph {
-    ghost use Rattle.std.specs.Prelude.{ℕ, List};
+    ghost use Rattle.std.specs.Prelude.{ℕ, List, length};
 
     ghost Value = { List (List ℕ) };
 
-    ghost use Rattle.graph.specs.Private.Packed.{rows_from, AreRows};
+    ghost use Rattle.graph.specs.Private.Packed.{rows_from, AreEnds};
 
-    ghost view = { λ g. rows_from 0 g.ends.items g.reads.items };
+    ghost view = { λ g. rows_from 0 g.ends g.reads.items };
 
-    ghost invariant = { λ g. AreRows g.ends.items g.reads.items };
+    ghost invariant = { λ g. AreEnds 0 g.ends (length g.reads.items) };
 }
 
 /// Where row x begins.
-fn start_at(ends: &[u32], x: usize) -> usize
+fn start_at(ends: &Offsets, x: usize) -> usize
     requires { x < length ends.now }
     ensures { result ≡ start_of 0 ends.now x }
 {
-    if x == 0 { 0 } else { ends[x - 1] as usize }
+    if x == 0 { 0 } else { ends.at(x - 1) }
 }
 
 /// The part of the list that stands there.
@@ -47,27 +48,29 @@ fn part(reads: &[u32], from: usize, to: usize) -> &[u32]
 }
 
 /// Row x.
-fn row_at<'a>(ends: &[u32], reads: &'a [u32], x: usize) -> &'a [u32]
+fn row_at<'a>(ends: &Offsets, reads: &'a [u32], x: usize) -> &'a [u32]
     requires ends { AreEnds 0 ends.now (length reads.now) }
     requires within { x < length ends.now }
     ensures { result.now ≡ row (rows_from 0 ends.now reads.now) x }
 {
-    part(reads, start_at(ends, x), ends[x] as usize)
+    part(reads, start_at(ends, x), ends.at(x))
 }
 
 /// Empty rows in the places of these.
-fn empty_spans(alloc: Global, ends: &[u32]) -> Result<Vec<Span>, OutOfMemory>
-    ensures { IfOk result (λ empty. empty.items ≡ emptied_from 0 ends.now) }
+fn empty_spans(alloc: Global, ends: &Offsets, count: usize) -> Result<Spans, OutOfMemory>
+    requires { AreEnds 0 ends.now count }
+    ensures { IfOk result (λ empty. empty ≡ emptied_from 0 ends.now) }
 {
-    let mut empty = Vec::with_capacity(alloc, ends.len())?;
+    let mut empty = Spans::with_room(alloc, ends.len())?;
     let mut from = 0;
-    for end in ends {
+    for x in 0..ends.len() {
+        let limit = ends.at(x);
         empty.push(Span {
             from,
             to: from,
-            limit: *end,
+            limit,
         })?;
-        from = *end;
+        from = limit;
     }
     Ok(empty)
 }
@@ -78,7 +81,7 @@ impl Graph {
         ensures { result ≡ [] }
     {
         Graph {
-            ends: Vec::new(alloc),
+            ends: Offsets::new(alloc),
             reads: Vec::new(alloc),
         }
     }
@@ -87,32 +90,28 @@ impl Graph {
     pub fn with_room(alloc: Global, vertices: usize, reads: usize) -> Result<Graph, OutOfMemory>
         ensures { IfOk result (λ g. g ≡ []) }
     {
-        let ends = Vec::with_capacity(alloc, vertices)?;
+        let ends = Offsets::with_room(alloc, vertices)?;
         let reads = Vec::with_capacity(alloc, reads)?;
         Ok(Graph { ends, reads })
     }
 
     /// How many vertices there are.
-    pub fn count(&self) -> u32
+    pub fn count(&self) -> usize
         ensures { result ≡ length self.now }
     {
-        self.ends.len() as u32
+        self.ends.len()
     }
 
-    /// One more vertex, which reads these. There is room for fewer than 2^32 vertices, which read fewer
-    /// than 2^32 together.
+    /// One more vertex, which reads these.
     pub fn push(&mut self, row: &[u32]) -> Result<(), OutOfMemory>
         ensures { OnOk result (self.new ≡ self.old ++ row.now ∷ []) }
     {
         let from = self.reads.len();
-        if self.ends.len() >= 4294967295 || row.len() >= 4294967296 - from {
-            return Err(OutOfMemory);
-        }
-        self.ends.push((from + row.len()) as u32)?;
-        match self.reads.extend_from_slice(row) {
+        self.reads.extend_from_slice(row)?;
+        match self.ends.push(from + row.len()) {
             Ok(()) => Ok(()),
             Err(_) => {
-                let _ = self.ends.pop();
+                self.reads.truncate(from);
                 Err(OutOfMemory)
             }
         }
@@ -131,7 +130,7 @@ impl Graph {
         ensures rows { IfOk result (λ d. d.rows ≡ replicate (length self.now) []) }
         ensures room { IfOk result (λ d. d.room ≡ map length self.now) }
     {
-        let spans = empty_spans(alloc, &self.ends)?;
+        let spans = empty_spans(alloc, &self.ends, self.reads.len())?;
         let bits = vec![in alloc; false; self.reads.len()]?;
         Ok(Decisions::new(spans, bits))
     }

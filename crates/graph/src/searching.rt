@@ -2,7 +2,7 @@
 //!
 //! A vertex is open while it is on the path, and done once all that it reads is done. What leads to an
 //! open vertex is cut. The order is that in which vertices are done.
-ghost use Rattle.std.specs.Prelude.{◌≡◌, ◌+◌, ◌-◌, ◌<◌, ◌≤◌, ◌++◌, [], ◌∷◌, ℕ, Bool, false, length, map, slice_set, slice_index, slice_index_or, replicate, OnOk, IfOk, IfSome, IsNone};
+ghost use Rattle.std.specs.Prelude.{◌≡◌, ◌+◌, ◌-◌, ◌<◌, ◌≤◌, ◌++◌, [], ◌∷◌, false, length, map, slice_set, slice_index, slice_index_or, replicate, OnOk, IfOk, IfSome, IsNone};
 ghost use Rattle.graph.specs.Rows.{row, IsLast};
 ghost use Rattle.graph.specs.Search.{IsSearched};
 ghost use Rattle.graph.specs.Orders.{IsOrder, IsCycle};
@@ -140,7 +140,7 @@ fn next_read(graph: &Graph, cut: &Decisions, x: u32) -> Option<u32>
 }
 
 /// The search before its first move.
-fn begin(alloc: Global, graph: &Graph, count: u32) -> Result<Walk, OutOfMemory>
+fn begin(alloc: Global, graph: &Graph, count: usize) -> Result<Walk, OutOfMemory>
     requires { count ≡ length graph.now }
     ensures marks { IfOk result (λ walk. walk.marks.items ≡ replicate count Mark.New) }
     ensures cut { IfOk result (λ walk. walk.cut.rows ≡ replicate count []) }
@@ -149,7 +149,7 @@ fn begin(alloc: Global, graph: &Graph, count: u32) -> Result<Walk, OutOfMemory>
     ensures order { IfOk result (λ walk. walk.order.items ≡ []) }
 {
     Ok(Walk {
-        marks: vec![in alloc; Mark::New; count as usize]?,
+        marks: vec![in alloc; Mark::New; count]?,
         cut: graph.undecided(alloc)?,
         path: Vec::new(alloc),
         order: Vec::new(alloc),
@@ -198,10 +198,11 @@ pub(crate) fn search_from(alloc: Global, graph: &Graph, roots: u32) -> Result<Wa
 }
 
 /// A depth-first search with all vertices as roots in ascending order, each following its reads in order.
-pub fn search(alloc: Global, graph: &Graph) -> Result<Searched, OutOfMemory>
+pub fn search(alloc: Global, graph: &Graph, count: u32) -> Result<Searched, OutOfMemory>
+    requires { count ≡ length graph.now }
     ensures { IfOk result (λ s. IsSearched graph.now s.order.items s.cut) }
 {
-    let walked = search_from(alloc, graph, graph.count())?;
+    let walked = search_from(alloc, graph, count)?;
     Ok(Searched {
         order: walked.order,
         cut: walked.cut,

@@ -19,7 +19,8 @@ use Rattle.hierarchy.specs.Faults.{element_fault}
 use Rattle.hierarchy.specs.Ports.{ports_of}
 use Rattle.hierarchy.specs.Private.Walk.{model_at}
 use Rattle.hierarchy.specs.Flat.{no_model}
-use Rattle.hierarchy.specs.Private.Counts.{Use, is_formal, uses_with, fixed_with, uses_to, fixed_to, uses_in, fixed_in, count_at, count_named, IsTold, IsCount, IsOutcome, AreCounted, AreCounts, ArePlaces}
+use Rattle.hierarchy.specs.Private.Counts.{Use, is_formal, uses_with, fixed_with, uses_to, fixed_to, uses_in, fixed_in, IsTold, IsCount, IsOutcome, AreCounted, AreCounts, ArePlaces}
+use Rattle.hierarchy.specs.Private.Entries.{entry_at, entry_named}
 use Rattle.hierarchy.proofs.SoundStatements.{IsSoundPlacing, placing_sound, each_faultless}
 use Rattle.hierarchy.proofs.Moved.{at_model}
 
@@ -49,16 +50,16 @@ unfolding fixed_to uses_to
 to_in library depth y model named = (ap (λ o. option_map_or (λ x. fixed_with (fixed_to library depth) (model_at library x).elements) o 0) named, ap (λ o. option_map_or (λ x. uses_with (is_formal library x) (uses_to library depth) 0 (model_at library x).elements) o []) named)
 
 module _ (library : List PlainModel) (limit : ℕ) (order positions : List ℕ) (counts : List (Option Count)) (sound : IsPlaceable library) (ordered : IsOrder (graph library) order) (places : ArePlaces order positions) (counted : AreCounted library limit order counts) (here : length counts < length order) where
-  placed_outcome : (depth : ℕ) → length counts ≤ depth → (model : List ℕ) (y j : ℕ) → number_named (names_of library) model ≡ Some y → j < length counts → get_or order j 0 ≡ y → IsOutcome limit (count_named (names_of library) positions counts model) (fixed_to library depth model) (uses_to library depth model)
+  placed_outcome : (depth : ℕ) → length counts ≤ depth → (model : List ℕ) (y j : ℕ) → number_named (names_of library) model ≡ Some y → j < length counts → get_or order j 0 ≡ y → IsOutcome limit (entry_named (names_of library) positions counts model) (fixed_to library depth model) (uses_to library depth model)
   placed_outcome zero deep model y j named below at = absurd (omega arith)
   placed_outcome (suc depth) deep model y j named below at =
       let told : IsOutcome limit (get_or counts j None) (fixed_in library depth y) (uses_in library depth y) = subst (λ v. IsOutcome limit (get_or counts j None) (fixed_in library depth v) (uses_in library depth v)) at (counted j depth below (omega arith)) in
       let both = to_in library depth y model named in
       let place : slice_get positions y ≡ Some j = subst (λ v. slice_get positions v ≡ Some j) at (places j (omega arith)) in
-      let found : count_named (names_of library) positions counts model ≡ get_or counts j None = ap (option_and_then (count_at positions counts)) named ∙ ap (option_and_then (λ p. get_or counts p None)) place in
+      let found : entry_named (names_of library) positions counts model ≡ get_or counts j None = ap (option_and_then (entry_at positions counts)) named ∙ ap (option_and_then (λ p. get_or counts p None)) place in
       subst (λ o. IsOutcome limit o (fixed_to library (suc depth) model) (uses_to library (suc depth) model)) (sym found) (subst (λ f. IsOutcome limit (get_or counts j None) f (uses_to library (suc depth) model)) (sym both.0) (subst (λ us. IsOutcome limit (get_or counts j None) (fixed_in library depth y) us) (sym both.1) told))
 
-  pub all_told : (x depth : ℕ) → get_or order (length counts) 0 ≡ x → length counts ≤ depth → All (IsTold limit (count_named (names_of library) positions counts) (fixed_to library depth) (uses_to library depth)) (model_at library x).elements
+  pub all_told : (x depth : ℕ) → get_or order (length counts) 0 ≡ x → length counts ≤ depth → All (IsTold limit (entry_named (names_of library) positions counts) (fixed_to library depth) (uses_to library depth)) (model_at library x).elements
   all_told x depth at deep k d below = by (get_or (model_at library x).elements k d) refl
     where
       within : x < length library
@@ -67,16 +68,16 @@ module _ (library : List PlainModel) (limit : ℕ) (order positions : List ℕ) 
       reached : Reached (graph library) x
       reached = subst (Reached (graph library)) at (ordered.reached (length counts) here)
 
-      placing : (model : List ℕ) (bindings : List (List ℕ × List ℕ)) → get_or (model_at library x).elements k d ≡ Instance model bindings → IsSoundPlacing library model bindings → IsTold limit (count_named (names_of library) positions counts) (fixed_to library depth) (uses_to library depth) (Instance model bindings)
+      placing : (model : List ℕ) (bindings : List (List ℕ × List ℕ)) → get_or (model_at library x).elements k d ≡ Instance model bindings → IsSoundPlacing library model bindings → IsTold limit (entry_named (names_of library) positions counts) (fixed_to library depth) (uses_to library depth) (Instance model bindings)
       placing model bindings is s = go (subst (λ r. Contains r s.number) (sym (row_at library x within)) (placed_there (names_of library) (model_at library x).elements k d model bindings s.number below is s.named))
         where
-          go : Contains (row (graph library) x) s.number → IsTold limit (count_named (names_of library) positions counts) (fixed_to library depth) (uses_to library depth) (Instance model bindings)
+          go : Contains (row (graph library) x) s.number → IsTold limit (entry_named (names_of library) positions counts) (fixed_to library depth) (uses_to library depth) (Instance model bindings)
           go (t, within_row, is_y) = earlier (ordered.after (length counts) t here (subst (λ v. t < length (row (graph library) v)) (sym at) within_row))
             where
-              earlier : (j : ℕ) × (j < length counts) × (get_or order j 0 ≡ get_or (row (graph library) (get_or order (length counts) 0)) t 0) → IsTold limit (count_named (names_of library) positions counts) (fixed_to library depth) (uses_to library depth) (Instance model bindings)
+              earlier : (j : ℕ) × (j < length counts) × (get_or order j 0 ≡ get_or (row (graph library) (get_or order (length counts) 0)) t 0) → IsTold limit (entry_named (names_of library) positions counts) (fixed_to library depth) (uses_to library depth) (Instance model bindings)
               earlier (j, lower, same) = (placed_outcome depth deep model s.number j s.named lower (same ∙ (ap (λ v. get_or (row (graph library) v) t 0) at ∙ (get_or_default (row (graph library) x) t 0 s.number within_row ∙ is_y))), s.apart)
 
-      by : (e : PlainElement) → get_or (model_at library x).elements k d ≡ e → IsTold limit (count_named (names_of library) positions counts) (fixed_to library depth) (uses_to library depth) e
+      by : (e : PlainElement) → get_or (model_at library x).elements k d ≡ e → IsTold limit (entry_named (names_of library) positions counts) (fixed_to library depth) (uses_to library depth) e
       by (Table pins out cover) is = tt
       by (Register pin out control init) is = tt
       by (Instance model bindings) is = placing model bindings is (placing_sound library model bindings (subst (λ e. element_fault (names_of library) (map ports_of library) e ≡ None) is (statements_sound library x sound within reached k d below)))
@@ -94,14 +95,14 @@ module _ (library : List PlainModel) (limit : ℕ) (order positions : List ℕ) 
           (subst (λ v. IsOutcome limit found (fixed_in library depth v) (uses_in library depth v)) (sym (ap (λ p. get_or order p 0) last ∙ at)) told)
 
 -- what the count of one model tells, in the words of the library
-pub model_counted : (models : List BlifModel) (limit : ℕ) (item : BlifModel) (x : ℕ) (found : Option Count) (keys names : List (List ℕ)) (positions : List ℕ) (items counts : List (Option Count)) (depth : ℕ) → names ≡ names_of (map plain_model models) → items ≡ counts → ((name : List ℕ) → is_among keys name ≡ is_formal (map plain_model models) x name) → x < length models → item ≡ get_or models x item → ((fixed : List ℕ → ℕ) (uses : List ℕ → List Use) → All (IsTold limit (count_named names positions items) fixed uses) (plain_model item).elements → IsOutcome limit found (fixed_with fixed (plain_model item).elements) (uses_with (is_among keys) uses 0 (plain_model item).elements)) → All (IsTold limit (count_named (names_of (map plain_model models)) positions counts) (fixed_to (map plain_model models) depth) (uses_to (map plain_model models) depth)) (model_at (map plain_model models) x).elements → IsOutcome limit found (fixed_in (map plain_model models) depth x) (uses_in (map plain_model models) depth x)
+pub model_counted : (models : List BlifModel) (limit : ℕ) (item : BlifModel) (x : ℕ) (found : Option Count) (keys names : List (List ℕ)) (positions : List ℕ) (items counts : List (Option Count)) (depth : ℕ) → names ≡ names_of (map plain_model models) → items ≡ counts → ((name : List ℕ) → is_among keys name ≡ is_formal (map plain_model models) x name) → x < length models → item ≡ get_or models x item → ((fixed : List ℕ → ℕ) (uses : List ℕ → List Use) → All (IsTold limit (entry_named names positions items) fixed uses) (plain_model item).elements → IsOutcome limit found (fixed_with fixed (plain_model item).elements) (uses_with (is_among keys) uses 0 (plain_model item).elements)) → All (IsTold limit (entry_named (names_of (map plain_model models)) positions counts) (fixed_to (map plain_model models) depth) (uses_to (map plain_model models) depth)) (model_at (map plain_model models) x).elements → IsOutcome limit found (fixed_in (map plain_model models) depth x) (uses_in (map plain_model models) depth x)
 model_counted models limit item x found keys names positions items counts depth named same formals below is made told =
     subst (λ m. IsOutcome limit found (fixed_with (fixed_to library depth) m.elements) (uses_with (is_formal library x) (uses_to library depth) 0 m.elements)) (sym at)
     (subst (λ f. IsOutcome limit found (fixed_with (fixed_to library depth) (plain_model item).elements) (uses_with f (uses_to library depth) 0 (plain_model item).elements)) (fun_ext formals)
     (made (fixed_to library depth) (uses_to library depth)
-    (subst (λ m. All (IsTold limit (count_named names positions items) (fixed_to library depth) (uses_to library depth)) m.elements) at
-    (subst (λ ns. All (IsTold limit (count_named ns positions items) (fixed_to library depth) (uses_to library depth)) (model_at library x).elements) (sym named)
-    (subst (λ cs. All (IsTold limit (count_named (names_of library) positions cs) (fixed_to library depth) (uses_to library depth)) (model_at library x).elements) (sym same) told)))))
+    (subst (λ m. All (IsTold limit (entry_named names positions items) (fixed_to library depth) (uses_to library depth)) m.elements) at
+    (subst (λ ns. All (IsTold limit (entry_named ns positions items) (fixed_to library depth) (uses_to library depth)) (model_at library x).elements) (sym named)
+    (subst (λ cs. All (IsTold limit (entry_named (names_of library) positions cs) (fixed_to library depth) (uses_to library depth)) (model_at library x).elements) (sym same) told)))))
   where
     library : List PlainModel
     library = map plain_model models

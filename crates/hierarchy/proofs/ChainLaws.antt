@@ -20,7 +20,8 @@ use Rattle.hierarchy.specs.Private.Texts.{elements_with, elements_to}
 use Rattle.hierarchy.specs.Private.Counts.{control_names, element_names, ArePlaces}
 use Rattle.hierarchy.specs.Private.Links.{IsBare, is_bare_element}
 use Rattle.hierarchy.specs.Private.Walk.{model_at, no_element, placed_element}
-use Rattle.hierarchy.specs.Private.Chains.{nets_in, placed_all, bound_at, IsOnly, IsHandedOn, IsHandedWay, IsWay, AreWays, way_at, way_named}
+use Rattle.hierarchy.specs.Private.Chains.{nets_in, placed_all, bound_at, IsOnly, IsHandedOn, IsHandedWay, IsWay, AreWays}
+use Rattle.hierarchy.specs.Private.Entries.{entry_at, entry_named}
 use Rattle.hierarchy.proofs.Substitutes.{StandFor}
 use Rattle.hierarchy.proofs.AllCounts.{placed_there, row_at}
 use Rattle.hierarchy.proofs.BareLaws.{bare_target}
@@ -208,7 +209,7 @@ module _ (library : List PlainModel) (order : List ℕ) (ordered : IsOrder (grap
             inner : List Level
             inner = record { path = path_of levels ++ step (number + i); bindings = bindings } ∷ levels
 
-    pub handed_way : (positions : List ℕ) (ways : List (Option Way)) (way : Way) → ArePlaces order positions → AreWays library order ways → length ways ≡ place → IsHandedWay (way_named (names_of library) positions ways model) bindings way → IsWay library order place way
+    pub handed_way : (positions : List ℕ) (ways : List (Option Way)) (way : Way) → ArePlaces order positions → AreWays library order ways → length ways ≡ place → IsHandedWay (entry_named (names_of library) positions ways model) bindings way → IsWay library order place way
     handed_way positions ways way places all long handed = by_number (number_named (names_of library) model) refl
       where
         by_way : (y j : ℕ) → number_named (names_of library) model ≡ Some y → j < place → get_or order j 0 ≡ y → (o : Option Way) → get_or ways j None ≡ o → IsHandedWay o bindings way → IsWay library order place way
@@ -218,11 +219,11 @@ module _ (library : List PlainModel) (order : List ℕ) (ordered : IsOrder (grap
         by_place : (y : ℕ) → number_named (names_of library) model ≡ Some y → (j : ℕ) × (j < place) × (get_or order j 0 ≡ y) → IsWay library order place way
         by_place y named (j, lower, at) = by_way y j named lower at (get_or ways j None) refl (subst (λ o. IsHandedWay o bindings way) found handed)
           where
-            found : way_named (names_of library) positions ways model ≡ get_or ways j None
-            found = ap (option_and_then (way_at positions ways)) named ∙ ap (option_and_then (λ p. get_or ways p None)) (subst (λ v. slice_get positions v ≡ Some j) at (places j (omega arith)))
+            found : entry_named (names_of library) positions ways model ≡ get_or ways j None
+            found = ap (option_and_then (entry_at positions ways)) named ∙ ap (option_and_then (λ p. get_or ways p None)) (subst (λ v. slice_get positions v ≡ Some j) at (places j (omega arith)))
 
         by_number : (o : Option ℕ) → number_named (names_of library) model ≡ o → IsWay library order place way
-        by_number None e = absurd (subst (λ o. IsHandedWay o bindings way) (ap (option_and_then (way_at positions ways)) e) handed)
+        by_number None e = absurd (subst (λ o. IsHandedWay o bindings way) (ap (option_and_then (entry_at positions ways)) e) handed)
         by_number (Some y) e = by_place y e (placed_before place i y model bindings here only.within is e)
 
   -- ---- what may stand for a model

@@ -40,10 +40,8 @@ pub mod OneElement
 pub mod Handing
 pub mod Ways
 pub mod StandIns
-pub mod OneFirst
 pub mod DepthLaw
 pub mod OrderOrLoop
-pub mod OneDraftFault
 pub mod OneAnswer
 pub mod Sizing
 pub mod Marks

@@ -22,7 +22,8 @@ use Rattle.hierarchy.specs.Flat.{Level, no_model, main_of, main_level, path_of, 
 use Rattle.hierarchy.specs.Private.Texts.{named as named_net, elements_with, elements_to, flat_elements, flat_model}
 use Rattle.hierarchy.specs.FlatText.{capped, element_length, header_length, text_length}
 use Rattle.hierarchy.specs.Private.Walk.{model_at}
-use Rattle.hierarchy.specs.Private.Counts.{Use, Formal, Own, use_of, placed_use, control_names, uses_with, fixed_with, is_formal, uses_to, fixed_to, uses_in, fixed_in, least, own_length, IsCount, IsOutcome, AreCounted, ArePlaces, count_at}
+use Rattle.hierarchy.specs.Private.Counts.{Use, Formal, Own, use_of, placed_use, control_names, uses_with, fixed_with, is_formal, uses_to, fixed_to, uses_in, fixed_in, least, own_length, IsCount, IsOutcome, AreCounted, ArePlaces}
+use Rattle.hierarchy.specs.Private.Entries.{entry_at}
 use Rattle.hierarchy.proofs.Totals.{first_model}
 use Rattle.hierarchy.proofs.SoundStatements.{IsSoundPlacing, placing_sound}
 use Rattle.hierarchy.proofs.AllCounts.{placed_there, row_at, statements_sound}
@@ -175,16 +176,16 @@ module _ (library : List PlainModel) (order : List ℕ) (sound : IsPlaceable lib
         omega (arith, large, main_length k below at, sum_by-le-sum_by least (use_length (main_level ∷ [])) (uses_in library (length library) 0) (least_below (main_level ∷ [])))
 
   module _ (limit : ℕ) (positions : List ℕ) (counts : List (Option Count)) (counted : AreCounted library limit order counts) (all : length counts ≡ length order) (places : ArePlaces order positions) where
-    found : (k : ℕ) → k < length order → get_or order k 0 ≡ 0 → count_at positions counts 0 ≡ get_or counts k None
+    found : (k : ℕ) → k < length order → get_or order k 0 ≡ 0 → entry_at positions counts 0 ≡ get_or counts k None
     found k below at = ap (option_and_then (λ p. get_or counts p None)) (subst (λ x. slice_get positions x ≡ Some k) at (places k below))
 
-    pub main_counted : (count : Count) (header : ℕ) → count_at positions counts 0 ≡ Some count → header ≡ capped (header_length (main_of library)) → min (header + count.bytes) 18446744073709551615 ≡ capped (text_length (flat_model library))
+    pub main_counted : (count : Count) (header : ℕ) → entry_at positions counts 0 ≡ Some count → header ≡ capped (header_length (main_of library)) → min (header + count.bytes) 18446744073709551615 ≡ capped (text_length (flat_model library))
     main_counted count header is head = go main_place
       where
         go : (k : ℕ) × (k < length order) × (get_or order k 0 ≡ 0) → min (header + count.bytes) 18446744073709551615 ≡ capped (text_length (flat_model library))
         go (k, below, at) = text_counted limit counts counted all k below at count header (sym (found k below at) ∙ is) head
 
-    pub main_large : count_at positions counts 0 ≡ None → limit < text_length (flat_model library)
+    pub main_large : entry_at positions counts 0 ≡ None → limit < text_length (flat_model library)
     main_large is = go main_place
       where
         go : (k : ℕ) × (k < length order) × (get_or order k 0 ≡ 0) → limit < text_length (flat_model library)

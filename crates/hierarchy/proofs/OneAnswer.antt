@@ -6,9 +6,10 @@ use Rattle.std.proofs.lemmas.Bool.{cases_order}
 use Rattle.std.proofs.lemmas.Option.{slice_get_within}
 use Rattle.blif_text.specs.Models.{PlainModel}
 use Rattle.flat_net.specs.Net.{Net}
-use Rattle.flat_net.specs.Faults.{IsFaultOf}
+use Rattle.flat_net.specs.Faults.{IsFaultOf, IsSameFault as SameNetFault, same as same_net, of_tables as loops_of}
 use Rattle.flat_net.specs.declared.fault.NetFault.{NetFault}
 use Rattle.flat_net.specs.declared.fault.NetFault.TheVariants as net
+use Rattle.flat_net.proofs.OneFault.{none_or_one, one_fault as one_net_fault}
 use Rattle.hierarchy.specs.declared.placed.fault.PlacingFault.{PlacingFault}
 use Rattle.hierarchy.specs.declared.placed.fault.PlacingFault.TheVariants as placing
 use Rattle.hierarchy.specs.declared.flat_fault.FlatFault.{FlatFault}
@@ -19,10 +20,9 @@ use Rattle.hierarchy.specs.Flat.{flat_model}
 use Rattle.hierarchy.specs.FlatText.{text_length}
 use Rattle.hierarchy.specs.Clash.{name_clash}
 use Rattle.hierarchy.specs.Drafted.{draft_of}
-use Rattle.hierarchy.specs.Flatten.{IsSound, Fits, IsFlat, IsFlatFault, IsSameFault, same, of_models}
+use Rattle.hierarchy.specs.Flatten.{IsSound, Fits, IsFlat, IsFlatFault, IsSameFault, same, of_models, of_tables}
 use Rattle.hierarchy.specs.Private.Stages.{flat_fault_of}
 use Rattle.hierarchy.proofs.OrderOrLoop.{no_model_loop}
-use Rattle.hierarchy.proofs.OneDraftFault.{none_or_one, one_net_fault}
 
 -- ---- faults of statements and loops of models
 
@@ -45,6 +45,11 @@ module _ (library : List PlainModel) where
 
   looped : (names : List (List ℕ)) → IsRecursive library names → IsSound library → ⊥
   looped names (placeable, (models, loop, is)) sound = no_model_loop (graph library) sound.order models sound.ordered loop
+
+-- the same fault of a draft is the same fault of a library
+of_draft : (f g : NetFault) → SameNetFault f g → IsSameFault (NetOf f) (NetOf g)
+of_draft f g (same_net fault) = same (NetOf fault)
+of_draft f g (loops_of names others) = of_tables names others
 
 -- ---- all faults but want of memory, by what they are faults of
 
@@ -112,7 +117,7 @@ module _ (library : List PlainModel) (limit : ℕ) where
   one_cause f g (design a r t c k x) (models b y) = absurd (looped library b.items y r)
   one_cause f g (design a r t c k x) (length_of s y) = absurd (too_long y t)
   one_cause f g (design a r t c k x) (clash b s u y) = absurd (no_clash b y c)
-  one_cause f g (design a r t c k x) (design b s u e l y) = one_net_fault (draft_of (flat_model library)) a b k l x y
+  one_cause f g (design a r t c k x) (design b s u e l y) = of_draft a b (one_net_fault (draft_of (flat_model library)) a b k l x y)
 
   -- ---- what the definitions determine
 

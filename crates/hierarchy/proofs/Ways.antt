@@ -18,10 +18,11 @@ use Rattle.hierarchy.specs.Graph.{graph, names_of, number_named}
 use Rattle.hierarchy.specs.Found.{IsOrder}
 use Rattle.hierarchy.specs.Flat.{no_model}
 use Rattle.hierarchy.specs.declared.lengths.count.Count.{Count}
-use Rattle.hierarchy.specs.Private.Counts.{ArePlaces, AreCounts, count_at}
+use Rattle.hierarchy.specs.Private.Counts.{ArePlaces, AreCounts}
 use Rattle.hierarchy.specs.Private.Links.{IsBare}
 use Rattle.hierarchy.specs.Private.Walk.{model_at, no_element}
-use Rattle.hierarchy.specs.Private.Chains.{IsOnly, IsHandedWay, IsEndWay, IsWay, AreWays, way_at, way_named, IsOfWay, IsShort}
+use Rattle.hierarchy.specs.Private.Chains.{IsOnly, IsHandedWay, IsEndWay, IsWay, AreWays, IsOfWay, IsShort}
+use Rattle.hierarchy.specs.Private.Entries.{entry_at, entry_named}
 use Rattle.hierarchy.proofs.Substitutes.{StandFor, AreStandIns}
 use Rattle.hierarchy.proofs.Moved.{at_model}
 use Rattle.hierarchy.proofs.OneElement.{element_is}
@@ -39,22 +40,22 @@ module _ (models : List BlifModel) (names : List (List ℕ)) (holds : List Bool)
   elements_are = ap (λ v. (model_at library v).elements) at ∙ (ap (λ m. m.elements) (at_model models x item within is) ∙ ap (map plain_element) (sym are))
 
   -- the way of a model that holds one statement alone
-  pub next_handed : (i : ℕ) (element : Element) (model : List ℕ) (bindings bound : List (List ℕ × List ℕ)) (way : Way) → ArePlaces order positions → AreWays library order ways → IsOnly names holds (map plain_element elements) i → element ≡ get_or item.elements.items i element → plain_element element ≡ Instance model bindings → bound ≡ bindings → IsHandedWay (way_named names positions ways model) bound way → IsWay library order (length ways) way
+  pub next_handed : (i : ℕ) (element : Element) (model : List ℕ) (bindings bound : List (List ℕ × List ℕ)) (way : Way) → ArePlaces order positions → AreWays library order ways → IsOnly names holds (map plain_element elements) i → element ≡ get_or item.elements.items i element → plain_element element ≡ Instance model bindings → bound ≡ bindings → IsHandedWay (entry_named names positions ways model) bound way → IsWay library order (length ways) way
   next_handed i element model bindings bound way places all only at_i instance same h =
       handed_way library order ordered holds bare (length ways) i model bindings here
       (subst (λ es. IsOnly (names_of library) holds es i) (sym elements_are) (subst (λ ns. IsOnly ns holds (map plain_element elements) i) named only))
       (ap (λ es. get_or es i no_element) elements_are ∙ (element_is elements i element here_too (subst (λ es. element ≡ get_or es i element) (sym are) at_i) ∙ instance))
       positions ways way places all refl
-      (subst (λ ns. IsHandedWay (way_named ns positions ways model) bindings way) named (subst (λ b. IsHandedWay (way_named names positions ways model) b way) same h))
+      (subst (λ ns. IsHandedWay (entry_named ns positions ways model) bindings way) named (subst (λ b. IsHandedWay (entry_named names positions ways model) b way) same h))
     where
       here_too : i < length elements
       here_too = let w = only.within in omega (arith, w, length-map elements plain_element)
 
 -- the way of a model at which chains may end
-pub next_end : (models : List BlifModel) (order positions : List ℕ) (counts : List (Option Count)) (place x : ℕ) (way : Way) → IsOrder (graph (map plain_model models)) order → ArePlaces order positions → AreCounts (map plain_model models) order counts → place < length order → get_or order place 0 ≡ x → IsEndWay (count_at positions counts x) x way → IsWay (map plain_model models) order place way
+pub next_end : (models : List BlifModel) (order positions : List ℕ) (counts : List (Option Count)) (place x : ℕ) (way : Way) → IsOrder (graph (map plain_model models)) order → ArePlaces order positions → AreCounts (map plain_model models) order counts → place < length order → get_or order place 0 ≡ x → IsEndWay (entry_at positions counts x) x way → IsWay (map plain_model models) order place way
 next_end models order positions counts place x way ordered places counted here at h = end_is (map plain_model models) order ordered counts place x way counted here at (subst (λ o. IsEndWay o x way) found h)
   where
-    found : count_at positions counts x ≡ get_or counts place None
+    found : entry_at positions counts x ≡ get_or counts place None
     found = ap (option_and_then (λ p. get_or counts p None)) (subst (λ v. slice_get positions v ≡ Some place) at (places place here))
 
 -- one way more
@@ -127,7 +128,7 @@ module _ (library : List PlainModel) (order positions : List ℕ) (ways : List (
   }
 
 -- the statement of a way, in the words of the call
-pub of_way : (names : List (List ℕ)) (positions : List ℕ) (ways : List (Option Way)) (x : ℕ) (way : Way) (name : List ℕ) (nets : List (List ℕ × List ℕ)) (elements : List PlainElement) → Some way ≡ way_at positions ways x → way.base ≢ x → way.base < length names → name ≡ get_or names way.base name → nets ≡ way.nets.items → elements ≡ Instance name nets ∷ [] → IsOfWay names positions ways x elements
+pub of_way : (names : List (List ℕ)) (positions : List ℕ) (ways : List (Option Way)) (x : ℕ) (way : Way) (name : List ℕ) (nets : List (List ℕ × List ℕ)) (elements : List PlainElement) → Some way ≡ entry_at positions ways x → way.base ≢ x → way.base < length names → name ≡ get_or names way.base name → nets ≡ way.nets.items → elements ≡ Instance name nets ∷ [] → IsOfWay names positions ways x elements
 of_way names positions ways x way name nets elements at other below is bound made = record {
   way = way;
   at = sym at;

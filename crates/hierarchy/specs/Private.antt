@@ -9,6 +9,7 @@ pub mod Alone
 pub mod Links
 pub mod Walk
 pub mod Naming
+pub mod Entries
 pub mod Counts
 pub mod Chains
 pub mod Stages

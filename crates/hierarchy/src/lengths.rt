@@ -2,5 +2,6 @@
 
 pub(crate) mod count;
 pub(crate) mod counting;
+pub(crate) mod entries;
 pub(crate) mod flat_text;
 pub(crate) mod placed_text;

@@ -1,10 +1,7 @@
 //! The least depths that a hardened design admits.
-ghost use Rattle.std.specs.Prelude.{◌≡◌, ◌<◌, ◌≤◌, ℕ, List, [], length, map, Some, slice_get, slice_index, IfOk};
-ghost use Rattle.tmr_base.specs.Copies.{Three};
-ghost use Rattle.flat_net.specs.Nodes.{number_of};
+ghost use Rattle.std.specs.Prelude.{◌≡◌, ◌<◌, [], length, IfOk};
 ghost use Rattle.certificate.specs.Cert.{Fits};
 ghost use Rattle.certificate.specs.Rules.{AllHold};
-ghost use Rattle.recovery_depth.specs.Chains.{IsDeep, relabeled, Admits};
 ghost use Rattle.recovery_depth.specs.Least.{AreDeep, AreLeast, AreAdmitted};
 
 use crate::before::registers_before;
@@ -44,7 +41,7 @@ pub fn least(
     let count = nodes_of(h);
     let graph = copy_reads(alloc, n, h, c)?;
     let is_register = register_copies(alloc, n, h, c)?;
-    let order = ordered(alloc, &graph)?;
+    let order = ordered(alloc, &graph, count)?;
     let reaches = reaches_in(alloc, &graph, &is_register, &order, count)?;
     let ranks = ranks(alloc, n, h, c)?;
     let before = registers_before(alloc, &graph, &is_register, &reaches, &order, &ranks, count)?;

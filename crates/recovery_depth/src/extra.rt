@@ -1,5 +1,5 @@
 //! Pins that are voted beside those of a cut, so that no label is above a bound.
-ghost use Rattle.std.specs.Prelude.{◌≡◌, ◌<◌, ◌≤◌, ℕ, false, length, slice_index, IfOk};
+ghost use Rattle.std.specs.Prelude.{◌≡◌, ◌<◌, ℕ, false, length, slice_index, IfOk};
 ghost use Rattle.feedback_cut.specs.Cut.{CutMeets};
 ghost use Rattle.recovery_depth.specs.Extra.{is_extra, AreExtra};
 
@@ -78,7 +78,7 @@ pub fn bound(
     let count = nodes_of(n);
     let rest = uncut_inner(alloc, n, parts, cut)?;
     let is_register = registers(alloc, n)?;
-    let order = ordered(alloc, &rest)?;
+    let order = ordered(alloc, &rest, count)?;
     let found = bounded_labels(alloc, &rest, &is_register, &order, most, count)?;
     let depths = greatest_labels(alloc, parts, &found.labels)?;
     let table = DepthTable::new(found.labels, depths);

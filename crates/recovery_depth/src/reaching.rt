@@ -1,5 +1,5 @@
 //! The most registers of a walk that ends in each vertex.
-ghost use Rattle.std.specs.Prelude.{◌≡◌, ◌<◌, ◌≤◌, ◌+◌, ◌⊎◌, ℕ, length, slice_index_or, slice_set, replicate, IfOk};
+ghost use Rattle.std.specs.Prelude.{◌≡◌, ◌<◌, ◌+◌, ℕ, length, slice_index_or, IfOk};
 ghost use Rattle.graph.specs.Rows.{row};
 ghost use Rattle.recovery_depth.specs.Walks.{is_marked};
 ghost use Rattle.recovery_depth.specs.Private.Vertices.{HasNoLoop, IsOrdered, IsReachIn, one_if};
@@ -76,6 +76,6 @@ pub fn reaches(
     ensures long { IfOk result (λ reaches. length reaches.items ≡ count) }
     ensures each { IfOk result (λ reaches. (x : ℕ) → x < count → IsReachIn graph.now is_register.now x (slice_index_or reaches.items x 0)) }
 {
-    let order = ordered(alloc, graph)?;
+    let order = ordered(alloc, graph, count)?;
     reaches_in(alloc, graph, is_register, order.as_slice(), count)
 }

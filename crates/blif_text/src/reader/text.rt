@@ -143,7 +143,8 @@ fn take_bytes(
 
 /// The library, where no more statements come.
 fn ended(alloc: Global, progress: &mut Progress) -> Result<Library, TextFault>
-    requires { IsSound progress.old }
+    requires sound { IsSound progress.old }
+    requires few { length progress.old.names < 2 ^ 32 }
     ensures { Reads result (reading_in progress.old) }
 {
     if progress.is_empty() {

@@ -1,7 +1,8 @@
 -- Rows that stand side by side in one list.
-use Rattle.std.specs.Prelude.{◌≡◌, ℕ, zero, suc, ◌+◌, ◌-◌, ◌<◌, ◌≤◌, Bool, List, [], ◌∷◌, length, slice_index, slice_range}
+use Rattle.std.specs.Prelude.{◌≡◌, ℕ, zero, suc, ◌+◌, ◌-◌, ◌≤◌, Bool, List, [], ◌∷◌, slice_index, slice_index_or, slice_range}
 use Rattle.smallvec.specs.SmallVec.{SmallVec}
 use Rattle.graph.specs.declared.spans.Span.{Span}
+use Rattle.graph.specs.declared.spans.NarrowSpan.{NarrowSpan}
 
 -- the numbers of a row that stands on its own
 abbrev pub row_items : SmallVec ℕ → List ℕ
@@ -17,12 +18,6 @@ abbrev pub AreEnds : ℕ → List ℕ → ℕ → Type 0
 AreEnds from [] count = from ≡ count
 AreEnds from (end ∷ ends) count = (from ≤ end) × AreEnds end ends count
 
--- rows that end there, so few that 32 bits count them and what stands in them
-pub record AreRows (ends items : List ℕ) : Type 0 where
-  pub ends_are : AreEnds 0 ends (length items)
-  pub few : length ends < 4294967296
-  pub few_items : length items < 4294967296
-
 -- where row x begins
 abbrev pub start_of : ℕ → List ℕ → ℕ → ℕ
 start_of from ends zero = from
@@ -36,6 +31,14 @@ emptied_from from (end ∷ ends) = record { from = from; to = from; limit = end 
 -- the row that stands in the list from `from` to `to`
 abbrev pub span_in : {A : Type 0} → List A → Span → List A
 span_in items s = slice_range items s.from s.to
+
+-- the same span, whatever its numbers are stored in
+abbrev pub widened : NarrowSpan → Span
+widened s = record { from = s.from; to = s.to; limit = s.limit }
+
+-- span x
+abbrev pub span_at : List Span → ℕ → Span
+span_at spans x = slice_index_or spans x (record { from = 0; to = 0; limit = 0 })
 
 -- a row that is one longer
 abbrev pub grown : Span → Span

@@ -5,13 +5,14 @@ use Rattle.std.specs.Option.{is_some}
 use Rattle.blif_text.specs.Kind.{is_among}
 use Rattle.blif_text.specs.Models.{PlainElement, Instance, PlainModel}
 use Rattle.hierarchy.specs.declared.cutting.chains.Way.{Way}
-use Rattle.hierarchy.specs.Graph.{names_of, number_named}
+use Rattle.hierarchy.specs.Graph.{names_of}
 use Rattle.hierarchy.specs.Flat.{Level, NetElement, actual_of}
 use Rattle.hierarchy.specs.Private.Texts.{elements_with, elements_to, flat_model}
 use Rattle.hierarchy.specs.Private.Texts.{name_clash}
 use Rattle.hierarchy.specs.declared.lengths.count.Count.{Count}
 use Rattle.hierarchy.specs.Private.Counts.{element_names, used}
 use Rattle.hierarchy.specs.Private.Links.{is_bare_element}
+use Rattle.hierarchy.specs.Private.Entries.{entry_at}
 use Rattle.hierarchy.specs.Private.Walk.{model_at, no_element, placed_element}
 
 -- the names that stand in tables and registers
@@ -68,17 +69,10 @@ pub record IsWay (library : List PlainModel) (order : List ℕ) (place : ℕ) (w
 abbrev pub AreWays : List PlainModel → List ℕ → List (Option Way) → Type 0
 AreWays library order ways = (place : ℕ) (way : Way) → slice_get ways place ≡ Some (Some way) → IsWay library order place way
 
--- the way of the model of this number, and of that of this name, where there is one
-abbrev pub way_at : List ℕ → List (Option Way) → ℕ → Option Way
-way_at positions ways x = option_and_then (λ place. slice_index_or ways place None) (slice_get positions x)
-
-abbrev pub way_named : List (List ℕ) → List ℕ → List (Option Way) → List ℕ → Option Way
-way_named names positions ways model = option_and_then (way_at positions ways) (number_named names model)
-
 -- these elements are the statement alone of the way of the model with this number, where the models have these names
 pub record IsOfWay (names : List (List ℕ)) (positions : List ℕ) (ways : List (Option Way)) (x : ℕ) (elements : List PlainElement) : Type 0 where
   pub way : Way
-  pub at : way_at positions ways x ≡ Some way
+  pub at : entry_at positions ways x ≡ Some way
   pub other : way.base ≢ x
   pub within : way.base < length names
   pub is : elements ≡ Instance (slice_index_or names way.base []) way.nets.items ∷ []

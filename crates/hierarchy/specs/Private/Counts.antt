@@ -1,6 +1,6 @@
 -- What the flat text of a model costs wherever it is placed, counted model by model. These are for proofs: what the public calls
 -- promise is said of the flat text alone.
-use Rattle.std.specs.Prelude.{◌≡◌, ◌≤◌, ◌<◌, ℕ, zero, suc, ◌+◌, ◌*◌, ◌||◌, Bool, true, false, List, [], ◌∷◌, ◌++◌, length, map, min, sum_by, slice_get, slice_index, slice_index_or, option_and_then, Option, Some, None, if◌then◌else◌}
+use Rattle.std.specs.Prelude.{◌≡◌, ◌≤◌, ◌<◌, ℕ, zero, suc, ◌+◌, ◌*◌, ◌||◌, Bool, true, false, List, [], ◌∷◌, ◌++◌, length, map, min, sum_by, slice_get, slice_index, slice_index_or, Option, Some, None, if◌then◌else◌}
 use Rattle.std.specs.Option.{option_map_or}
 use Rattle.std.specs.Str.{bytes_eq}
 use Rattle.tmr_base.specs.declared.ids.Edge.{Edge}
@@ -202,13 +202,6 @@ pub record IsGrown (old new : Count) (nets more : ℕ) : Type 0 where
 abbrev pub AreApart : List (List ℕ × List ℕ) → Type 0
 AreApart [] = Unit {0}
 AreApart (b ∷ bindings) = (is_among (map formal_of bindings) b.0 ≡ false) × AreApart bindings
-
--- the count of the model of this number, and of that of this name, where there is one
-abbrev pub count_at : List ℕ → List (Option Count) → ℕ → Option Count
-count_at positions counts x = option_and_then (λ place. slice_index_or counts place None) (slice_get positions x)
-
-abbrev pub count_named : List (List ℕ) → List ℕ → List (Option Count) → List ℕ → Option Count
-count_named names positions counts model = option_and_then (count_at positions counts) (number_named names model)
 
 -- the count of a placed model is that of its nets and bytes
 abbrev pub IsTold : ℕ → (List ℕ → Option Count) → (List ℕ → ℕ) → (List ℕ → List Use) → PlainElement → Type 0

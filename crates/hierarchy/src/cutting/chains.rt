@@ -6,7 +6,7 @@
 //!
 //! Any model may be an end whose flat elements stand on its formals alone. Where a model binds few names and the
 //! statement would bind many, or long ones, the model is an end itself, with the few names.
-ghost use Rattle.std.specs.Prelude.{◌≡◌, ◌≢◌, ◌<◌, ℕ, List, true, false, Some, length, map, slice_index, slice_index_or, option_copied, IfOk, IfSome};
+ghost use Rattle.std.specs.Prelude.{◌≡◌, ◌≢◌, ◌<◌, ℕ, List, true, false, Some, length, map, slice_index, slice_index_or, IfOk, IfSome};
 ghost use Rattle.std.specs.Str.{bytes_eq};
 ghost use Rattle.indexmap.specs.IndexMap.{get};
 ghost use Rattle.blif_text.specs.Kind.{is_among};
@@ -14,13 +14,15 @@ ghost use Rattle.blif_text.specs.Views.{plain_model, plain_element};
 ghost use Rattle.hierarchy.specs.Graph.{names_of, graph};
 ghost use Rattle.hierarchy.specs.Found.{IsOrder};
 ghost use Rattle.hierarchy.specs.Flat.{actual_of};
-ghost use Rattle.hierarchy.specs.Private.Counts.{ArePlaces, AreCounts, used, count_at as count_at_number};
+ghost use Rattle.hierarchy.specs.Private.Counts.{ArePlaces, AreCounts, used};
+ghost use Rattle.hierarchy.specs.Private.Entries.{entry_at as entry_at_number, entry_named};
 ghost use Rattle.hierarchy.specs.Private.Links.{IsBare};
 ghost use Rattle.hierarchy.specs.Private.Walk.{model_at};
-ghost use Rattle.hierarchy.specs.Private.Chains.{IsHandedOn, IsHandedWay, IsEndWay, IsOnly, IsWay, AreWays, way_at as way_at_number, way_named};
+ghost use Rattle.hierarchy.specs.Private.Chains.{IsHandedOn, IsHandedWay, IsEndWay, IsOnly, IsWay, AreWays};
 
 use crate::cutting::bare::is_bare;
-use crate::lengths::count::{Count, count_at, times_used};
+use crate::lengths::count::{Count, times_used};
+use crate::lengths::entries::{entry_at, entry_of};
 use crate::walking::links::bind_actuals;
 use blif_text::{BlifModel, Element};
 use indexmap::{IndexMap, IndexSet};
@@ -39,28 +41,6 @@ pub struct Way {
     pub(crate) base: usize,
     pub(crate) nets: Vec<(Name, Name)>,
     pub(crate) length: usize,
-}
-
-/// The way of the model of this number.
-pub(crate) fn way_at<'a>(positions: &[usize], ways: &'a [Option<Way>], x: usize) -> Option<&'a Way>
-    ensures { option_copied result ≡ way_at_number positions.now ways.now x }
-{
-    let place = positions.get(x)?;
-    ways.get(*place)?.as_ref()
-}
-
-/// The way of the model of this name.
-#[tactic(auto, unfolding(crate::specs::Graph::number_named))]
-pub(crate) fn way_of<'a>(
-    names: &IndexSet<Name>,
-    positions: &[usize],
-    ways: &'a [Option<Way>],
-    model: &Name,
-) -> Option<&'a Way>
-    ensures { option_copied result ≡ way_named names.now.keys positions.now ways.now model.now }
-{
-    let y = names.get_index_of(model)?;
-    way_at(positions, ways, y)
 }
 
 /// The place of the only element that is not bare.
@@ -118,9 +98,9 @@ fn end_way(
     counts: &[Option<Count>],
     x: usize,
 ) -> Result<Option<Way>, OutOfMemory>
-    ensures { IfOk result (λ found. IfSome found (λ way. IsEndWay (count_at_number positions.now counts.now x) x way)) }
+    ensures { IfOk result (λ found. IfSome found (λ way. IsEndWay (entry_at_number positions.now counts.now x) x way)) }
 {
-    let Some(count) = count_at(positions, counts, x) else {
+    let Some(count) = entry_at(positions, counts, x) else {
         return Ok(None);
     };
     if count.places > 0 || !matches!(ends.get(x), Some(true)) {
@@ -198,9 +178,9 @@ fn handed_way(
     model: &Name,
     bindings: &[(Name, Name)],
 ) -> Result<Option<Way>, OutOfMemory>
-    ensures { IfOk result (λ found. IfSome found (λ way. IsHandedWay (way_named names.now.keys positions.now ways.now model.now) bindings.now way)) }
+    ensures { IfOk result (λ found. IfSome found (λ way. IsHandedWay (entry_named names.now.keys positions.now ways.now model.now) bindings.now way)) }
 {
-    let Some(placed) = way_of(names, positions, ways, model) else {
+    let Some(placed) = entry_of(names, positions, ways, model) else {
         return Ok(None);
     };
     match handed_on(alloc, &placed.nets, bindings)? {

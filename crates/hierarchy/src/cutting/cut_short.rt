@@ -1,6 +1,6 @@
 //! A library with the same flat elements, in which long chains of models that only hand their nets on are cut
 //! short: no walk then goes through such a chain each time that it is placed.
-ghost use Rattle.std.specs.Prelude.{◌≡◌, ◌<◌, ◌≤◌, ◌∷◌, [], ℕ, map, length, IfOk, IfSome};
+ghost use Rattle.std.specs.Prelude.{◌≡◌, ◌<◌, ◌∷◌, [], ℕ, map, length, IfOk, IfSome};
 ghost use Rattle.blif_text.specs.Views.{plain_model, plain_element};
 ghost use Rattle.blif_text.specs.Models.{Instance};
 ghost use Rattle.hierarchy.specs.Graph.{names_of, graph};
@@ -12,10 +12,11 @@ ghost use Rattle.hierarchy.specs.Private.Chains.{AreWays, IsOfWay, IsShort, IsSa
 ghost use Rattle.blif_text.specs.Library.{IsLibrary};
 
 use crate::cutting::bare::filled_models;
-use crate::cutting::chains::{Way, all_ways, way_at};
+use crate::cutting::chains::{Way, all_ways};
 use crate::cutting::heads::{end_models, head_models};
 use crate::design::copies::copy_bindings;
 use crate::lengths::count::Count;
+use crate::lengths::entries::entry_at;
 use blif_text::{BlifModel, Element};
 use indexmap::IndexSet;
 use std::alloc::Global;
@@ -48,7 +49,7 @@ fn way_statement(
     ensures { IfOk result (λ found. IfSome found (λ elements. IsOfWay names.now positions.now ways.now x (map plain_element elements.items))) }
 {
     if matches!(heads.get(x), Some(true)) {
-        if let Some(way) = way_at(positions, ways, x) {
+        if let Some(way) = entry_at(positions, ways, x) {
             if way.base != x && way.base < names.len() {
                 let elements = lone_statement(alloc, &names[way.base], &way.nets)?;
                 return Ok(Some(elements));

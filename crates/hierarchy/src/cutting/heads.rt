@@ -1,8 +1,9 @@
 //! Which models are worth to be cut short. Only the time that a walk takes hangs on this, so no clause
 //! speaks of it.
 
-use crate::cutting::chains::{Way, only_filled, way_at, way_of};
-use crate::lengths::count::{Count, count_at};
+use crate::cutting::chains::{Way, only_filled};
+use crate::lengths::count::Count;
+use crate::lengths::entries::{entry_at, entry_of};
 use blif_text::{BlifModel, Element};
 use indexmap::IndexSet;
 use std::alloc::{AllocError, Global};
@@ -22,7 +23,7 @@ fn only_placed(names: &IndexSet<Name>, holds: &[bool], elements: &[Element]) -> 
 
 /// No net of the model's own stands in it.
 fn is_open(positions: &[usize], counts: &[Option<Count>], x: usize) -> bool {
-    match count_at(positions, counts, x) {
+    match entry_at(positions, counts, x) {
         Some(count) => count.places == 0,
         None => false,
     }
@@ -72,7 +73,7 @@ fn mark_placed(
         if let Element::Instance { model, .. } = element {
             if let (Some(y), Some(way)) = (
                 names.get_index_of(model),
-                way_of(names, positions, ways, model),
+                entry_of(names, positions, ways, model),
             ) {
                 if y < heads.len() && way.length >= LONG {
                     heads[y] = true;
@@ -97,7 +98,7 @@ pub(crate) fn head_models(
     let mut some = false;
     for x in order {
         if *x < models.len() {
-            match way_at(positions, ways, *x) {
+            match entry_at(positions, ways, *x) {
                 Some(way) if way.base != *x => {
                     if *x == 0 && way.length >= LONG {
                         heads[*x] = true;

@@ -2,14 +2,16 @@
 //!
 //! It is counted once for a model, however often the model is placed: bytes, nets whose text begins with
 //! the model's own path, and how often each of its formals stands, which goes by what it is bound to.
-ghost use Rattle.std.specs.Prelude.{◌≡◌, ◌≤◌, ◌<◌, ◌+◌, ◌*◌, ℕ, List, Some, [], ◌∷◌, ◌++◌, length, map, sum_by, option_copied, All, IfOk, OnOk};
+ghost use Rattle.std.specs.Prelude.{◌≡◌, ◌≤◌, ◌<◌, ◌+◌, ◌*◌, ℕ, List, Some, [], ◌∷◌, ◌++◌, length, map, sum_by, All, IfOk, OnOk};
 ghost use Rattle.blif_text.specs.Kind.{is_among};
 ghost use Rattle.blif_text.specs.Views.{plain_element, plain_model};
-ghost use Rattle.blif_text.specs.Models.{Table, Register};
+ghost use Rattle.blif_text.specs.Models.{Table};
 ghost use Rattle.hierarchy.specs.Graph.{number_named};
 ghost use Rattle.hierarchy.specs.FlatText.{capped, rows_length as length_of_rows};
-ghost use Rattle.hierarchy.specs.Private.Counts.{Use, Formal, Own, use_of, placed_use, control_names, control_fixed, element_names, element_fixed, limited, used, IsShaped, IsCount, Adds, IsGrown, IsTold, IsAdded, IsOutcome, AreApart, count_at as count_at_number, KeepsFormals, IsEmptyCount, number_after, count_named, fixed_with, uses_with, times_of, sum_of, bound_of};
+ghost use Rattle.hierarchy.specs.Private.Counts.{Use, Formal, Own, use_of, placed_use, control_names, control_fixed, limited, used, IsShaped, IsCount, Adds, IsGrown, IsTold, IsAdded, IsOutcome, AreApart, KeepsFormals, IsEmptyCount, number_after, fixed_with, uses_with, times_of, sum_of, bound_of};
+ghost use Rattle.hierarchy.specs.Private.Entries.{entry_named};
 
+use crate::lengths::entries::entry_of;
 use crate::lengths::flat_text::{rows_length, spaced_name};
 use crate::walking::walk::step_text;
 use blif_text::{BlifModel, Element};
@@ -196,32 +198,6 @@ fn add_placed(
     Ok(())
 }
 
-/// The count of the model of this number.
-pub(crate) fn count_at<'a>(
-    positions: &[usize],
-    counts: &'a [Option<Count>],
-    x: usize,
-) -> Option<&'a Count>
-    ensures { option_copied result ≡ count_at_number positions.now counts.now x }
-{
-    let place = positions.get(x)?;
-    counts.get(*place)?.as_ref()
-}
-
-/// The count of the model of this name.
-#[tactic(auto, unfolding(crate::specs::Graph::number_named))]
-pub(crate) fn count_of<'a>(
-    names: &IndexSet<Name>,
-    positions: &[usize],
-    counts: &'a [Option<Count>],
-    model: &Name,
-) -> Option<&'a Count>
-    ensures { option_copied result ≡ count_named names.now.keys positions.now counts.now model.now }
-{
-    let y = names.get_index_of(model)?;
-    count_at(positions, counts, y)
-}
-
 /// The nets and the bytes of the flat elements of a statement, of which a `.subckt` has this number. The
 /// answer is false where a model is placed whose text is longer than the limit.
 fn add_element(
@@ -235,7 +211,7 @@ fn add_element(
 ) -> Result<bool, AllocError>
     requires { IsShaped count.old }
     ensures kept { OnOk result (KeepsFormals count.old count.new) }
-    ensures adds { IfOk result (λ fit. (limit : ℕ) (fixed : List ℕ → ℕ) (uses : List ℕ → List Use) → IsTold limit (count_named names.now.keys positions.now counts.now) fixed uses (plain_element element.now) → IsAdded limit fit count.old count.new (fixed_with fixed (plain_element element.now ∷ [])) (uses_with (is_among count.old.formals.keys) uses number (plain_element element.now ∷ []))) }
+    ensures adds { IfOk result (λ fit. (limit : ℕ) (fixed : List ℕ → ℕ) (uses : List ℕ → List Use) → IsTold limit (entry_named names.now.keys positions.now counts.now) fixed uses (plain_element element.now) → IsAdded limit fit count.old count.new (fixed_with fixed (plain_element element.now ∷ [])) (uses_with (is_among count.old.formals.keys) uses number (plain_element element.now ∷ []))) }
 {
     match element {
         Element::Table { pins, out, cover } => {
@@ -252,7 +228,7 @@ fn add_element(
             Ok(true)
         }
         Element::Instance { model, bindings } => {
-            match count_of(names, positions, counts, model) {
+            match entry_of(names, positions, counts, model) {
                 Some(placed) => {
                     add_placed(alloc, count, placed, number, bindings)?;
                     Ok(true)
@@ -285,7 +261,7 @@ fn add_elements(
     elements: &[Element],
 ) -> Result<bool, AllocError>
     requires { IsShaped count.old }
-    ensures { IfOk result (λ fit. (limit : ℕ) (fixed : List ℕ → ℕ) (uses : List ℕ → List Use) → All (IsTold limit (count_named names.now.keys positions.now counts.now) fixed uses) (map plain_element elements.now) → IsAdded limit fit count.old count.new (fixed_with fixed (map plain_element elements.now)) (uses_with (is_among count.old.formals.keys) uses 0 (map plain_element elements.now))) }
+    ensures { IfOk result (λ fit. (limit : ℕ) (fixed : List ℕ → ℕ) (uses : List ℕ → List Use) → All (IsTold limit (entry_named names.now.keys positions.now counts.now) fixed uses) (map plain_element elements.now) → IsAdded limit fit count.old count.new (fixed_with fixed (map plain_element elements.now)) (uses_with (is_among count.old.formals.keys) uses 0 (map plain_element elements.now))) }
 {
     let mut number = 0;
     for element in elements {
@@ -324,7 +300,7 @@ pub(crate) fn count_model(
     limit: u64,
 ) -> Result<Option<Count>, AllocError>
     requires { limit ≤ 1073741824 }
-    ensures { IfOk result (λ found. (fixed : List ℕ → ℕ) (uses : List ℕ → List Use) → All (IsTold limit (count_named names.now.keys positions.now counts.now) fixed uses) (plain_model model.now).elements → IsOutcome limit found (fixed_with fixed (plain_model model.now).elements) (uses_with (is_among formals.keys) uses 0 (plain_model model.now).elements)) }
+    ensures { IfOk result (λ found. (fixed : List ℕ → ℕ) (uses : List ℕ → List Use) → All (IsTold limit (entry_named names.now.keys positions.now counts.now) fixed uses) (plain_model model.now).elements → IsOutcome limit found (fixed_with fixed (plain_model model.now).elements) (uses_with (is_among formals.keys) uses 0 (plain_model model.now).elements)) }
 {
     let mut count = empty_count(alloc, formals)?;
     if !add_elements(alloc, names, positions, counts, &mut count, &model.elements)? {

@@ -8,7 +8,8 @@ ghost use Rattle.hierarchy.specs.Private.Counts.{AreCounted, ArePlaces};
 ghost use Rattle.hierarchy.specs.Flat.{flat_model};
 ghost use Rattle.hierarchy.specs.FlatText.{capped, text_length as length_of_text, header_length as length_of_header};
 
-use crate::lengths::count::{Count, count_at};
+use crate::lengths::count::Count;
+use crate::lengths::entries::entry_at;
 use crate::lengths::flat_text::{spaced_name, spaced_names};
 use blif_text::BlifModel;
 
@@ -41,7 +42,7 @@ pub(crate) fn fits(
     ensures yes { result ≡ true → length_of_text (flat_model (map plain_model models.now)) ≤ limit }
     ensures no { result ≡ false → limit < length_of_text (flat_model (map plain_model models.now)) }
 {
-    match count_at(positions, counts, 0) {
+    match entry_at(positions, counts, 0) {
         Some(count) => {
             let total = header_length(&models[0]).saturating_add(count.bytes);
             total <= limit

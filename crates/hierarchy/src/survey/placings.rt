@@ -30,18 +30,16 @@ fn placed_models(
     Ok(row)
 }
 
-/// Which model places which. There is room for fewer than 2^32 models.
+/// Which model places which.
 pub(crate) fn graph_of(
     alloc: Global,
     names: &IndexSet<Name>,
     models: &[BlifModel],
 ) -> Result<Graph, OutOfMemory>
-    requires { names.now.keys ≡ names_of (map plain_model models.now) }
+    requires names { names.now.keys ≡ names_of (map plain_model models.now) }
+    requires few { length models.now < 4294967296 }
     ensures { IfOk result (λ g. g ≡ graph_in (map plain_model models.now)) }
 {
-    if names.len() >= 4294967296 {
-        return Err(OutOfMemory);
-    }
     let mut graph = Graph::new(alloc);
     for model in models {
         let row = placed_models(alloc, names, &model.elements)?;

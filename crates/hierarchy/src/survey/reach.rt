@@ -1,5 +1,5 @@
 //! The models that the main model reaches.
-ghost use Rattle.std.specs.Prelude.{◌≡◌, ◌↔◌, ◌<◌, ℕ, true, length, IfOk, OnOk, Contains, nat_eq};
+ghost use Rattle.std.specs.Prelude.{◌≡◌, ◌↔◌, ◌<◌, ℕ, true, length, IfOk, OnOk, nat_eq};
 ghost use Rattle.std.specs.List.{list_any};
 ghost use Rattle.hierarchy.specs.Graph.{Reached};
 ghost use Rattle.hierarchy.specs.Private.Growth.{Gains};
@@ -24,9 +24,9 @@ fn add_all(reached: &mut IndexSet<usize>, row: &[u32]) -> Result<(), OutOfMemory
 pub(crate) fn reached_models(alloc: Global, graph: &Graph) -> Result<IndexSet<usize>, OutOfMemory>
     requires some { 0 < length graph.now }
     requires within { AreWithin graph.now }
+    requires few { length graph.now < 4294967296 }
     ensures { IfOk result (λ reached. (x : ℕ) → (list_any (nat_eq x) reached.keys ≡ true) ↔ Reached graph.now x) }
 {
-    let _count = graph.count();
     let mut reached = IndexSet::new(alloc);
     reached.insert(0)?;
     let mut at = 0;

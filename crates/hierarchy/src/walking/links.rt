@@ -1,14 +1,15 @@
 //! The statements of a library made ready to be followed: what each places, and what it binds, by name.
-ghost use Rattle.std.specs.Prelude.{◌≡◌, ℕ, List, map, option_copied, IfOk, OnOk, IfSome, Some, None, if◌then◌else◌};
+ghost use Rattle.std.specs.Prelude.{◌≡◌, ℕ, List, map, option_copied, IfOk, OnOk, Some, None, if◌then◌else◌};
 ghost use Rattle.std.specs.Str.{bytes_eq};
 ghost use Rattle.std.specs.Option.{option_or};
 ghost use Rattle.indexmap.specs.IndexMap.{get};
 ghost use Rattle.blif_text.specs.Views.{plain_model, plain_element};
-ghost use Rattle.hierarchy.specs.Graph.{number_named, names_of};
+ghost use Rattle.hierarchy.specs.Graph.{number_named};
 ghost use Rattle.hierarchy.specs.Flat.{actual_of};
 ghost use Rattle.hierarchy.specs.Private.Links.{filled, bindings_of, Binds, IsLink, AreLinks, AreRows};
 
-use crate::lengths::count::{Count, count_of, times_used};
+use crate::lengths::count::{Count, times_used};
+use crate::lengths::entries::entry_of;
 use blif_text::{BlifModel, Element};
 use indexmap::{IndexMap, IndexSet};
 use std::alloc::{AllocError, Global};
@@ -161,7 +162,7 @@ fn link_of(
         Element::Instance { model, bindings } => {
             let actuals = many_actuals(alloc, bindings)?;
             let asked = match is_branching(names, branching, model) {
-                true => asked_formals(alloc, bindings, count_of(names, positions, counts, model))?,
+                true => asked_formals(alloc, bindings, entry_of(names, positions, counts, model))?,
                 false => Vec::new(alloc),
             };
             Ok(Link {

@@ -13,8 +13,11 @@ use Rattle.recovery_depth.proofs.CopyLaws.{copied_long}
 use Rattle.recovery_depth.proofs.CopyOrder.{no_copy_loop}
 use Rattle.recovery_depth.proofs.deepest.least.Goals as goal
 
-pub ordered-requires : goal.ordered-requires
-ordered-requires c = subst HasNoLoop (sym c.in_ok-graph.ensures) (no_copy_loop c.args.n.now.net c.args.h.now.net c.args.c.now c.args.h.now.order c.requires.fits c.nodes_of-count.ensures.design.order (λ g. (c.requires.corresponds 6 g).labels refl))
+pub ordered-requires-clause-open_ended : goal.ordered-requires-clause-open_ended
+ordered-requires-clause-open_ended c = subst HasNoLoop (sym c.in_ok-graph.ensures) (no_copy_loop c.args.n.now.net c.args.h.now.net c.args.c.now c.args.h.now.order c.requires.fits c.nodes_of-count.ensures.design.order (λ g. (c.requires.corresponds 6 g).labels refl))
+
+pub ordered-requires-clause-count : goal.ordered-requires-clause-count
+ordered-requires-clause-count c = c.nodes_of-count.ensures.count ∙ sym (ap length c.in_ok-graph.ensures ∙ copied_long c.args.n.now.net c.args.h.now.net c.args.c.now c.requires.fits)
 
 pub reaches_in-requires-clause-count : goal.reaches_in-requires-clause-count
 reaches_in-requires-clause-count c = c.nodes_of-count.ensures.count ∙ sym (ap length c.in_ok-graph.ensures ∙ copied_long c.args.n.now.net c.args.h.now.net c.args.c.now c.requires.fits)

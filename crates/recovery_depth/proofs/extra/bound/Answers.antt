@@ -9,6 +9,9 @@ use Rattle.recovery_depth.specs.Extra.{AreExtra}
 use Rattle.recovery_depth.proofs.ExtraLaws.{are_extra, none_extra}
 use Rattle.recovery_depth.proofs.extra.bound.Goals as goal
 
+pub ordered-requires-clause-count : goal.ordered-requires-clause-count
+ordered-requires-clause-count c = c.nodes_of-count.ensures.count ∙ sym c.in_ok-rest.ensures.nodes
+
 pub bounded_labels-requires-clause-count : goal.bounded_labels-requires-clause-count
 bounded_labels-requires-clause-count c = c.nodes_of-count.ensures.count ∙ sym c.in_ok-rest.ensures.nodes
 

@@ -4,4 +4,4 @@ use Rattle.blif_text.proofs.Sound.{sound_library}
 use Rattle.blif_text.proofs.reader.text.ended.Goals as goal
 
 pub new-requires : goal.new-requires
-new-requires c = sound_library c.args.progress.now (map plain_model c.in-Ok.models.items) c.is_empty.result c.requires c.in-Ok.ensures c.is_empty.ensures c.if-is_empty.false
+new-requires c = sound_library c.args.progress.now (map plain_model c.in-Ok.models.items) c.is_empty.result c.requires.sound c.requires.few c.in-Ok.ensures c.is_empty.ensures c.if-is_empty.false

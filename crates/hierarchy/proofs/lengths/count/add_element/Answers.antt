@@ -6,7 +6,8 @@ use Rattle.blif_text.specs.Kind.{is_among}
 use Rattle.blif_text.specs.Models.{Instance}
 use Rattle.blif_text.specs.Views.{plain_element}
 use Rattle.hierarchy.specs.FlatText.{rows_length}
-use Rattle.hierarchy.specs.Private.Counts.{use_of, placed_use, least, Adds, sum_of, fixed_with, uses_with, IsTold, IsOutcome, IsCount, AreApart, count_named}
+use Rattle.hierarchy.specs.Private.Counts.{use_of, placed_use, least, Adds, sum_of, fixed_with, uses_with, IsTold, IsOutcome, IsCount, AreApart}
+use Rattle.hierarchy.specs.Private.Entries.{entry_named}
 use Rattle.hierarchy.proofs.ElementCounts.{table_added, latch_added, instance_added, large_instance}
 use Rattle.hierarchy.proofs.lengths.count.add_element.Goals as goal
 
@@ -21,8 +22,8 @@ returns-in-Latch-clause-adds c = λ limit fixed uses told. subst (λ (e : Elemen
 
 pub returns-in_ok-add_placed-in-Some-clause-adds : goal.returns-in_ok-add_placed-in-Some-clause-adds
 returns-in_ok-add_placed-in-Some-clause-adds c = λ limit fixed uses told.
-    let here : IsTold limit (count_named c.args.names.now.keys c.args.positions.now c.args.counts.now) fixed uses (Instance c.in-Instance.model c.in-Instance.bindings.items) = subst (λ (e : Element). IsTold limit (count_named c.args.names.now.keys c.args.positions.now c.args.counts.now) fixed uses (plain_element e)) c.in-Instance.is told in
-    let count : IsCount c.in-Some.placed.now (fixed c.in-Instance.model) (uses c.in-Instance.model) = subst (λ o. IsOutcome limit o (fixed c.in-Instance.model) (uses c.in-Instance.model)) (sym c.count_of.ensures ∙ ap option_copied c.in-Some.is) here.0 in
+    let here : IsTold limit (entry_named c.args.names.now.keys c.args.positions.now c.args.counts.now) fixed uses (Instance c.in-Instance.model c.in-Instance.bindings.items) = subst (λ (e : Element). IsTold limit (entry_named c.args.names.now.keys c.args.positions.now c.args.counts.now) fixed uses (plain_element e)) c.in-Instance.is told in
+    let count : IsCount c.in-Some.placed.now (fixed c.in-Instance.model) (uses c.in-Instance.model) = subst (λ o. IsOutcome limit o (fixed c.in-Instance.model) (uses c.in-Instance.model)) (sym c.entry_of.ensures ∙ ap option_copied c.in-Some.is) here.0 in
     let added : Adds c.args.count.now c.add_placed.new.count (fixed c.in-Instance.model) (sum_of (map (placed_use (is_among c.args.count.now.formals.keys) c.args.number c.deref-in-Some.result.now) (uses c.in-Instance.model))) = c.in_ok-add_placed-in-Some.ensures.adds (subst AreApart (sym c.deref-in-Some.ensures.value) here.1) (fixed c.in-Instance.model) (uses c.in-Instance.model) count in
     let same : Adds c.args.count.now c.add_placed.new.count (fixed c.in-Instance.model) (sum_of (map (placed_use (is_among c.args.count.now.formals.keys) c.args.number c.in-Instance.bindings.items) (uses c.in-Instance.model))) = subst (λ (bs : List (List ℕ × List ℕ)). Adds c.args.count.now c.add_placed.new.count (fixed c.in-Instance.model) (sum_of (map (placed_use (is_among c.args.count.now.formals.keys) c.args.number bs) (uses c.in-Instance.model)))) c.deref-in-Some.ensures.value added in
     subst (λ (e : Element). Adds c.args.count.now c.add_placed.new.count (fixed_with fixed (plain_element e ∷ [])) (sum_of (uses_with (is_among c.args.count.now.formals.keys) uses c.args.number (plain_element e ∷ [])))) (sym c.in-Instance.is)
@@ -30,7 +31,7 @@ returns-in_ok-add_placed-in-Some-clause-adds c = λ limit fixed uses told.
 
 pub returns-in-None-clause-adds : goal.returns-in-None-clause-adds
 returns-in-None-clause-adds c = λ limit fixed uses told.
-    let here : IsTold limit (count_named c.args.names.now.keys c.args.positions.now c.args.counts.now) fixed uses (Instance c.in-Instance.model c.in-Instance.bindings.items) = subst (λ (e : Element). IsTold limit (count_named c.args.names.now.keys c.args.positions.now c.args.counts.now) fixed uses (plain_element e)) c.in-Instance.is told in
-    let large : limit < fixed c.in-Instance.model + sum_by least (uses c.in-Instance.model) = subst (λ o. IsOutcome limit o (fixed c.in-Instance.model) (uses c.in-Instance.model)) (sym c.count_of.ensures ∙ ap option_copied c.in-None.is) here.0 in
+    let here : IsTold limit (entry_named c.args.names.now.keys c.args.positions.now c.args.counts.now) fixed uses (Instance c.in-Instance.model c.in-Instance.bindings.items) = subst (λ (e : Element). IsTold limit (entry_named c.args.names.now.keys c.args.positions.now c.args.counts.now) fixed uses (plain_element e)) c.in-Instance.is told in
+    let large : limit < fixed c.in-Instance.model + sum_by least (uses c.in-Instance.model) = subst (λ o. IsOutcome limit o (fixed c.in-Instance.model) (uses c.in-Instance.model)) (sym c.entry_of.ensures ∙ ap option_copied c.in-None.is) here.0 in
     subst (λ (e : Element). limit < fixed_with fixed (plain_element e ∷ []) + sum_by least (uses_with (is_among c.args.count.now.formals.keys) uses c.args.number (plain_element e ∷ []))) (sym c.in-Instance.is)
     (large_instance (is_among c.args.count.now.formals.keys) limit c.in-Instance.model c.in-Instance.bindings.items fixed uses c.args.number large)
