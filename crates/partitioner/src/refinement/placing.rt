@@ -244,15 +244,13 @@ pub fn place_of(
 {
     let start = part_of(n, p, i);
     begin(gains, p.count);
+    count_gains(n, p, gains, i);
     let lead = Lead {
         place: start,
         loss: loss_up_to(n, p, gains, i, start, false, u64::MAX),
     };
     if is_settled(lead, start, 0) {
         return start;
-    }
-    if lead.loss > 8 {
-        count_gains(n, p, gains, i);
     }
     best_place(n, p, spots, gains, size, i, lead)
 }
