@@ -12,13 +12,13 @@ use Rattle.flat_net.proofs.Ranges.{pins_few}
 use Rattle.graph.specs.Rows.{row}
 use Rattle.feedback_cut.specs.Inner.{ReadsInside, inner_rows}
 use Rattle.feedback_cut.specs.Cut.{is_cut, ReadsUncut, CutMeets}
-use Rattle.graph.specs.Search.{Kept}
+use Rattle.graph.specs.Search.{Kept, IsSearched}
 use Rattle.graph.proofs.Places.{leads_map}
 use Rattle.feedback_cut.proofs.InnerLaws.{inner_long, inner_pins, read_from, read_to}
 use Rattle.feedback_cut.proofs.CutLaws.{uncut_of_kept, kept_of_uncut}
 use Rattle.graph.specs.Rows.{Follows}
 use Rattle.recovery_depth.specs.Walks.{IsReach, is_marked}
-use Rattle.recovery_depth.specs.Private.Vertices.{HasNoLoop, IsReachIn, marked}
+use Rattle.recovery_depth.specs.Private.Vertices.{HasNoLoop, IsOrdered, IsReachIn, marked}
 use Rattle.recovery_depth.specs.Private.Uncut.{uncut_entry, uncut_row, uncut_rows}
 use Rattle.recovery_depth.specs.Depths.{is_some_register, is_register_at, own_register}
 use Rattle.recovery_depth.proofs.WalkLaws.{reach_map}
@@ -87,6 +87,16 @@ module _ (rows : List (List ℕ)) (cut : List (List Bool)) where
       let place : k.place < length (row rows y) = omega (arith, shape y, k.within) in
       let here : y < length rows = row_vertex y k.place place in
       record { place = k.place; within = omega (arith, uncut_places y here, place); is = uncut_read y k.place here place ∙ (entry_kept y k.place k.uncut ∙ k.is); vertex = omega (arith, uncut_long, k.vertex) }
+
+  -- an order in which the search was done with the vertices is one of what is left
+  pub uncut_ordered : (order : List ℕ) → IsSearched rows order cut → IsOrdered (uncut_rows rows cut) order
+  uncut_ordered order s = record {
+    within = λ k l. omega (arith, uncut_long, s.within k l);
+    complete = λ x l. s.complete x (omega (arith, uncut_long, l));
+    once = s.once;
+    few = omega (arith, uncut_long, s.few);
+    after = λ k x h f. s.after k x h (kept_of_follows s.reads x (get_or order k 0) f);
+  }
 
 -- past all nodes there is no register
 past : (n : Net) (x : ℕ) → length n.nodes ≤ x → is_register_at n x ≡ false
