@@ -16,10 +16,10 @@ use crate::voters::voting_parts;
 use crate::voting::VotedPins;
 use crate::{Hardened, HardenedFree};
 use certificate::Certificate;
-use feedback_cut::cut;
+use feedback_cut::cut_in_order;
 use flat_net::{FlatNet, FreeNet, nodes_of};
 use partitioner::{plain, refine_counted};
-use recovery_depth::{Extra, bound};
+use recovery_depth::{Extra, bound_in_order};
 use std::alloc::Global;
 use tmr_base::{OutOfMemory, Parts};
 
@@ -63,11 +63,11 @@ fn build(
     let refined = refine_counted(alloc, n, &start, size, 8)?;
     let parts = refined.parts;
     let _count = parts.count();
-    let cut = cut(alloc, n, &parts)?;
-    let extra = bound(alloc, n, &parts, &cut, most)?;
+    let found = cut_in_order(alloc, n, &parts)?;
+    let extra = bound_in_order(alloc, n, &parts, &found, most)?;
     let votes = VotedPins {
         inputs,
-        cut: &cut,
+        cut: &found.cut,
         extra: &extra,
     };
     let (net, cert) = triplicate(alloc, n, &parts, &votes, &extra)?;
