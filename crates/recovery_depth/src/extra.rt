@@ -12,8 +12,8 @@ use crate::depth_table::DepthTable;
 use crate::greatest::greatest_labels;
 use crate::ordering::ordered;
 use crate::register_nodes::registers;
-use crate::uncut::{uncut_in, uncut_inner};
-use feedback_cut::{CutPins, OrderedCut};
+use crate::uncut::uncut_in;
+use feedback_cut::{CutPins, OrderedCut, inner_reads};
 use flat_net::{FlatNet, nodes_of};
 use graph::Graph;
 use std::alloc::Global;
@@ -62,22 +62,21 @@ impl Extra {
     }
 }
 
-/// The extra pins of a cut, from the reads inside partitions through its uncut pins, and an order in which each
-/// node stands after all that it reads so.
+/// The extra pins of a cut, from the reads inside partitions and an order in which each node stands after all
+/// that it reads there through uncut pins.
 fn bound_over(
     alloc: Global,
     n: &FlatNet,
     parts: &Parts,
     cut: &CutPins,
-    rest: &Graph,
+    graph: &Graph,
     order: &[u32],
     most: u32,
 ) -> Result<Extra, OutOfMemory>
     requires parts { length parts.now.of ≡ length n.now.net.nodes }
     requires cut { CutMeets n.now.net parts.now cut.now }
-    requires rest { rest.now ≡ uncut_rows (inner_rows n.now.net parts.now) cut.now }
-    requires nodes { length rest.now ≡ length n.now.net.nodes }
-    requires order { IsOrdered rest.now order.now }
+    requires graph { graph.now ≡ inner_rows n.now.net parts.now }
+    requires order { IsOrdered (uncut_rows (inner_rows n.now.net parts.now) cut.now) order.now }
     requires most { 0 < most }
     ensures marks { IfOk result (λ extra. length extra.marks ≡ length n.now.net.nodes) }
     ensures extra { IfOk result (λ extra. AreExtra n.now.net parts.now cut.now most extra) }
@@ -85,7 +84,7 @@ fn bound_over(
 {
     let count = nodes_of(n);
     let is_register = registers(alloc, n)?;
-    let found = bounded_labels(alloc, rest, &is_register, order, most, count)?;
+    let found = bounded_labels(alloc, graph, cut, &is_register, order, most, count)?;
     let depths = greatest_labels(alloc, parts, &found.labels)?;
     let table = DepthTable::new(found.labels, depths);
     Ok(Extra {
@@ -112,9 +111,10 @@ pub fn bound(
     // A bound above the number of nodes binds nothing.
     ensures none { IfOk result (λ extra. length n.now.net.nodes < most → (y j : ℕ) → is_extra extra.marks y j ≡ false) }
 {
-    let rest = uncut_inner(alloc, n, parts, cut)?;
+    let graph = inner_reads(alloc, n, parts)?;
+    let rest = uncut_in(alloc, n, parts, cut, &graph)?;
     let order = ordered(alloc, &rest)?;
-    let extra = bound_over(alloc, n, parts, cut, &rest, &order, most)?;
+    let extra = bound_over(alloc, n, parts, cut, &graph, &order, most)?;
     Ok(extra)
 }
 
@@ -135,7 +135,14 @@ pub fn bound_in_order(
     ensures extra { IfOk result (λ extra. AreExtra n.now.net parts.now found.now.cut most extra) }
     ensures none { IfOk result (λ extra. length n.now.net.nodes < most → (y j : ℕ) → is_extra extra.marks y j ≡ false) }
 {
-    let rest = uncut_in(alloc, n, parts, &found.cut, &found.graph)?;
-    let extra = bound_over(alloc, n, parts, &found.cut, &rest, &found.order, most)?;
+    let extra = bound_over(
+        alloc,
+        n,
+        parts,
+        &found.cut,
+        &found.graph,
+        &found.order,
+        most,
+    )?;
     Ok(extra)
 }

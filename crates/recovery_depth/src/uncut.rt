@@ -14,7 +14,7 @@ use std::alloc::Global;
 use tmr_base::{OutOfMemory, Parts};
 
 /// What y reads at a place, or `count`, past all vertices, where that is cut.
-fn uncut_read(graph: &Graph, cut: &CutPins, y: u32, place: u32, count: u32) -> u32
+pub fn uncut_read(graph: &Graph, cut: &CutPins, y: u32, place: u32, count: u32) -> u32
     requires vertex { y < length graph.now }
     requires vertices { length cut.now ≡ length graph.now }
     requires places { length (row cut.now y) ≡ length (row graph.now y) }

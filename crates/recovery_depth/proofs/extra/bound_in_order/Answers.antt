@@ -9,5 +9,4 @@ pub bound_over-requires-clause-order : goal.bound_over-requires-clause-order
 bound_over-requires-clause-order c =
     let rows = inner_rows c.args.n.now.net c.args.parts.now in
     let cut = c.args.found.now.cut in
-    subst (λ rest. IsOrdered rest c.deref.result.now) (sym c.in_ok-rest.ensures.rows)
-    (subst (λ order. IsOrdered (uncut_rows rows cut) order) (sym c.deref.ensures.value) (uncut_ordered rows cut c.args.found.now.order.items c.requires.order))
+    subst (λ order. IsOrdered (uncut_rows rows cut) order) (sym c.deref.ensures.value) (uncut_ordered rows cut c.args.found.now.order.items c.requires.order)
