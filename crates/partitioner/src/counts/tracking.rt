@@ -20,8 +20,9 @@ pub fn parts_list(alloc: Global, parts: &Parts) -> Result<Vec<u32>, OutOfMemory>
     ensures same { IfOk result (λ of. of.items ≡ parts.now.of) }
     ensures in_range { IfOk result (λ of. All (λ q. q < parts.now.count) of.items) }
 {
-    let mut of = Vec::new(alloc);
-    for i in 0..parts.len() {
+    let nodes = parts.len();
+    let mut of = Vec::with_capacity(alloc, nodes as usize)?;
+    for i in 0..nodes {
         of.push(parts.of(i))?;
     }
     Ok(of)
