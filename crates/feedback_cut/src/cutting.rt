@@ -1,11 +1,13 @@
 //! Cut pins.
 ghost use Rattle.std.specs.Prelude.{◌≡◌, ◌<◌, length, IfOk};
 ghost use Rattle.graph.specs.Rows.{row};
+ghost use Rattle.graph.specs.Search.{IsSearched};
 ghost use Rattle.feedback_cut.specs.Cut.{is_cut, CutMeets};
+ghost use Rattle.feedback_cut.specs.Inner.{inner_rows};
 
 use crate::inner::inner_reads;
 use flat_net::{FlatNet, nodes_of};
-use graph::{CutReads, search};
+use graph::{CutReads, Graph, search};
 use std::alloc::Global;
 use std::marker::Model;
 use tmr_base::{OutOfMemory, Parts};
@@ -35,18 +37,42 @@ impl CutPins {
     }
 }
 
-/// A cut of each loop of reads inside a partition.
+/// A cut, beside what each node reads inside its partition, and all nodes in an order in which each stands
+/// behind all that it reads there through uncut pins.
+#[derive(Drop)]
+pub struct OrderedCut {
+    pub graph: Graph,
+    pub order: Vec<u32>,
+    pub cut: CutPins,
+}
+
+/// A cut of each loop of reads inside a partition, and what the search for it saw.
 ///
 /// A depth-first search takes the nodes as roots in ascending order and follows each node's pins in order
 /// to nodes of the same partition. A pin that leads to a node that was entered and is not finished is cut.
-pub fn cut(alloc: Global, n: &FlatNet, parts: &Parts) -> Result<CutPins, OutOfMemory>
+pub fn cut_in_order(alloc: Global, n: &FlatNet, parts: &Parts) -> Result<OrderedCut, OutOfMemory>
     requires { length parts.now.of ≡ length n.now.net.nodes }
-    ensures { IfOk result (λ cut. CutMeets n.now.net parts.now cut) }
+    ensures cut { IfOk result (λ found. CutMeets n.now.net parts.now found.cut) }
+    ensures graph { IfOk result (λ found. found.graph ≡ inner_rows n.now.net parts.now) }
+    ensures order { IfOk result (λ found. IsSearched (inner_rows n.now.net parts.now) found.order.items found.cut) }
 {
     let count = nodes_of(n);
     let graph = inner_reads(alloc, n, parts)?;
     let searched = search(alloc, &graph, count)?;
-    Ok(CutPins {
-        reads: searched.cut,
+    Ok(OrderedCut {
+        graph,
+        order: searched.order,
+        cut: CutPins {
+            reads: searched.cut,
+        },
     })
+}
+
+/// A cut of each loop of reads inside a partition.
+pub fn cut(alloc: Global, n: &FlatNet, parts: &Parts) -> Result<CutPins, OutOfMemory>
+    requires { length parts.now.of ≡ length n.now.net.nodes }
+    ensures { IfOk result (λ cut. CutMeets n.now.net parts.now cut) }
+{
+    let found = cut_in_order(alloc, n, parts)?;
+    Ok(found.cut)
 }

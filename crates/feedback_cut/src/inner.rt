@@ -46,9 +46,10 @@ pub fn inner_reads(alloc: Global, n: &FlatNet, parts: &Parts) -> Result<Graph, O
     requires { length parts.now.of ≡ length n.now.net.nodes }
     ensures { IfOk result (λ graph. graph ≡ inner_rows n.now.net parts.now) }
 {
-    let mut graph = Graph::new(alloc);
+    let nodes = nodes_of(n);
+    let mut graph = Graph::with_room(alloc, nodes as usize, n.pin_total() as usize)?;
     let mut row = Vec::new(alloc);
-    for y in 0..nodes_of(n) {
+    for y in 0..nodes {
         inner_pins(n, parts, y, &mut row)?;
         graph.push(&row)?;
     }

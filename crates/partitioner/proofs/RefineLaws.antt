@@ -7,11 +7,12 @@ use Rattle.tmr_base.specs.Parts.{PlainParts}
 use Rattle.partitioner.specs.Below.{one_if}
 use Rattle.partitioner.specs.Cost.{cost}
 use Rattle.partitioner.specs.Sizes.{KeepsSize, held, capacity}
-use Rattle.partitioner.specs.Refining.{has_room, put, place, move, moves, pass, refined}
-use Rattle.partitioner.specs.Private.Leading.{IsReached, HasNoRoom}
+use Rattle.partitioner.specs.Refining.{has_room, put, place, move, moves, pass, refined, IsMinimal}
+use Rattle.partitioner.specs.Private.Leading.{IsReached, HasNoRoom, IsFixed}
 use Rattle.partitioner.proofs.BelowLaws.{one_if_le}
 use Rattle.partitioner.proofs.LowestLaws.{lowest_is}
 use Rattle.partitioner.proofs.PutLaws.{put_same}
+use Rattle.partitioner.proofs.MinimalLaws.{all_stay_minimal}
 use Rattle.partitioner.proofs.HeldLaws.{held_moved}
 
 reached_place : (n : Net) (size : ℕ) (parts : PlainParts) (i : ℕ) → IsReached (λ p. cost n (put parts i p)) (has_room size parts) (get_or parts.of i 0) parts.count (place n size parts i)
@@ -108,6 +109,31 @@ pub refined_fixed : (n : Net) (size : ℕ) (parts : PlainParts) (k m : ℕ) → 
 refined_fixed n size parts k m l e =
     let whole : m ≡ k + (m - k) = omega (arith, l) in
     ap (refined n size parts) whole ∙ fixed_from n size parts k (m - k) e
+
+-- where no node can move, each stays
+fixed_place : (n : Net) (size : ℕ) (parts : PlainParts) (i : ℕ) → get_or parts.of i 0 < parts.count → IsFixed size parts → place n size parts i ≡ get_or parts.of i 0
+fixed_place n size parts i within fixed = go (reached_place n size parts i) fixed
+  where
+    go : IsReached (λ p. cost n (put parts i p)) (has_room size parts) (get_or parts.of i 0) parts.count (place n size parts i) → IsFixed size parts → place n size parts i ≡ get_or parts.of i 0
+    go (inl e) f = e
+    go (inr h) (inl full) = absurd (true≢false (sym h.1 ∙ full (place n size parts i) h.0))
+    go (inr h) (inr few) = omega (arith, h.0, few, within)
+
+fixed_moves : (n : Net) (size : ℕ) (parts : PlainParts) (k : ℕ) → k ≤ length n.nodes → ((i : ℕ) → i < length n.nodes → get_or parts.of i 0 < parts.count) → IsFixed size parts → moves n size parts k ≡ parts
+unfolding moves
+fixed_moves n size parts zero l within fixed = refl
+fixed_moves n size parts (suc k) l within fixed =
+    ap (λ (after : PlainParts). move n size after k) (fixed_moves n size parts k (omega (arith, l)) within fixed)
+    ∙ move_stays n size parts k (fixed_place n size parts k (within k (omega (arith, l))) fixed)
+
+pub fixed_refined : (n : Net) (size : ℕ) (parts : PlainParts) (k : ℕ) → ((i : ℕ) → i < length n.nodes → get_or parts.of i 0 < parts.count) → IsFixed size parts → refined n size parts k ≡ parts
+fixed_refined n size parts k within fixed =
+    refined_fixed n size parts 0 k (omega arith)
+    (ap (pass n size) (refined_none n size parts) ∙ (fixed_moves n size parts (length n.nodes) (omega arith) within fixed ∙ sym (refined_none n size parts)))
+    ∙ refined_none n size parts
+
+pub fixed_minimal : (n : Net) (size : ℕ) (parts : PlainParts) → ((i : ℕ) → i < length n.nodes → get_or parts.of i 0 < parts.count) → IsFixed size parts → IsMinimal n size parts
+fixed_minimal n size parts within fixed = all_stay_minimal n size parts (λ i l. fixed_place n size parts i (within i l) fixed)
 
 -- where no partition has room, nothing moves
 full_stays : (n : Net) (size : ℕ) (parts : PlainParts) (i : ℕ) → HasNoRoom size parts → move n size parts i ≡ parts

@@ -12,22 +12,24 @@ use Rattle.flat_net.proofs.Ranges.{pins_few}
 use Rattle.graph.specs.Rows.{row}
 use Rattle.feedback_cut.specs.Inner.{ReadsInside, inner_rows}
 use Rattle.feedback_cut.specs.Cut.{is_cut, ReadsUncut, CutMeets}
-use Rattle.graph.specs.Search.{Kept}
+use Rattle.graph.specs.Search.{Kept, IsSearched}
 use Rattle.graph.proofs.Places.{leads_map}
 use Rattle.feedback_cut.proofs.InnerLaws.{inner_long, inner_pins, read_from, read_to}
 use Rattle.feedback_cut.proofs.CutLaws.{uncut_of_kept, kept_of_uncut}
 use Rattle.graph.specs.Rows.{Follows}
 use Rattle.recovery_depth.specs.Walks.{IsReach, is_marked}
-use Rattle.recovery_depth.specs.Private.Vertices.{HasNoLoop, IsReachIn, marked}
+use Rattle.recovery_depth.specs.Private.Vertices.{HasNoLoop, IsOrdered, IsReachIn, marked}
 use Rattle.recovery_depth.specs.Private.Uncut.{uncut_entry, uncut_row, uncut_rows}
 use Rattle.recovery_depth.specs.Depths.{is_some_register, is_register_at, own_register}
+use Rattle.recovery_depth.specs.Private.Reaching.{IsGreatestOf}
+use Rattle.recovery_depth.proofs.GreatestLaws.{IsMost}
 use Rattle.recovery_depth.proofs.WalkLaws.{reach_map}
 
 module _ (rows : List (List ℕ)) (cut : List (List Bool)) where
   pub uncut_long : length (uncut_rows rows cut) ≡ length rows
   uncut_long = length-map-range_with_len (uncut_row rows cut) 0 (length rows)
 
-  uncut_at : (y : ℕ) → y < length rows → row (uncut_rows rows cut) y ≡ uncut_row rows cut y
+  pub uncut_at : (y : ℕ) → y < length rows → row (uncut_rows rows cut) y ≡ uncut_row rows cut y
   uncut_at y l = get_or-map-range_with_len (uncut_row rows cut) 0 (length rows) y y [] l (omega arith)
 
   pub uncut_places : (y : ℕ) → y < length rows → length (row (uncut_rows rows cut) y) ≡ length (row rows y)
@@ -87,6 +89,33 @@ module _ (rows : List (List ℕ)) (cut : List (List Bool)) where
       let place : k.place < length (row rows y) = omega (arith, shape y, k.within) in
       let here : y < length rows = row_vertex y k.place place in
       record { place = k.place; within = omega (arith, uncut_places y here, place); is = uncut_read y k.place here place ∙ (entry_kept y k.place k.uncut ∙ k.is); vertex = omega (arith, uncut_long, k.vertex) }
+
+  -- the greatest number that the uncut reads of a vertex name
+  pub greatest_at : (y k g : ℕ) (labels : List ℕ) → k ≡ length (row rows y) → IsMost (λ i. get_or labels (uncut_entry rows cut y i) 0) k g → IsGreatestOf (uncut_row rows cut y) labels g
+  greatest_at y k g labels all m = record { most = λ i l. most i (omega (arith, long, l)); some = some m.some }
+    where
+      long : length (uncut_row rows cut y) ≡ length (row rows y)
+      long = length-map-range_with_len (uncut_entry rows cut y) 0 (length (row rows y))
+
+      at : (i : ℕ) → i < length (row rows y) → get_or (uncut_row rows cut y) i 0 ≡ uncut_entry rows cut y i
+      at i l = get_or-map-range_with_len (uncut_entry rows cut y) 0 (length (row rows y)) i i 0 l (omega arith)
+
+      most : (i : ℕ) → i < length (row rows y) → get_or labels (get_or (uncut_row rows cut y) i 0) 0 ≤ g
+      most i l = subst (λ (e : ℕ). get_or labels e 0 ≤ g) (sym (at i l)) (m.most i (omega (arith, all, l)))
+
+      some : (g ≡ 0) ⊎ ((i : ℕ) × (i < k) × (get_or labels (uncut_entry rows cut y i) 0 ≡ g)) → (g ≡ 0) ⊎ ((i : ℕ) × (i < length (uncut_row rows cut y)) × (get_or labels (get_or (uncut_row rows cut y) i 0) 0 ≡ g))
+      some (inl z) = inl z
+      some (inr (i, l, v)) = inr (i, omega (arith, long, all, l), ap (λ (e : ℕ). get_or labels e 0) (at i (omega (arith, all, l))) ∙ v)
+
+  -- an order in which the search was done with the vertices is one of what is left
+  pub uncut_ordered : (order : List ℕ) → IsSearched rows order cut → IsOrdered (uncut_rows rows cut) order
+  uncut_ordered order s = record {
+    within = λ k l. omega (arith, uncut_long, s.within k l);
+    complete = λ x l. s.complete x (omega (arith, uncut_long, l));
+    once = s.once;
+    few = omega (arith, uncut_long, s.few);
+    after = λ k x h f. s.after k x h (kept_of_follows s.reads x (get_or order k 0) f);
+  }
 
 -- past all nodes there is no register
 past : (n : Net) (x : ℕ) → length n.nodes ≤ x → is_register_at n x ≡ false

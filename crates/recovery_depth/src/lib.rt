@@ -25,5 +25,5 @@ mod uncut;
 pub use deep::Deep;
 pub use deepest::least;
 pub use depth_table::{DepthTable, depths};
-pub use extra::{Extra, bound};
+pub use extra::{Extra, bound, bound_in_order};
 pub use register_nodes::registers;

@@ -20,8 +20,9 @@ pub fn is_register(n: &FlatNet, x: u32) -> bool
 pub fn registers(alloc: Global, n: &FlatNet) -> Result<Vec<bool>, OutOfMemory>
     ensures { IfOk result (λ bits. bits.items ≡ map (is_register_at n.now.net) (range_with_len 0 (length n.now.net.nodes))) }
 {
-    let mut bits = Vec::new(alloc);
-    for x in 0..nodes_of(n) {
+    let nodes = nodes_of(n);
+    let mut bits = Vec::with_capacity(alloc, nodes as usize)?;
+    for x in 0..nodes {
         bits.push(is_register(n, x))?;
     }
     Ok(bits)

@@ -14,7 +14,7 @@ use std::alloc::Global;
 use tmr_base::{OutOfMemory, Parts};
 
 /// What y reads at a place, or `count`, past all vertices, where that is cut.
-fn uncut_read(graph: &Graph, cut: &CutPins, y: u32, place: u32, count: u32) -> u32
+pub fn uncut_read(graph: &Graph, cut: &CutPins, y: u32, place: u32, count: u32) -> u32
     requires vertex { y < length graph.now }
     requires vertices { length cut.now ≡ length graph.now }
     requires places { length (row cut.now y) ≡ length (row graph.now y) }
@@ -67,6 +67,26 @@ fn uncut(alloc: Global, graph: &Graph, cut: &CutPins, count: u32) -> Result<Grap
     Ok(rest)
 }
 
+/// What each node reads inside its partition through pins that are not cut, from what it reads there.
+/// Nothing of it makes a loop.
+pub fn uncut_in(
+    alloc: Global,
+    n: &FlatNet,
+    parts: &Parts,
+    cut: &CutPins,
+    graph: &Graph,
+) -> Result<Graph, OutOfMemory>
+    requires parts { length parts.now.of ≡ length n.now.net.nodes }
+    requires cut { CutMeets n.now.net parts.now cut.now }
+    requires graph { graph.now ≡ inner_rows n.now.net parts.now }
+    ensures rows { IfOk result (λ rest. rest ≡ uncut_rows (inner_rows n.now.net parts.now) cut.now) }
+    ensures nodes { IfOk result (λ rest. length rest ≡ length n.now.net.nodes) }
+    ensures open_ended { IfOk result (λ rest. HasNoLoop rest) }
+{
+    let rest = uncut(alloc, graph, cut, nodes_of(n))?;
+    Ok(rest)
+}
+
 /// What each node reads inside its partition through pins that are not cut. Nothing of it makes a loop.
 pub fn uncut_inner(
     alloc: Global,
@@ -81,6 +101,6 @@ pub fn uncut_inner(
     ensures open_ended { IfOk result (λ rest. HasNoLoop rest) }
 {
     let graph = inner_reads(alloc, n, parts)?;
-    let rest = uncut(alloc, &graph, cut, nodes_of(n))?;
+    let rest = uncut_in(alloc, n, parts, cut, &graph)?;
     Ok(rest)
 }

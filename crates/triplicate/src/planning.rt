@@ -12,11 +12,11 @@ use crate::blocks::hardened_nets;
 use crate::certifying::depths_of;
 use crate::voters::voting_parts;
 use crate::voting::{VotedPins, is_voted};
-use feedback_cut::{CutPins, cut};
+use feedback_cut::{CutPins, cut_in_order};
 use flat_net::{FlatNet, nodes_of};
 use graph::Graph;
 use partitioner::{plain, refine_counted};
-use recovery_depth::{Extra, bound};
+use recovery_depth::{Extra, bound_in_order};
 use std::alloc::Global;
 use tmr_base::{OutOfMemory, Parts};
 
@@ -101,18 +101,18 @@ pub fn make_plan(
     let refined = refine_counted(alloc, n, &start, size, 8)?;
     let parts = refined.parts;
     let _count = parts.count();
-    let cut = cut(alloc, n, &parts)?;
-    let extra = bound(alloc, n, &parts, &cut, most)?;
+    let found = cut_in_order(alloc, n, &parts)?;
+    let extra = bound_in_order(alloc, n, &parts, &found, most)?;
     let votes = VotedPins {
         inputs,
-        cut: &cut,
+        cut: &found.cut,
         extra: &extra,
     };
     let voters = voting_parts(alloc, n, &parts, &votes)?;
     Ok(Plan {
         parts,
         inputs,
-        cut,
+        cut: found.cut,
         extra,
         voters,
         cost: refined.cost,

@@ -42,6 +42,10 @@ LeadsOrLoses n p i a tried c = Leads n p i a c ⊎ (tried ≤ loss n p.of.items 
 abbrev pub HasNoRoom : ℕ → PlainParts → Type 0
 HasNoRoom size parts = (q : ℕ) → q < parts.count → has_room size parts q ≡ false
 
+-- no node can move: no partition has room, or there is one partition at most
+abbrev pub IsFixed : ℕ → PlainParts → Type 0
+IsFixed size parts = HasNoRoom size parts ⊎ (parts.count ≤ 1)
+
 -- as good as the partitions of all other readers of x
 abbrev pub LeadsReaders : Net → ℕ → Partitioning → ℕ → ℕ → ℕ → Type 0
 LeadsReaders n size p i a x = All (λ y. LeadsOpen n size p i a (start_of p y)) (other_readers n x)

@@ -3,6 +3,7 @@ use Rattle.std.specs.Prelude.{◌≡◌, ℕ, ◌<◌, ◌==◌, true, List, [],
 use Rattle.tmr_base.specs.Parts.{PlainParts}
 use Rattle.flat_net.specs.Net.{Net}
 use Rattle.partitioner.specs.declared.counts.partitioning.Partitioning.{Partitioning}
+use Rattle.partitioner.specs.declared.counts.partitioning.Placed.{Placed}
 use Rattle.node_reads.specs.Sources.{AreReaders, other_readers, other_sources, is_wide, wide_sources}
 use Rattle.partitioner.specs.Private.Counting.{count_at}
 use Rattle.partitioner.specs.Sizes.{held}
@@ -14,6 +15,19 @@ reader_count n of x p = count_by (λ y. slice_index of y == p) (other_readers n 
 -- the partitions that are kept
 abbrev pub parts_of : Partitioning → PlainParts
 parts_of p = record { count = p.count; of = p.of.items }
+
+-- the partitions before any node moves
+abbrev pub placed_parts : Placed → PlainParts
+placed_parts p = record { count = p.count; of = p.of.items }
+
+-- each node stands in a partition, and the readers and the numbers of nodes held are right
+pub record IsPlaced (n : Net) (p : Placed) : Type 0 where
+  pub few : length n.nodes < 4294967295
+  pub long : length p.of.items ≡ length n.nodes
+  pub in_range : All (λ q. q < p.count) p.of.items
+  pub readers : AreReaders n p.readers
+  pub held_long : length p.held.items ≡ p.count
+  pub held_right : (q : ℕ) → q < p.count → slice_index p.held.items q ≡ held p.of.items q
 
 -- the rows are those of the design, and the counts are those of the partitions, of wide nodes alone
 pub record Tracks (n : Net) (p : Partitioning) : Type 0 where

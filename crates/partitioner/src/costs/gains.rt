@@ -94,11 +94,12 @@ fn count_once(gains: &mut Gains, q: u32)
     gains.last[q as usize] = gains.turn;
 }
 
-/// Counts one more in each partition in which node x, which node i reads, is near.
-fn count_source(n: &FlatNet, p: &Partitioning, gains: &mut Gains, i: u32, x: u32)
+/// Counts one more in each partition in which node x, which node i reads, is near. `readers` is its row.
+fn count_source(n: &FlatNet, p: &Partitioning, gains: &mut Gains, i: u32, x: u32, readers: &[u32])
     requires tracks { Tracks n.now.net p.now }
     requires node { i < length n.now.net.nodes }
     requires source { x < length n.now.net.nodes }
+    requires readers { readers.now ≡ slice_index_or p.now.readers x [] }
     requires near_long { length gains.old.near.items ≡ p.now.count }
     requires last_long { length gains.old.last.items ≡ p.now.count }
     requires begun { gains.old.from < gains.old.turn }
@@ -111,7 +112,7 @@ fn count_source(n: &FlatNet, p: &Partitioning, gains: &mut Gains, i: u32, x: u32
     ensures kept { AreKept p.now.count gains.new }
 {
     count_once(gains, part_of(n, p, x));
-    for y in p.readers.row(x) {
+    for y in readers {
         if *y != i {
             count_once(gains, part_of(n, p, *y));
         }
@@ -130,11 +131,12 @@ pub fn count_gains(n: &FlatNet, p: &Partitioning, gains: &mut Gains, i: u32)
     let _nodes = nodes_of(n);
     let row = p.sources.row(i);
     for x in row {
-        if p.readers.row(*x).len() / 8 > row.len() {
+        let readers = p.readers.row(*x);
+        if readers.len() / 8 > row.len() {
             return;
         }
         gains.turn += 1;
-        count_source(n, p, gains, i, *x);
+        count_source(n, p, gains, i, *x, readers);
         gains.counted += 1;
     }
 }

@@ -3,6 +3,16 @@
 use graph::Graph;
 use std::collections::HashMap;
 
+/// The partition of each node, and beside it for each node the other nodes that read it, and for each
+/// partition how many nodes it holds: what tells whether a node may move at all.
+#[derive(Drop)]
+pub struct Placed {
+    pub count: u32,
+    pub of: Vec<u32>,
+    pub readers: Graph,
+    pub held: Vec<u32>,
+}
+
 /// The partition of each node, and beside it for each node the other nodes that read it and those that
 /// it reads, and the wide ones among these; for each partition how many nodes it holds; and for each wide
 /// node and each partition how many other nodes read the node there.

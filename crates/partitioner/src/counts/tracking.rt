@@ -4,10 +4,10 @@ ghost use Rattle.flat_net.specs.Net.{Net};
 ghost use Rattle.node_reads.specs.Sources.{is_wide, AreReaders};
 ghost use Rattle.partitioner.specs.Private.Counting.{count_at};
 ghost use Rattle.partitioner.specs.Sizes.{held};
-ghost use Rattle.partitioner.specs.Private.Tracking.{Tracks, parts_of, reader_count};
+ghost use Rattle.partitioner.specs.Private.Tracking.{IsPlaced, Tracks, parts_of, placed_parts, reader_count};
 
 use crate::counts::counting::{count_at, set_count};
-use crate::counts::partitioning::Partitioning;
+use crate::counts::partitioning::{Partitioning, Placed};
 use flat_net::{FlatNet, nodes_of};
 use graph::Graph;
 use node_reads::{is_wide, packed_readers_of, sorted_rows, sources_of, wide_sources_of};
@@ -20,8 +20,9 @@ pub fn parts_list(alloc: Global, parts: &Parts) -> Result<Vec<u32>, OutOfMemory>
     ensures same { IfOk result (λ of. of.items ≡ parts.now.of) }
     ensures in_range { IfOk result (λ of. All (λ q. q < parts.now.count) of.items) }
 {
-    let mut of = Vec::new(alloc);
-    for i in 0..parts.len() {
+    let nodes = parts.len();
+    let mut of = Vec::with_capacity(alloc, nodes as usize)?;
+    for i in 0..nodes {
         of.push(parts.of(i))?;
     }
     Ok(of)
@@ -81,21 +82,42 @@ fn counts_of(
     Ok(counts)
 }
 
-/// The partitioning with what is kept beside it. The nodes that a node reads stand in ascending order of
-/// how many nodes read them, so that a node's place is found among few partitions.
-pub fn track(alloc: Global, n: &FlatNet, parts: &Parts) -> Result<Partitioning, OutOfMemory>
+/// The partition of each node, with its readers and the numbers of nodes held.
+pub fn placed(alloc: Global, n: &FlatNet, parts: &Parts) -> Result<Placed, OutOfMemory>
     requires { length parts.now.of ≡ length n.now.net.nodes }
-    ensures tracks { IfOk result (λ p. Tracks n.now.net p) }
-    ensures parts { IfOk result (λ p. parts_of p ≡ parts.now) }
+    ensures placed { IfOk result (λ p. IsPlaced n.now.net p) }
+    ensures parts { IfOk result (λ p. placed_parts p ≡ parts.now) }
 {
-    let nodes = nodes_of(n);
+    let _nodes = nodes_of(n);
     let count = parts.count();
     let of = parts_list(alloc, parts)?;
     let readers = packed_readers_of(alloc, n)?;
+    let held = held_of(alloc, count, of.as_slice())?;
+    Ok(Placed {
+        count,
+        of,
+        readers,
+        held,
+    })
+}
+
+/// The same with all that is kept beside it. The nodes that a node reads stand in ascending order of how
+/// many nodes read them, so that a node's place is found among few partitions.
+pub fn tracked(alloc: Global, n: &FlatNet, placed: Placed) -> Result<Partitioning, OutOfMemory>
+    requires { IsPlaced n.now.net placed }
+    ensures tracks { IfOk result (λ p. Tracks n.now.net p) }
+    ensures parts { IfOk result (λ p. parts_of p ≡ placed_parts placed) }
+{
+    let nodes = nodes_of(n);
+    let Placed {
+        count,
+        of,
+        readers,
+        held,
+    } = placed;
     let ascending = sources_of(alloc, n, &readers)?;
     let sources = sorted_rows(alloc, &ascending, &readers, nodes)?;
     let wide = wide_sources_of(alloc, n, &readers, &ascending)?;
-    let held = held_of(alloc, count, of.as_slice())?;
     let counts = counts_of(alloc, n, &readers, of.as_slice())?;
     Ok(Partitioning {
         count,
@@ -106,4 +128,15 @@ pub fn track(alloc: Global, n: &FlatNet, parts: &Parts) -> Result<Partitioning, 
         held,
         counts,
     })
+}
+
+/// The partitioning with what is kept beside it.
+pub fn track(alloc: Global, n: &FlatNet, parts: &Parts) -> Result<Partitioning, OutOfMemory>
+    requires { length parts.now.of ≡ length n.now.net.nodes }
+    ensures tracks { IfOk result (λ p. Tracks n.now.net p) }
+    ensures parts { IfOk result (λ p. parts_of p ≡ parts.now) }
+{
+    let placed = placed(alloc, n, parts)?;
+    let p = tracked(alloc, n, placed)?;
+    Ok(p)
 }

@@ -1,18 +1,19 @@
 //! Where a node goes.
-ghost use Rattle.std.specs.Prelude.{◌≡◌, ◌<◌, ◌≤◌, ◌==◌, ℕ, Bool, true, false, length, slice_index};
+ghost use Rattle.std.specs.Prelude.{◌≡◌, ◌<◌, ◌≤◌, ◌==◌, ℕ, Bool, true, false, nat_lt, length, slice_index};
+ghost use Rattle.partitioner.specs.Sizes.{capacity};
 ghost use Rattle.flat_net.specs.Net.{Net};
 ghost use Rattle.node_reads.specs.Sources.{is_wide};
 ghost use Rattle.partitioner.specs.Private.Loss.{is_wanted};
 ghost use Rattle.partitioner.specs.Refining.{has_room, place};
-ghost use Rattle.partitioner.specs.Private.Tracking.{Tracks, parts_of};
+ghost use Rattle.partitioner.specs.Private.Tracking.{IsPlaced, Tracks, parts_of, placed_parts};
 ghost use Rattle.partitioner.specs.Private.Spotting.{AreSpots};
 ghost use Rattle.partitioner.specs.Private.Ready.{IsReady};
 ghost use Rattle.partitioner.specs.Private.Gaining.{IsCounted};
-ghost use Rattle.partitioner.specs.Private.Leading.{HasNoRoom, IsLead, Leads, LeadsOpen, LeadsOrLoses, LeadsReaders, is_better, is_settled, start_of};
+ghost use Rattle.partitioner.specs.Private.Leading.{HasNoRoom, IsFixed, IsLead, Leads, LeadsOpen, LeadsOrLoses, LeadsReaders, is_better, is_settled, start_of};
 
 use crate::costs::gains::{Gains, begin, count_gains};
 use crate::costs::losses::loss_up_to;
-use crate::counts::partitioning::Partitioning;
+use crate::counts::partitioning::{Partitioning, Placed};
 use crate::counts::spots::Spots;
 use flat_net::FlatNet;
 use node_reads::is_wide;
@@ -115,17 +116,33 @@ fn consider_readers(
     lead
 }
 
+/// Some of these partitions has room for a node that is not in it.
+pub fn any_room(held: &[u32], size: u32) -> bool
+    ensures { result ≡ false → (q : ℕ) → q < length held.now → nat_lt (slice_index held.now q) (capacity size) ≡ false }
+{
+    let most = u64::from(size) + u64::from(size / 4);
+    for count in held {
+        if u64::from(*count) < most {
+            return true;
+        }
+    }
+    false
+}
+
 /// Some partition has room for a node that is not in it.
 pub fn some_room(n: &FlatNet, p: &Partitioning, size: u32) -> bool
     requires { Tracks n.now.net p.now }
     ensures { result ≡ false → HasNoRoom size (parts_of p.now) }
 {
-    for q in 0..p.count {
-        if has_room(n, p, size, q) {
-            return true;
-        }
-    }
-    false
+    any_room(p.held.as_slice(), size)
+}
+
+/// Some node may find a partition with room beside its own: there are two, and one has room.
+pub fn may_move(n: &FlatNet, p: &Placed, size: u32) -> bool
+    requires { IsPlaced n.now.net p.now }
+    ensures { result ≡ false → IsFixed size (placed_parts p.now) }
+{
+    1 < p.count && any_room(p.held.as_slice(), size)
 }
 
 /// The lead after the partitions with room in which wide node x is read are tried for node i, in
@@ -244,15 +261,13 @@ pub fn place_of(
 {
     let start = part_of(n, p, i);
     begin(gains, p.count);
+    count_gains(n, p, gains, i);
     let lead = Lead {
         place: start,
         loss: loss_up_to(n, p, gains, i, start, false, u64::MAX),
     };
     if is_settled(lead, start, 0) {
         return start;
-    }
-    if lead.loss > 8 {
-        count_gains(n, p, gains, i);
     }
     best_place(n, p, spots, gains, size, i, lead)
 }

@@ -1,20 +1,20 @@
 //! Passes of moves.
-ghost use Rattle.std.specs.Prelude.{◌≡◌, ◌<◌, ◌≤◌, ◌↔◌, ℕ, Bool, true, false, length, slice_index, IsTrue, OnOk, IfOk};
+ghost use Rattle.std.specs.Prelude.{◌≡◌, ◌<◌, ◌≤◌, ◌↔◌, ℕ, Bool, true, false, All, length, slice_index, IsTrue, OnOk, IfOk};
 ghost use Rattle.flat_net.specs.Net.{Net};
 ghost use Rattle.partitioner.specs.Cost.{cost};
 ghost use Rattle.partitioner.specs.Sizes.{KeepsSize};
 ghost use Rattle.partitioner.specs.Refining.{move, pass, place, refined, IsMinimal};
-ghost use Rattle.partitioner.specs.Private.Tracking.{Tracks, parts_of};
+ghost use Rattle.partitioner.specs.Private.Tracking.{IsPlaced, Tracks, parts_of, placed_parts};
 ghost use Rattle.partitioner.specs.Private.Ready.{IsReady};
 
 use crate::costs::gains::{Gains, no_gains};
 use crate::costs::pairs::pairs_in;
-use crate::counts::partitioning::Partitioning;
+use crate::counts::partitioning::{Partitioning, Placed};
 use crate::counts::spots::{Spots, shut_full, spots_of};
-use crate::counts::tracking::track;
+use crate::counts::tracking::{placed, tracked};
 use crate::refinement::minimal::no_move_helps;
 use crate::refinement::moving::move_to;
-use crate::refinement::placing::{part_of, place_of, some_room};
+use crate::refinement::placing::{may_move, part_of, place_of, some_room};
 use flat_net::{FlatNet, nodes_of};
 use std::alloc::Global;
 use tmr_base::{OutOfMemory, Parts};
@@ -135,23 +135,40 @@ pub struct Refined {
     pub minimal: bool,
 }
 
-/// The parts of `refine`, and what `cost` and `is_minimal` tell of them, from one reading of the design.
-pub fn refine_counted(
+/// What refining gives where no node can move.
+fn unmoved(placed: Placed, before: u64) -> Refined
+    requires few { length placed.of.items < 4294967295 }
+    requires in_range { All (λ q. q < placed.count) placed.of.items }
+    ensures parts { result.parts ≡ placed_parts placed }
+    ensures cost { result.cost ≡ before }
+    ensures before { result.before ≡ before }
+    ensures minimal { result.minimal ≡ true }
+{
+    let Placed { count, of, .. } = placed;
+    Refined {
+        parts: Parts::make(count, of),
+        cost: before,
+        before,
+        minimal: true,
+    }
+}
+
+/// What refining gives, from where the nodes stand and what that costs.
+fn refine_placed(
     alloc: Global,
     n: &FlatNet,
-    parts: &Parts,
+    placed: Placed,
+    before: u64,
     size: u32,
     passes: u32,
 ) -> Result<Refined, OutOfMemory>
-    requires size { 0 < size }
-    requires parts { KeepsSize n.now.net size parts.now }
-    ensures exact { IfOk result (λ r. r.parts ≡ refined n.now.net size parts.now passes) }
+    requires { IsPlaced n.now.net placed }
+    ensures exact { IfOk result (λ r. r.parts ≡ refined n.now.net size (placed_parts placed) passes) }
     ensures cost { IfOk result (λ r. r.cost ≡ cost n.now.net r.parts) }
-    ensures before { IfOk result (λ r. r.before ≡ cost n.now.net parts.now) }
+    ensures before { IfOk result (λ r. r.before ≡ before) }
     ensures minimal { IfOk result (λ r. IsTrue r.minimal ↔ IsMinimal n.now.net size r.parts) }
 {
-    let mut p = track(alloc, n, parts)?;
-    let before = pairs_in(alloc, n, &p.readers, p.count, p.of.as_slice())?;
+    let mut p = tracked(alloc, n, placed)?;
     let mut passed = pass_all(alloc, n, &mut p, size, passes)?;
     let cost = pairs_in(alloc, n, &p.readers, p.count, p.of.as_slice())?;
     let minimal = no_move_helps(
@@ -169,6 +186,30 @@ pub fn refine_counted(
         before,
         minimal,
     })
+}
+
+/// The parts of `refine`, and what `cost` and `is_minimal` tell of them, from one reading of the design.
+pub fn refine_counted(
+    alloc: Global,
+    n: &FlatNet,
+    parts: &Parts,
+    size: u32,
+    passes: u32,
+) -> Result<Refined, OutOfMemory>
+    requires size { 0 < size }
+    requires parts { KeepsSize n.now.net size parts.now }
+    ensures exact { IfOk result (λ r. r.parts ≡ refined n.now.net size parts.now passes) }
+    ensures cost { IfOk result (λ r. r.cost ≡ cost n.now.net r.parts) }
+    ensures before { IfOk result (λ r. r.before ≡ cost n.now.net parts.now) }
+    ensures minimal { IfOk result (λ r. IsTrue r.minimal ↔ IsMinimal n.now.net size r.parts) }
+{
+    let start = placed(alloc, n, parts)?;
+    let before = pairs_in(alloc, n, &start.readers, start.count, start.of.as_slice())?;
+    if !may_move(n, &start, size) {
+        return Ok(unmoved(start, before));
+    }
+    let refined = refine_placed(alloc, n, start, before, size, passes)?;
+    Ok(refined)
 }
 
 /// The parts after so many passes of moves, in each of which every node in turn goes to the partition

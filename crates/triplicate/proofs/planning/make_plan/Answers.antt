@@ -6,13 +6,13 @@ use Rattle.partitioner.specs.Refining.{refined}
 use Rattle.triplicate.proofs.Building.{ranges_of, given_of}
 use Rattle.triplicate.proofs.planning.make_plan.Goals as goal
 
-pub cut-requires : goal.cut-requires
-cut-requires c =
+pub cut_in_order-requires : goal.cut_in_order-requires
+cut_in_order-requires c =
     let exact : c.in_ok-refined.refined.parts ≡ refined c.args.n.now.net c.args.size (plain_parts c.args.n.now.net c.args.size) 8 = c.in_ok-refined.ensures.exact ∙ ap (λ (p : PlainParts). refined c.args.n.now.net c.args.size p 8) c.in_ok-start.ensures.exact in
     (ranges_of c.args.n.now.net c.args.size c.in_ok-refined.refined.parts c.requires.size exact).long
 
-pub bound-requires-clause-parts : goal.bound-requires-clause-parts
-bound-requires-clause-parts c =
+pub bound_in_order-requires-clause-parts : goal.bound_in_order-requires-clause-parts
+bound_in_order-requires-clause-parts c =
     let exact : c.in_ok-refined.refined.parts ≡ refined c.args.n.now.net c.args.size (plain_parts c.args.n.now.net c.args.size) 8 = c.in_ok-refined.ensures.exact ∙ ap (λ (p : PlainParts). refined c.args.n.now.net c.args.size p 8) c.in_ok-start.ensures.exact in
     (ranges_of c.args.n.now.net c.args.size c.in_ok-refined.refined.parts c.requires.size exact).long
 
@@ -22,7 +22,7 @@ voting_parts-requires c =
     record {
       votes = record {
         parts_long = (ranges_of c.args.n.now.net c.args.size c.in_ok-refined.refined.parts c.requires.size exact).long;
-        cut = c.in_ok-cut.ensures;
+        cut = c.in_ok-found.ensures.cut;
         marks = c.in_ok-extra.ensures.marks;
       };
     }
@@ -32,13 +32,13 @@ returns c =
     let exact : c.in_ok-refined.refined.parts ≡ refined c.args.n.now.net c.args.size (plain_parts c.args.n.now.net c.args.size) 8 = c.in_ok-refined.ensures.exact ∙ ap (λ (p : PlainParts). refined c.args.n.now.net c.args.size p 8) c.in_ok-start.ensures.exact in
     record {
       inputs_are = refl;
-      given = given_of c.args.n.now.net c.args.size c.in_ok-refined.refined.parts (record { inputs = c.args.inputs; cut = c.in_ok-cut.cut; marks = c.in_ok-extra.extra.marks }) c.in_ok-extra.extra.table
-          c.requires.size c.nodes_of-nodes.ensures.design.valid c.requires.few (omega (arith, c.count-count.ensures)) exact c.in_ok-cut.ensures c.in_ok-extra.ensures.extra.depths;
+      given = given_of c.args.n.now.net c.args.size c.in_ok-refined.refined.parts (record { inputs = c.args.inputs; cut = c.in_ok-found.found.cut; marks = c.in_ok-extra.extra.marks }) c.in_ok-extra.extra.table
+          c.requires.size c.nodes_of-nodes.ensures.design.valid c.requires.few (omega (arith, c.count-count.ensures)) exact c.in_ok-found.ensures.cut c.in_ok-extra.ensures.extra.depths;
       cut_is = refl;
       extra_is = refl;
       votes = record {
         parts_long = (ranges_of c.args.n.now.net c.args.size c.in_ok-refined.refined.parts c.requires.size exact).long;
-        cut = c.in_ok-cut.ensures;
+        cut = c.in_ok-found.ensures.cut;
         marks = c.in_ok-extra.ensures.marks;
       };
       bound = c.in_ok-extra.ensures.extra;

@@ -4,8 +4,8 @@ use Rattle.partitioner.proofs.LossLaws.{sources_below}
 use Rattle.partitioner.proofs.GainLaws.{gained_few, gained_more, sources_few}
 use Rattle.partitioner.proofs.costs.gains.count_gains.Goals as goal
 
-pub row-requires : goal.row-requires
-row-requires c =
+pub row-readers-requires : goal.row-readers-requires
+row-readers-requires c =
     let perm : IsPermutation (other_sources c.args.n.now.net c.args.i) c.row-row.result.now = subst (λ (row : List ℕ). IsPermutation (other_sources c.args.n.now.net c.args.i) row) (sym c.row-row.ensures) (c.requires.tracks.sources c.args.i c.requires.node) in
     omega (arith, sources_below c.args.n.now.net c.args.i c.row-row.result.now perm c.loop-x.x-index 0 c.loop-x-test.true, c.requires.tracks.readers.long)
 

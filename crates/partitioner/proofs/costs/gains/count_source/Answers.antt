@@ -10,13 +10,13 @@ use Rattle.partitioner.proofs.costs.gains.count_source.Goals.{then-y-i, else-y-i
 
 pub part_of-requires-then-y-i-clause-node : goal.part_of-requires-then-y-i-clause-node
 part_of-requires-then-y-i-clause-node c =
-    subst (λ (xs : List ℕ). c.loop-y.y-index < length xs → get_or xs c.loop-y.y-index 0 < length c.args.n.now.net.nodes) (sym c.row-y-items.ensures)
+    subst (λ (xs : List ℕ). c.loop-y.y-index < length xs → get_or xs c.loop-y.y-index 0 < length c.args.n.now.net.nodes) (sym c.requires.readers)
     (rows_below (reads_other c.args.n.now.net) (length c.args.n.now.net.nodes) (length c.args.n.now.net.nodes) c.args.p.now.readers c.args.x c.loop-y.y-index c.requires.tracks.readers c.requires.source) c.loop-y-test.true
 
 pub loop-y-preserved : goal.loop-y-preserved
 loop-y-preserved c =
     let of = c.args.p.now.of.items in
-    let row = c.row-y-items.result.now in
+    let row = c.args.readers.now in
     let j = c.loop-y.y-index in
     let turn = c.args.gains.now.turn in
     let met = met_of of c.args.i c.args.x row in
