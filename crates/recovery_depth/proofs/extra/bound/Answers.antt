@@ -1,4 +1,4 @@
-use Rattle.std.proofs.Common.{sym, subst}
+use Rattle.std.proofs.Common.{sym, subst, ◌∙◌}
 use Rattle.feedback_cut.specs.Inner.{inner_rows}
 use Rattle.recovery_depth.specs.Private.Vertices.{IsOrdered}
 use Rattle.recovery_depth.specs.Private.Uncut.{uncut_rows}
