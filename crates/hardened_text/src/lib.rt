@@ -5,7 +5,7 @@
 //! names and no numbers of their own.
 #![tactic(auto)]
 
-mod certificate;
+mod certificate_lines;
 mod copies;
 mod design;
 mod names;

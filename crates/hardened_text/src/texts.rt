@@ -3,7 +3,7 @@ ghost use Rattle.std.specs.Prelude.{◌≡◌, ◌+◌, ◌<◌, ◌≤◌, ◌�
 ghost use Rattle.flat_net.specs.Net.{net_count, pin_total};
 ghost use Rattle.hardened_text.specs.Texts.{AreTexts};
 
-use crate::certificate::certificate_text;
+use crate::certificate_lines::certificate_text;
 use crate::design::design_text;
 use flat_net::{FreeNet, nodes_of};
 use std::alloc::Global;

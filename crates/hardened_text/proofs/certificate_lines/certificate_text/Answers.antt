@@ -1,7 +1,7 @@
 use Rattle.triplicate.specs.Planned.{voted_in}
 use Rattle.triplicate.specs.Private.Labels.{labeling}
 use Rattle.hardened_text.proofs.CertText.{cert_is}
-use Rattle.hardened_text.proofs.certificate.certificate_text.Goals as goal
+use Rattle.hardened_text.proofs.certificate_lines.certificate_text.Goals as goal
 
 pub returns : goal.returns
 returns c =

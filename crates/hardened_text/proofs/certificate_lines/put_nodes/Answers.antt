@@ -5,7 +5,7 @@ use Rattle.certificate.specs.Text.{line_text}
 use Rattle.hardened_text.specs.Private.Lines.{node_words}
 use Rattle.hardened_text.proofs.Ranges.{ranged_put}
 use Rattle.hardened_text.proofs.CertPuts.{same_node}
-use Rattle.hardened_text.proofs.certificate.put_nodes.Goals as goal
+use Rattle.hardened_text.proofs.certificate_lines.put_nodes.Goals as goal
 
 pub loop-y-preserved : goal.loop-y-preserved
 loop-y-preserved c =

@@ -7,7 +7,7 @@ use Rattle.hardened_text.specs.Private.Spelled.{line_head, lines_at}
 use Rattle.hardened_text.specs.Private.Lines.{voters_text}
 use Rattle.hardened_text.proofs.Ranges.{ranged_put}
 use Rattle.hardened_text.proofs.CertPuts.{row_same}
-use Rattle.hardened_text.proofs.certificate.put_voters.Goals as goal
+use Rattle.hardened_text.proofs.certificate_lines.put_voters.Goals as goal
 
 pub loop-x-preserved : goal.loop-x-preserved
 loop-x-preserved c =
