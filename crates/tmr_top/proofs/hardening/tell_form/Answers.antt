@@ -1,9 +1,8 @@
-use Rattle.std.proofs.Common.{◌≡◌, ◌≤◌, Bool, List, ℕ, length, sym, ap, subst, refl}
+use Rattle.std.proofs.Common.{◌≤◌, Bool, List, ℕ, [], ◌∷◌, ◌++◌, ◌∙◌, length, sym, ap, subst, refl}
 use Rattle.std.specs.Prelude.{◌↔◌, IsTrue}
-use Rattle.blif_writer.specs.Text.{free_text}
 use Rattle.partitioner.specs.Refining.{IsMinimal}
 use Rattle.triplicate.specs.Form.{parts_of}
-use Rattle.tmr_top.specs.FileWords.{hardening_in}
+use Rattle.tmr_top.specs.FileWords.{hardening_in, texts_in}
 use Rattle.tmr_top.proofs.HardenLaws.{hardened_work}
 use Rattle.tmr_top.proofs.hardening.tell_form.Goals as goal
 
@@ -16,4 +15,6 @@ returns-clause-work c = λ held holds.
     let certificate_short : length c.args.made.certificate.items ≤ 1073741824 = subst (λ (t : List ℕ). length t ≤ 1073741824) (sym a.certificate) limits.certificate in
     hardened_work held (hardening_in c.args.words.now) n a.pair.net.design.net c.args.n.now.free a.pair.net.free a.pair.cert c.args.made.minimal c.args.made.design.items c.args.made.certificate.items _ holds a.bounded.form
     (subst (λ (m : Bool). IsTrue m ↔ IsMinimal n c.args.words.now.size (parts_of a.pair.cert)) (sym a.minimal) a.bounded.minimal)
-    a.design design_short (a.design_read 1073741824 design_short) a.certificate certificate_short a.certificate_read refl ? (c.in_ok-text.ensures a)
+    a.design design_short (a.design_read 1073741824 design_short) a.certificate certificate_short a.certificate_read refl
+    (ap texts_in (c.in_ok-push-2.ensures.items ∙ ap (λ s. s ++ c.args.made.certificate ∷ []) (c.in_ok-push.ensures.items ∙ ap (λ s. s ++ c.args.made.design ∷ []) c.new-saves.ensures.items)))
+    (c.in_ok-text.ensures a)
