@@ -1,9 +1,7 @@
 //! In which partitions wide nodes are read.
 ghost use Rattle.std.specs.Prelude.{◌≡◌, ◌<◌, ◌≤◌, ◌==◌, ℕ, Bool, true, [], All, List, length, slice_index, slice_index_or, IfOk, OnOk};
-ghost use Rattle.std.specs.List.{list_any};
 ghost use Rattle.flat_net.specs.Net.{Net};
 ghost use Rattle.node_reads.specs.Sources.{reads_other, is_wide, marked_by_row};
-ghost use Rattle.node_reads.specs.Noting.{Lists};
 ghost use Rattle.partitioner.specs.Private.Sets.{has};
 ghost use Rattle.partitioner.specs.Private.Tracking.{Tracks, parts_of};
 ghost use Rattle.partitioner.specs.Private.Spotting.{AreSpots, KeepsSpots};

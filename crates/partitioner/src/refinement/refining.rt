@@ -169,16 +169,9 @@ fn refine_placed(
     ensures minimal { IfOk result (λ r. IsTrue r.minimal ↔ IsMinimal n.now.net size r.parts) }
 {
     let mut p = tracked(alloc, n, placed)?;
-    let mut passed = pass_all(alloc, n, &mut p, size, passes)?;
+    let mut done = pass_all(alloc, n, &mut p, size, passes)?;
     let cost = pairs_in(alloc, n, &p.readers, p.count, p.of.as_slice())?;
-    let minimal = no_move_helps(
-        n,
-        &p,
-        &passed.spots,
-        &mut passed.gains,
-        size,
-        passed.settled,
-    );
+    let minimal = no_move_helps(n, &p, &done.spots, &mut done.gains, size, done.settled);
     let Partitioning { count, of, .. } = p;
     Ok(Refined {
         parts: Parts::make(count, of),
