@@ -1,5 +1,6 @@
 //! Places in a list, of which as many as can take four bytes each.
 ghost use Rattle.std.specs.Prelude.{◌≡◌, ◌+◌, ◌<◌, ◌++◌, ◌∷◌, [], length, slice_index, IfOk, IfErr, OnOk};
+ghost use Rattle.graph.specs.Private.Packed.{start_of};
 
 use std::alloc::Global;
 use std::marker::Model;
@@ -30,6 +31,20 @@ fn offset_at(narrow: &[u32], wide: &[usize], x: usize) -> usize
         narrow[x] as usize
     } else {
         wide[x - narrow.len()]
+    }
+}
+
+/// Number x - 1 of these, or 0 for the first, and number x.
+fn piece_at(narrow: &[u32], wide: &[usize], x: usize) -> (usize, usize)
+    requires { x < length narrow.now + length wide.now }
+    ensures start { result.0 ≡ start_of 0 (narrow.now ++ wide.now) x }
+    ensures end { result.1 ≡ slice_index (narrow.now ++ wide.now) x }
+{
+    let end = offset_at(narrow, wide, x);
+    if x == 0 {
+        (0, end)
+    } else {
+        (offset_at(narrow, wide, x - 1), end)
     }
 }
 
@@ -68,6 +83,16 @@ impl Offsets {
         ensures { result ≡ slice_index self.now x }
     {
         offset_at(&self.narrow, &self.wide, x)
+    }
+
+    /// Where the piece of a list that ends at number x begins, and where it ends, if the pieces stand one
+    /// behind the other.
+    pub fn piece(&self, x: usize) -> (usize, usize)
+        requires { x < length self.now }
+        ensures start { result.0 ≡ start_of 0 self.now x }
+        ensures end { result.1 ≡ slice_index self.now x }
+    {
+        piece_at(&self.narrow, &self.wide, x)
     }
 
     /// One more.

@@ -1,7 +1,7 @@
 //! Which vertex reads which.
 ghost use Rattle.std.specs.Prelude.{◌≡◌, ◌<◌, ◌≤◌, ◌++◌, ◌∷◌, [], ℕ, List, length, map, replicate, slice_range, IfOk, OnOk};
 ghost use Rattle.graph.specs.Rows.{row};
-ghost use Rattle.graph.specs.Private.Packed.{rows_from, emptied_from, start_of, AreEnds};
+ghost use Rattle.graph.specs.Private.Packed.{rows_from, emptied_from, AreEnds};
 
 use crate::deciding::Decisions;
 use crate::offsets::Offsets;
@@ -30,14 +30,6 @@ impl Model for Graph {
     ghost invariant = { λ g. AreEnds 0 g.ends (length g.reads.items) };
 }
 
-/// Where row x begins.
-fn start_at(ends: &Offsets, x: usize) -> usize
-    requires { x < length ends.now }
-    ensures { result ≡ start_of 0 ends.now x }
-{
-    if x == 0 { 0 } else { ends.at(x - 1) }
-}
-
 /// The part of the list that stands there.
 fn part(reads: &[u32], from: usize, to: usize) -> &[u32]
     requires order { from ≤ to }
@@ -53,7 +45,8 @@ fn row_at<'a>(ends: &Offsets, reads: &'a [u32], x: usize) -> &'a [u32]
     requires within { x < length ends.now }
     ensures { result.now ≡ row (rows_from 0 ends.now reads.now) x }
 {
-    part(reads, start_at(ends, x), ends.at(x))
+    let (from, to) = ends.piece(x);
+    part(reads, from, to)
 }
 
 /// Empty rows in the places of these.

@@ -5,7 +5,7 @@ use Rattle.graph.proofs.rows.row_at.Goals as goal
 pub part-requires : goal.part-requires
 part-requires c =
     let part = end_within 0 c.args.ends.now (length c.args.reads.now) c.args.x c.requires.ends c.requires.within in
-    rw (c.start_at.ensures, c.at.ensures) (record { order = part.0; end = part.1 })
+    rw (c.piece-from.ensures.start, c.piece-from.ensures.end) (record { order = part.0; end = part.1 })
 
 pub returns : goal.returns
-returns c = c.part.ensures ∙ rw (c.start_at.ensures, c.at.ensures) (sym (row_from 0 c.args.ends.now c.args.reads.now c.args.x c.requires.within))
+returns c = c.part.ensures ∙ rw (c.piece-from.ensures.start, c.piece-from.ensures.end) (sym (row_from 0 c.args.ends.now c.args.reads.now c.args.x c.requires.within))
