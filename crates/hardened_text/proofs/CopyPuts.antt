@@ -13,7 +13,7 @@ use Rattle.tmr_base.specs.Parts.{PlainParts}
 use Rattle.table_cover.specs.Cover.{PlainCover}
 use Rattle.flat_net.specs.declared.kind.Kind.TheVariants as kind
 use Rattle.flat_net.specs.Kinds.{kind_of}
-use Rattle.flat_net.specs.Net.{Net, Node, Table, Register, node_of, node_name, name_of, pins_at, IsCoverOf, IsInitOf}
+use Rattle.flat_net.specs.Net.{Net, Node, Table, Register, node_of, node_name, name_of, pins_at, IsTable, IsInitOf}
 use Rattle.feedback_cut.specs.Inner.{node_pins}
 use Rattle.blif_writer.specs.Text.{control_words, init_word, start_of, row_lines, line_text, lines_text}
 use Rattle.blif_writer.specs.Left.{spaced}
@@ -21,7 +21,7 @@ use Rattle.blif_writer.proofs.NodeLines.{name_is}
 use Rattle.blif_writer.proofs.Putting.{word_put, line_put, more_put, one_put, lines_put}
 use Rattle.triplicate.proofs.Formed.{map_agree}
 use Rattle.hardened_text.specs.Private.Spelled.{pin_spelled, pins_spelled}
-use Rattle.hardened_text.specs.Private.Lines.{pin_name, pin_names, copy_lines}
+use Rattle.hardened_text.specs.Private.Lines.{pin_name, pin_names, copy_lines, AreRowsOf}
 use Rattle.hardened_text.proofs.Ranges.{in_range, row_done}
 
 -- the lines of copy c, by what is known of its pins
@@ -47,16 +47,16 @@ pins_done n digits votes x c j out total le e =
     row_done (λ (word : List ℕ). 32 ∷ word) j (pins_spelled n digits votes x c) out total (omega (arith, le, length-map-range_with_len (pin_spelled n digits votes x c) 0 (length (pins_at (node_of n x))))) e
 
 -- a table's lines are put
-pub table_put : (n : Net) (clock : Option (Edge × List ℕ)) (pins : List (List ℕ)) (c : CopyNo) (free : Bool) (x : ℕ) (o : Option Node) (k : PlainCover) (name old o1 o2 o3 o4 o5 : List ℕ) → node_of n x ≡ o → IsCoverOf o k → name ≡ name_of n x
-    → o1 ≡ old ++ codes ".names" → o2 ≡ o1 ++ spaced pins → o3 ≡ o2 ++ 32 ∷ copy_text name c → o4 ≡ o3 ++ 10 ∷ [] → o5 ≡ o4 ++ lines_text (row_lines k)
+pub table_put : (n : Net) (clock : Option (Edge × List ℕ)) (pins : List (List ℕ)) (c : CopyNo) (free : Bool) (x : ℕ) (o : Option Node) (name rows old o1 o2 o3 o4 o5 : List ℕ) → node_of n x ≡ o → IsTable o → AreRowsOf o rows → name ≡ name_of n x
+    → o1 ≡ old ++ codes ".names" → o2 ≡ o1 ++ spaced pins → o3 ≡ o2 ++ 32 ∷ copy_text name c → o4 ≡ o3 ++ 10 ∷ [] → o5 ≡ o4 ++ rows
     → o5 ≡ old ++ lines_text (copy_lines clock pins c free o)
-table_put n clock pins c free x None k name old o1 o2 o3 o4 o5 at cover is e1 e2 e3 e4 e5 = absurd cover
-table_put n clock pins c free x (Some (Register other init pin)) k name old o1 o2 o3 o4 o5 at cover is e1 e2 e3 e4 e5 = absurd cover
-table_put n clock pins c free x (Some (Table own d nets)) k name old o1 o2 o3 o4 o5 at cover is e1 e2 e3 e4 e5 =
+table_put n clock pins c free x None name rows old o1 o2 o3 o4 o5 at table told is e1 e2 e3 e4 e5 = absurd table
+table_put n clock pins c free x (Some (Register other init pin)) name rows old o1 o2 o3 o4 o5 at table told is e1 e2 e3 e4 e5 = absurd table
+table_put n clock pins c free x (Some (Table own d nets)) name rows old o1 o2 o3 o4 o5 at table told is e1 e2 e3 e4 e5 =
     let named : name ≡ own = is ∙ name_is n x (Table own d nets) at in
     let words : o3 ≡ o1 ++ spaced (pins ++ copy_text own c ∷ []) = more_put o1 o2 o3 pins (copy_text own c ∷ []) e2 (one_put o2 o3 (copy_text own c) (e3 ∙ ap (λ (w : List ℕ). o2 ++ 32 ∷ copy_text w c) named)) in
     let line : o4 ≡ old ++ line_text (codes ".names" ∷ (pins ++ copy_text own c ∷ [])) = line_put old o1 o3 o4 (codes ".names") (pins ++ copy_text own c ∷ []) e1 words e4 in
-    lines_put old o4 o5 (codes ".names" ∷ (pins ++ copy_text own c ∷ [])) (row_lines d) line (e5 ∙ ap (λ (p : PlainCover). o4 ++ lines_text (row_lines p)) (sym cover))
+    lines_put old o4 o5 (codes ".names" ∷ (pins ++ copy_text own c ∷ [])) (row_lines d) line (e5 ∙ ap (λ (t : List ℕ). o4 ++ t) (told d refl))
 
 -- a register's line is put
 pub register_put : (n : Net) (clock : Option (Edge × List ℕ)) (pins : List (List ℕ)) (c : CopyNo) (free : Bool) (x : ℕ) (o : Option Node) (b : Bool) (name control old o1 o2 o3 o4 o5 o6 : List ℕ) → node_of n x ≡ o → IsInitOf o b → name ≡ name_of n x → control ≡ spaced (control_words clock)

@@ -9,14 +9,14 @@ ghost use Rattle.triplicate.specs.Blocks.{hardened_clock};
 ghost use Rattle.triplicate.specs.Planned.{votes_in, voted_in};
 ghost use Rattle.triplicate.specs.Private.Pins.{AreVotesOf};
 ghost use Rattle.hardened_text.specs.Private.Spelled.{pin_spelled, pins_spelled};
-ghost use Rattle.hardened_text.specs.Private.Lines.{pin_names, copy_lines};
+ghost use Rattle.hardened_text.specs.Private.Lines.{pin_names, copy_lines, AreRowsOf};
 ghost use Rattle.tmr_base.specs.declared.copies.CopyNo.TheVariants.{First, Second, Third};
 
 use crate::names::{put_copy_name, put_voter_name};
 use blif_writer::{put_rows, put_start};
 use flat_net::{FlatNet, Kind, nodes_of};
 use itoa::Buffer;
-use std::alloc::AllocError;
+use std::alloc::{AllocError, Global};
 use tmr_base::{CopyNo, NetId};
 use triplicate::Plan;
 
@@ -63,26 +63,28 @@ fn put_pins(
     Ok(())
 }
 
-/// Puts the lines of copy c of table x.
+/// Puts the lines of copy c of table x, whose rows these are.
 fn put_table(
     out: &mut Vec<u8>,
     n: &FlatNet,
     x: NetId,
     digits: &[u8],
     votes: &[bool],
+    rows: &[u8],
     free: bool,
     c: CopyNo,
 ) -> Result<(), AllocError>
     requires range { x.0 < net_count n.now.net }
     requires table { IsTable (node_of n.now.net x.0) }
     requires votes { length votes.now ≡ length (pins_at (node_of n.now.net x.0)) }
+    requires rows { AreRowsOf (node_of n.now.net x.0) rows.now }
     ensures { OnOk result (out.new.items ≡ out.old.items ++ lines_text (copy_lines (hardened_clock n.now.net.clock) (pins_spelled n.now.net digits.now votes.now x.0 c) c free (node_of n.now.net x.0))) }
 {
     out.extend_from_slice(b".names")?;
     put_pins(out, n, x, digits, votes, c)?;
     put_copy_name(out, n.name(x).bytes(), c)?;
     out.push(b'\n')?;
-    put_rows(out, n.cover(x))?;
+    out.extend_from_slice(rows)?;
     Ok(())
 }
 
@@ -120,6 +122,7 @@ fn put_copy(
     x: NetId,
     digits: &[u8],
     votes: &[bool],
+    rows: &[u8],
     control: &[u8],
     free: bool,
     c: CopyNo,
@@ -127,11 +130,12 @@ fn put_copy(
     requires range { x.0 < net_count n.now.net }
     requires votes { length votes.now ≡ length (pins_at (node_of n.now.net x.0)) }
     requires control { control.now ≡ spaced (control_words (hardened_clock n.now.net.clock)) }
+    requires rows { AreRowsOf (node_of n.now.net x.0) rows.now }
     ensures { OnOk result (out.new.items ≡ out.old.items ++ lines_text (copy_lines (hardened_clock n.now.net.clock) (pins_spelled n.now.net digits.now votes.now x.0 c) c free (node_of n.now.net x.0))) }
 {
     match n.kind(x) {
         Kind::Input => Ok(()),
-        Kind::Table => put_table(out, n, x, digits, votes, free, c),
+        Kind::Table => put_table(out, n, x, digits, votes, rows, free, c),
         Kind::Register => put_register(out, n, x, digits, votes, control, free, c),
     }
 }
@@ -143,19 +147,31 @@ fn put_three(
     x: NetId,
     digits: &[u8],
     votes: &[bool],
+    rows: &[u8],
     control: &[u8],
     free: bool,
 ) -> Result<(), AllocError>
     requires range { x.0 < net_count n.now.net }
     requires votes { length votes.now ≡ length (pins_at (node_of n.now.net x.0)) }
     requires control { control.now ≡ spaced (control_words (hardened_clock n.now.net.clock)) }
+    requires rows { AreRowsOf (node_of n.now.net x.0) rows.now }
     ensures { OnOk result (out.new.items ≡ ((out.old.items ++ lines_text (copy_lines (hardened_clock n.now.net.clock) (pins_spelled n.now.net digits.now votes.now x.0 First) First free (node_of n.now.net x.0)))
         ++ lines_text (copy_lines (hardened_clock n.now.net.clock) (pins_spelled n.now.net digits.now votes.now x.0 Second) Second free (node_of n.now.net x.0)))
         ++ lines_text (copy_lines (hardened_clock n.now.net.clock) (pins_spelled n.now.net digits.now votes.now x.0 Third) Third free (node_of n.now.net x.0))) }
 {
-    put_copy(out, n, x, digits, votes, control, free, CopyNo::First)?;
-    put_copy(out, n, x, digits, votes, control, free, CopyNo::Second)?;
-    put_copy(out, n, x, digits, votes, control, free, CopyNo::Third)?;
+    put_copy(out, n, x, digits, votes, rows, control, free, CopyNo::First)?;
+    put_copy(
+        out,
+        n,
+        x,
+        digits,
+        votes,
+        rows,
+        control,
+        free,
+        CopyNo::Second,
+    )?;
+    put_copy(out, n, x, digits, votes, rows, control, free, CopyNo::Third)?;
     Ok(())
 }
 
@@ -175,8 +191,36 @@ fn note_votes(n: &FlatNet, plan: &Plan, y: u32, votes: &mut Vec<bool>) -> Result
     Ok(())
 }
 
-/// Puts the lines of the copies of node y. `control` is how a register's clock is told, and `votes` is room for what is
-/// known of pins.
+/// The lines of the rows of net x, if it is a table, put into `rows`.
+fn note_rows(n: &FlatNet, x: NetId, rows: &mut Vec<u8>) -> Result<(), AllocError>
+    requires { x.0 < net_count n.now.net }
+    ensures { OnOk result (AreRowsOf (node_of n.now.net x.0) rows.new.items) }
+{
+    rows.clear();
+    match n.kind(x) {
+        Kind::Table => put_rows(rows, n.cover(x)),
+        _ => Ok(()),
+    }
+}
+
+/// Room for what is known of one node while its copies are written.
+#[derive(Drop)]
+pub struct Room {
+    votes: Vec<bool>,
+    rows: Vec<u8>,
+}
+
+impl Room {
+    /// Room that is empty.
+    pub fn new(alloc: Global) -> Room {
+        Room {
+            votes: Vec::new(alloc),
+            rows: Vec::new(alloc),
+        }
+    }
+}
+
+/// Puts the lines of the copies of node y. `control` is how a register's clock is told.
 pub fn put_copies(
     out: &mut Vec<u8>,
     n: &FlatNet,
@@ -184,7 +228,7 @@ pub fn put_copies(
     y: u32,
     control: &[u8],
     free: bool,
-    votes: &mut Vec<bool>,
+    room: &mut Room,
 ) -> Result<(), AllocError>
     requires planned { AreVotesOf n.now.net plan.now.parts (votes_in plan.now) }
     requires node { y < length n.now.net.nodes }
@@ -194,10 +238,12 @@ pub fn put_copies(
         ++ lines_text (copy_lines (hardened_clock n.now.net.clock) (pin_names n.now.net plan.now.parts (voted_in n.now.net plan.now) y Third) Third free (node_of n.now.net (length n.now.net.inputs + y)))) }
 {
     let _nodes = nodes_of(n);
-    note_votes(n, plan, y, votes)?;
+    let x = NetId(n.input_count() + y);
+    note_votes(n, plan, y, &mut room.votes)?;
+    note_rows(n, x, &mut room.rows)?;
     let mut digits = Buffer::new();
     let digits = digits.format(plan.parts.of(y));
-    let x = NetId(n.input_count() + y);
-    put_three(out, n, x, digits.as_bytes(), votes, control, free)?;
+    let digits = digits.as_bytes();
+    put_three(out, n, x, digits, &room.votes, &room.rows, control, free)?;
     Ok(())
 }

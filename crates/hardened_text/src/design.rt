@@ -16,7 +16,7 @@ ghost use Rattle.triplicate.specs.Private.Starts.{AreVoterRows};
 ghost use Rattle.hardened_text.specs.Private.Spelled.{three_spelled};
 ghost use Rattle.hardened_text.specs.Private.Lines.{role_lines, block_text, blocks_text, marks_of};
 
-use crate::copies::put_copies;
+use crate::copies::{Room, put_copies};
 use crate::names::put_three_names;
 use crate::voters::put_voters;
 use flat_net::{FlatNet, FreeNet, nodes_of};
@@ -97,7 +97,7 @@ fn put_control(out: &mut Vec<u8>, n: &FlatNet) -> Result<(), AllocError>
     }
 }
 
-/// Puts the lines of the copies of net x, if it is a node. `votes` is room.
+/// Puts the lines of the copies of net x, if it is a node.
 fn put_own_copies(
     out: &mut Vec<u8>,
     n: &FlatNet,
@@ -105,7 +105,7 @@ fn put_own_copies(
     x: u32,
     free: bool,
     control: &[u8],
-    votes: &mut Vec<bool>,
+    room: &mut Room,
 ) -> Result<(), AllocError>
     requires planned { AreVotesOf n.now.net plan.now.parts (votes_in plan.now) }
     requires net { x < net_count n.now.net }
@@ -116,11 +116,11 @@ fn put_own_copies(
     if x < inputs {
         return Ok(());
     }
-    put_copies(out, n, plan, x - inputs, control, free, votes)?;
+    put_copies(out, n, plan, x - inputs, control, free, room)?;
     Ok(())
 }
 
-/// Puts what stands for net x: the lines of its copies, if it is a node, and of its voters. `votes` and `head` are room.
+/// Puts what stands for net x: the lines of its copies, if it is a node, and of its voters. `head` is room too.
 fn put_block(
     out: &mut Vec<u8>,
     n: &FlatNet,
@@ -128,7 +128,7 @@ fn put_block(
     x: u32,
     free: bool,
     control: &[u8],
-    votes: &mut Vec<bool>,
+    room: &mut Room,
     head: &mut Vec<u8>,
 ) -> Result<(), AllocError>
     requires planned { AreVotesOf n.now.net plan.now.parts (votes_in plan.now) }
@@ -137,7 +137,7 @@ fn put_block(
     requires control { control.now ≡ spaced (control_words (hardened_clock n.now.net.clock)) }
     ensures { OnOk result (out.new.items ≡ out.old.items ++ block_text n.now.net plan.now.parts (voted_in n.now.net plan.now) free x) }
 {
-    put_own_copies(out, n, plan, x, free, control, votes)?;
+    put_own_copies(out, n, plan, x, free, control, room)?;
     put_voters(out, n.name(NetId(x)).bytes(), plan.voters.row(x), head)?;
     Ok(())
 }
@@ -162,12 +162,12 @@ fn put_blocks(alloc: Global, out: &mut Vec<u8>, n: &FreeNet, plan: &Plan) -> Res
     let net = n.net();
     let mut control = Vec::new(alloc);
     put_control(&mut control, net)?;
-    let mut votes = Vec::new(alloc);
+    let mut room = Room::new(alloc);
     let mut head = Vec::new(alloc);
     let nets = net.input_count() + nodes_of(net);
     for x in 0..nets {
         let free = is_free(n, plan.inputs, x);
-        put_block(out, net, plan, x, free, &control, &mut votes, &mut head)?;
+        put_block(out, net, plan, x, free, &control, &mut room, &mut head)?;
     }
     Ok(())
 }

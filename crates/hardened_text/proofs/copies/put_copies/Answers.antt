@@ -14,5 +14,5 @@ put_three-requires-clause-votes c =
 
 pub returns : goal.returns
 returns c =
-    three_put c.args.n.now.net c.args.plan.now.parts (voted_in c.args.n.now.net c.args.plan.now) (hardened_clock c.args.n.now.net.clock) c.args.free (c.input_count.result + c.args.y) c.args.y c.of.result c.as_bytes.result.now c.deref.result.now c.args.out.now.items c.put_three.new.out.items
-    (omega (arith, c.input_count.ensures.count)) c.of.ensures.value (c.as_bytes.ensures.value ∙ c.format-digits.ensures.text) (c.deref.ensures.value ∙ c.in_ok-note_votes.ensures) c.in_ok-put_three.ensures
+    three_put c.args.n.now.net c.args.plan.now.parts (voted_in c.args.n.now.net c.args.plan.now) (hardened_clock c.args.n.now.net.clock) c.args.free (c.input_count.result + c.args.y) c.args.y c.of.result c.as_bytes-digits.result.now c.deref.result.now c.args.out.now.items c.put_three.new.out.items
+    (omega (arith, c.input_count.ensures.count)) c.of.ensures.value (c.as_bytes-digits.ensures.value ∙ c.format-digits.ensures.text) (c.deref.ensures.value ∙ c.in_ok-note_votes.ensures) c.in_ok-put_three.ensures
