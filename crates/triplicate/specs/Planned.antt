@@ -34,7 +34,10 @@ cert_in n p = hardened_cert n p.parts (voted_in n p) (labeling p.inputs p.extra.
 abbrev pub pair_in : FreeDesign → Plan → HardenedFree
 pair_in n p = record {
   net = record {
-    design = record { net = hardened_net n.design.net p.parts (voted_in n.design.net p); order = hardened_order n.design.net p.parts (voted_in n.design.net p) n.design.order };
+    design = record {
+      net = hardened_net n.design.net p.parts (voted_in n.design.net p);
+      order = hardened_order n.design.net p.parts (voted_in n.design.net p) n.design.order;
+    };
     free = spread_start (cert_in n.design.net p) (counted (cert_in n.design.net p) n.free);
   };
   cert = cert_in n.design.net p;

@@ -42,7 +42,8 @@ AreRowsOf net rows = (k : PlainCover) → IsCoverOf net k → rows ≡ lines_tex
 
 -- the lines of the voter for partition p that gives copy c of the net with this name
 abbrev pub voter_lines : List ℕ → ℕ → CopyNo → List (List (List ℕ))
-voter_lines name p c = (codes ".names" ∷ copy_text name First ∷ copy_text name Second ∷ copy_text name Third ∷ voter_text name p c ∷ []) ∷ row_lines majority_cover
+voter_lines name p c =
+    (codes ".names" ∷ copy_text name First ∷ copy_text name Second ∷ copy_text name Third ∷ voter_text name p c ∷ []) ∷ row_lines majority_cover
 
 -- the lines of what a role stands for; `free` says whether its net is a register whose value in cycle 0 is free
 abbrev pub role_lines : Net → PlainParts → (ℕ → ℕ → Bool) → Bool → Role → List (List (List ℕ))
@@ -74,7 +75,8 @@ voter_words name p c = codes "voter" ∷ voter_text name p c ∷ name ∷ decima
 -- a certificate's lines of the voters of net x
 abbrev pub voters_text : Net → PlainParts → (ℕ → ℕ → Bool) → ℕ → List ℕ
 voters_text n parts voted x =
-    flat_map (λ p. line_text (voter_words (name_of n x) p First) ++ (line_text (voter_words (name_of n x) p Second) ++ line_text (voter_words (name_of n x) p Third)))
+    flat_map (λ p. line_text (voter_words (name_of n x) p First)
+    ++ (line_text (voter_words (name_of n x) p Second) ++ line_text (voter_words (name_of n x) p Third)))
     (voting_parts n parts voted x)
 
 -- a certificate's lines of the first count nodes, of these labels
