@@ -1,5 +1,5 @@
 -- The lines of the copies of a node, piece by piece.
-use Rattle.std.proofs.Common.{◌≡◌, ℕ, ◌+◌, ◌<◌, ◌≤◌, Bool, false, List, [], ◌∷◌, ◌++◌, length, map, drop, get_or, slice_get, Option, Some, None, refl, sym, ap, ◌∙◌, arith}
+use Rattle.std.proofs.Common.{◌≡◌, ℕ, ◌+◌, ◌<◌, ◌≤◌, Bool, false, List, [], ◌∷◌, ◌++◌, length, map, drop, slice_get, Option, Some, None, refl, sym, ap, ◌∙◌, arith}
 use Rattle.std.specs.Prelude.{codes, slice_index, if◌then◌else◌}
 use Rattle.std.specs.List.{range_with_len}
 use Rattle.std.specs.Fmt.{decimal}
@@ -10,10 +10,9 @@ use Rattle.tmr_base.specs.declared.copies.CopyNo.TheVariants.{First, Second, Thi
 use Rattle.tmr_base.specs.declared.ids.Edge.{Edge}
 use Rattle.tmr_base.specs.Names.{copy_text, voter_text}
 use Rattle.tmr_base.specs.Parts.{PlainParts}
-use Rattle.table_cover.specs.Cover.{PlainCover}
 use Rattle.flat_net.specs.declared.kind.Kind.TheVariants as kind
 use Rattle.flat_net.specs.Kinds.{kind_of}
-use Rattle.flat_net.specs.Net.{Net, Node, Table, Register, node_of, node_name, name_of, pins_at, IsTable, IsInitOf}
+use Rattle.flat_net.specs.Net.{Net, Node, Table, Register, node_of, name_of, pins_at, IsTable, IsInitOf}
 use Rattle.feedback_cut.specs.Inner.{node_pins}
 use Rattle.blif_writer.specs.Text.{control_words, init_word, start_of, row_lines, line_text, lines_text}
 use Rattle.blif_writer.specs.Left.{spaced}

@@ -1,15 +1,14 @@
 -- The texts are those of the pair that is made of the plan.
 use Rattle.std.proofs.Common.{◌≡◌, ℕ, zero, suc, ◌+◌, ◌*◌, ◌-◌, ◌<◌, ◌≤◌, ◌^◌, ◌⊎◌, Bool, List, [], ◌∷◌, length, get_or, refl, sym, ap, subst, ◌∙◌, arith}
-use Rattle.std.specs.Prelude.{All, Ok, nat_eq, count_by, slice_index}
+use Rattle.std.specs.Prelude.{All, nat_eq}
 use Rattle.flat_net.specs.Net.{Net, Design, IsValid, IsDesign}
 use Rattle.flat_net.specs.Free.{FreeDesign, AreMarks}
 use Rattle.blif_writer.specs.NetOf.{IsFreeNetOf}
 use Rattle.blif_writer.specs.Text.{free_text}
 use Rattle.blif_writer.proofs.Again.{free_of_text}
 use Rattle.blif_writer.proofs.Lengths.{text_long}
-use Rattle.certificate.specs.Cert.{PlainCert, IsCert}
+use Rattle.certificate.specs.Cert.{IsCert}
 use Rattle.certificate.specs.Folding.{fold_of_text}
-use Rattle.certificate.specs.Reading.{cert_of_text}
 use Rattle.certificate.specs.Starts.{counted, spread_start}
 use Rattle.certificate.specs.Text.{cert_text}
 use Rattle.certificate.proofs.RoundTrip.{fold_of_text_again}
@@ -17,7 +16,6 @@ use Rattle.certificate.proofs.Same.{same_reading}
 use Rattle.triplicate.specs.Blocks.{hardened_roles}
 use Rattle.triplicate.specs.declared.planning.Plan.{Plan}
 use Rattle.triplicate.specs.Planned.{IsPlan, voted_in, cert_in, pair_in}
-use Rattle.triplicate.specs.Result.{is_voter_role}
 use Rattle.triplicate.specs.Private.Construction.{hardened_net, hardened_cert, hardened_order}
 use Rattle.triplicate.specs.Private.Labels.{labeling}
 use Rattle.triplicate.proofs.Certified.{cert_fits, is_cert}

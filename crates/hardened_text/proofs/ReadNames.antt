@@ -1,5 +1,5 @@
 -- The names of what pins and outputs of the hardened design read.
-use Rattle.std.proofs.Common.{◌≡◌, ℕ, ◌+◌, ◌<◌, ◌≤◌, ◌⊎◌, inl, inr, Bool, true, false, List, length, refl, sym, ap, ◌∙◌, arith}
+use Rattle.std.proofs.Common.{◌≡◌, ℕ, ◌<◌, ◌≤◌, ◌⊎◌, inl, inr, Bool, true, false, List, length, refl, sym, ap, ◌∙◌}
 use Rattle.std.specs.Prelude.{slice_index, if◌then◌else◌}
 use Rattle.std.proofs.lemmas.Bool.{cases_lt}
 use Rattle.tmr_base.specs.declared.copies.CopyNo.{CopyNo}
@@ -7,17 +7,15 @@ use Rattle.tmr_base.specs.Names.{copy_text, voter_text}
 use Rattle.tmr_base.specs.Parts.{PlainParts}
 use Rattle.flat_net.specs.Net.{Net, net_count, name_of}
 use Rattle.certificate.specs.declared.role.Role.TheVariants.{Copy, Voter}
-use Rattle.feedback_cut.specs.Inner.{node_pins}
 use Rattle.triplicate.specs.Voting.{ReadsNet}
-use Rattle.triplicate.specs.Private.Construction.{pin_net, hardened_net, hardened_cert}
+use Rattle.triplicate.specs.Private.Construction.{pin_net, hardened_net}
 use Rattle.triplicate.specs.Private.Given.{IsGiven}
 use Rattle.triplicate.specs.Private.Labels.{Labeling}
 use Rattle.triplicate.specs.Private.Numbers.{copy_net, voter_net}
 use Rattle.triplicate.proofs.Named.{name_of_role, input_name}
 use Rattle.triplicate.proofs.Numbering.{copy_net_input}
-use Rattle.triplicate.proofs.Reading.{voted_role, unvoted_role}
+use Rattle.triplicate.proofs.Reading.{voted_role}
 use Rattle.triplicate.proofs.Tripled.{role_of_copy}
-use Rattle.hardened_text.specs.Private.Lines.{pin_name}
 
 module _ (n : Net) (parts : PlainParts) (voted : ℕ → ℕ → Bool) (t : Labeling) (is : IsGiven n parts voted t) where
   -- copy c of net x

@@ -1,5 +1,5 @@
 -- The lines of voters, piece by piece.
-use Rattle.std.proofs.Common.{◌≡◌, ℕ, ◌+◌, Bool, List, [], ◌∷◌, ◌++◌, map, refl, sym, ap, ◌∙◌, append_assoc}
+use Rattle.std.proofs.Common.{◌≡◌, ℕ, ◌+◌, Bool, List, [], ◌∷◌, ◌++◌, refl, ap, ◌∙◌, append_assoc}
 use Rattle.std.specs.Prelude.{codes}
 use Rattle.std.specs.List.{flat_map}
 use Rattle.std.specs.Fmt.{decimal}
@@ -16,7 +16,7 @@ use Rattle.blif_writer.specs.Left.{spaced}
 use Rattle.blif_writer.proofs.Putting.{joined}
 use Rattle.triplicate.specs.Blocks.{voters_for}
 use Rattle.triplicate.specs.Form.{majority_cover}
-use Rattle.hardened_text.specs.Private.Spelled.{voter_head, voter_rows, voter_text_at, voters_at, three_spelled}
+use Rattle.hardened_text.specs.Private.Spelled.{voter_head, voter_text_at, voters_at, three_spelled}
 use Rattle.hardened_text.specs.Private.Lines.{voter_lines, role_lines}
 
 regroup : (name digits rows : List ℕ) (letter : ℕ) →

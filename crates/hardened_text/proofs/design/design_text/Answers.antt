@@ -1,7 +1,7 @@
-use Rattle.std.proofs.Common.{List, [], ◌∷◌, ◌++◌, ap, ◌∙◌}
+use Rattle.std.proofs.Common.{[], ◌∷◌, ◌++◌, ap, ◌∙◌}
 use Rattle.std.specs.Prelude.{codes}
 use Rattle.std.specs.List.{flat_map}
-use Rattle.flat_net.specs.Net.{Net, Design, name_of}
+use Rattle.flat_net.specs.Net.{Design, name_of}
 use Rattle.blif_writer.specs.Left.{spaced, spaced_line}
 use Rattle.blif_writer.specs.Text.{clock_words}
 use Rattle.triplicate.specs.Blocks.{hardened_clock}

@@ -1,5 +1,5 @@
-use Rattle.std.proofs.Common.{ℕ, Bool, List, ◌++◌, ◌+◌, length, ap, sym, subst, ◌∙◌, arith}
-use Rattle.flat_net.specs.Net.{Net, net_count, node_of}
+use Rattle.std.proofs.Common.{ℕ, Bool, List, ◌++◌, length, ap, ◌∙◌}
+use Rattle.flat_net.specs.Net.{Net}
 use Rattle.flat_net.specs.Free.{node_bit}
 use Rattle.triplicate.specs.Planned.{voted_in}
 use Rattle.hardened_text.specs.Private.Lines.{block_text, marks_of}

@@ -1,4 +1,4 @@
-use Rattle.std.proofs.Common.{◌+◌, ◌-◌, length, ap, ◌∙◌, arith}
+use Rattle.std.proofs.Common.{◌+◌, ◌-◌, length, arith}
 use Rattle.triplicate.specs.Planned.{voted_in}
 use Rattle.hardened_text.proofs.BlockPuts.{node_copies, input_copies}
 use Rattle.hardened_text.proofs.design.put_own_copies.Goals as goal
