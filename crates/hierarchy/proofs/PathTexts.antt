@@ -5,8 +5,7 @@ use Rattle.std.specs.Option.{option_map_or}
 use Rattle.std.specs.List.{list_all}
 use Rattle.std.specs.Fmt.{decimal}
 use Rattle.tmr_base.specs.Names.{is_name, is_name_byte}
-use Rattle.tmr_base.proofs.NameLaws.{list_all-append, name_behind}
-use Rattle.std.proofs.lemmas.List.Folds.{list_all-append as all_append}
+use Rattle.tmr_base.proofs.NameLaws.{list_all-append, numbered_name}
 use Rattle.hierarchy.specs.Flat.{step}
 use Rattle.hierarchy.specs.Private.Walk.{IsPathText}
 
@@ -25,9 +24,8 @@ take_text (b ∷ path) (suc end) p = let e = both (is_name_byte b) (list_all is_
 
 decimal_bytes : (number : ℕ) → number < 2 ^ 64 → list_all is_name_byte (decimal number) ≡ true
 decimal_bytes number small =
-    let whole : list_all is_name_byte (126 ∷ (decimal number ++ 126 ∷ 97 ∷ [])) ≡ true = (both _ _ (name_behind number 97 small (omega arith) (omega arith))).1 in
-    let rest : list_all is_name_byte (decimal number ++ 126 ∷ 97 ∷ []) ≡ true = (both (is_name_byte 126) _ whole).1 in
-    (both (list_all is_name_byte (decimal number)) _ (sym (all_append is_name_byte (decimal number) (126 ∷ 97 ∷ [])) ∙ rest)).0
+    let name = both _ (list_all is_name_byte (126 ∷ decimal number)) (numbered_name 126 number refl small) in
+    (both (is_name_byte 126) (list_all is_name_byte (decimal number)) name.1).1
 
 step_bytes : (number : ℕ) → number < 2 ^ 64 → IsPathText (step number)
 unfolding step

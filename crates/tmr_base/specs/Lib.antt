@@ -3,3 +3,4 @@ pub mod Names
 pub mod Numbers
 pub mod Parts
 pub mod Bytes
+pub mod Hashing

@@ -18,6 +18,10 @@ is_name bytes = option_map_or (λ b. not (b == 92)) (slice_get bytes (length byt
 abbrev pub copy_text : List ℕ → CopyNo → List ℕ
 copy_text x c = x ++ 126 ∷ (48 + copy_number c) ∷ []
 
+-- the names of the voters of net x for partition p begin with `x~p`, p in decimal
+abbrev pub stem_text : List ℕ → ℕ → List ℕ
+stem_text x p = x ++ 126 ∷ decimal p
+
 -- the voter of net x for partition p is `x~p~a`, `x~p~b` or `x~p~c`, p in decimal
 abbrev pub voter_text : List ℕ → ℕ → CopyNo → List ℕ
 voter_text x p c = x ++ 126 ∷ (decimal p ++ 126 ∷ (97 + copy_number c) ∷ [])

@@ -15,7 +15,7 @@ mod number;
 mod parts;
 
 pub use copies::CopyNo;
-pub use hardened_name::{clock_name, copy_name, voter_name};
+pub use hardened_name::{clock_name, copy_name, voter_name, voter_on_stem, voter_stem};
 pub use ids::{Edge, NetId, PartId, Upset};
 pub use memory::OutOfMemory;
 pub use name::{Name, NameFault};

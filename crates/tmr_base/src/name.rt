@@ -1,13 +1,15 @@
 //! A name: the bytes that stand for a net or a model in the text format.
-ghost use Rattle.std.specs.Prelude.{◌≡◌, ◌==◌, ◌++◌, true, false, OnOk, IfOk, OnErr, IsErrOf, IsOkUnless, IsTrue};
+ghost use Rattle.std.specs.Prelude.{◌≡◌, ◌==◌, ◌++◌, ◌∷◌, [], true, false, OnOk, IfOk, OnErr, IsErrOf, IsOkUnless, IsTrue};
 ghost use Rattle.std.proofs.Common.{rules};
-ghost use Rattle.std.specs.Cmp.Rules.{comparing, hashing};
+ghost use Rattle.std.specs.Cmp.Rules.{comparing};
 ghost use Rattle.std.specs.Cmp.{partial_order_from_own_ties};
 ghost use Rattle.std.specs.Cmp.Lexicographic.{slice_cmp};
 ghost use Rattle.std.specs.Ordering.{nat_cmp, as_partial_cmp};
-ghost use Rattle.std.specs.Hash as fed;
+ghost use Rattle.std.specs.Hash.{same_Alike};
 ghost use Rattle.std.specs.List.{list_all};
 ghost use Rattle.std.specs.Str.{bytes_eq};
+ghost use Rattle.std.proofs.lemmas.Slice.Eq.{bytes_eq-Decides};
+ghost use Rattle.tmr_base.specs.Hashing.{tells_copy, hashed_part};
 ghost use Rattle.tmr_base.specs.Names.{is_name, is_name_byte};
 
 use crate::OutOfMemory;
@@ -18,7 +20,7 @@ use std::hash::{Hash, Hasher};
 use std::marker::Model;
 
 /// One or more bytes above 0x20, none of them 0x7F or `#`, of which the last is no backslash.
-/// Names are equal, ordered and hashed as their bytes. Up to 31 bytes stand in the value itself; only a longer name takes memory of its own.
+/// Names are equal and ordered as their bytes. Up to 31 bytes stand in the value itself; only a longer name takes memory of its own.
 #[derive(Debug, Drop)]
 pub struct Name {
     bytes: NameBytes,
@@ -109,13 +111,41 @@ pub fn with_suffix(alloc: Global, x: &Name, suffix: &[u8]) -> Result<Name, OutOf
     Ok(Name { bytes })
 }
 
+/// The same bytes. The last ones are compared first, since names that hash alike differ there as a rule.
+
+fn are_same(a: &[u8], b: &[u8]) -> bool
+    ensures { result ≡ bytes_eq a.now b.now }
+{
+    a.last() == b.last() && a == b
+}
+
+/// `0`, `1`, `2`, `a`, `b` or `c`, which ends the name of a copy or a voter.
+fn tells_copy(b: u8) -> bool
+    ensures { result ≡ tells_copy b }
+{
+    matches!(b, b'0'..=b'2' | b'a'..=b'c')
+}
+
+/// What of a name is hashed: all but a last byte that tells a copy. So the copies of a net stand side by side in
+/// a table, and so do its voters for a partition: of three looked up in turn the table is fetched once from memory.
+fn hashed_part(bytes: &[u8]) -> &[u8]
+    ensures { result.now ≡ hashed_part bytes.now }
+{
+    let count = bytes.len();
+    if count > 1 && bytes[count - 2] == b'~' && tells_copy(bytes[count - 1]) {
+        &bytes[..count - 1]
+    } else {
+        bytes
+    }
+}
+
 impl PartialEq for Name {
     ghost eq = { bytes_eq };
 
     ghost laws = { Prim.search (comparing, rules) };
 
     fn eq(&self, other: &Name) -> bool {
-        self.bytes() == other.bytes()
+        are_same(self.bytes(), other.bytes())
     }
 }
 
@@ -124,12 +154,12 @@ impl Eq for Name {
 }
 
 impl Hash for Name {
-    ghost hash_input = { fed.slice fed.u8 };
+    ghost hash_input = { λ name. hashed_part name ∷ [] };
 
-    ghost respects_eq = { Prim.search (hashing, rules) };
+    ghost respects_eq = { (same_Alike (λ name. hashed_part name ∷ []) bytes_eq-Decides).fed };
 
     fn hash<H: Hasher>(&self, state: &mut H) {
-        self.bytes().hash(state);
+        state.write(hashed_part(self.bytes()));
     }
 }
 
