@@ -1,5 +1,5 @@
 -- The texts that hardening adds never meet.
-use Rattle.std.proofs.Common.{◌≡◌, ◌≢◌, ℕ, zero, suc, ◌+◌, ◌^◌, ◌<◌, true, List, [], ◌∷◌, ◌++◌, refl, sym, ◌∙◌, subst, arith, append_assoc, All}
+use Rattle.std.proofs.Common.{◌≡◌, ◌≢◌, ℕ, zero, suc, ◌+◌, ◌^◌, ◌<◌, true, List, [], ◌∷◌, ◌++◌, refl, ap, sym, ◌∙◌, subst, arith, append_assoc, All}
 use Rattle.std.specs.Prelude.{codes}
 use Rattle.std.specs.Fmt.{decimal}
 use Rattle.std.specs.Char.{is_ascii_digit}
@@ -12,7 +12,7 @@ use Rattle.tmr_base.specs.declared.copies.CopyNo.{CopyNo}
 use Rattle.tmr_base.specs.declared.copies.CopyNo.TheVariants.{First, Second, Third}
 use Rattle.tmr_base.specs.Copies.{copy_number}
 use Rattle.tmr_base.specs.Names.{is_name, copy_text, voter_text, clock_text}
-use Rattle.tmr_base.proofs.NameLaws.{name_append, voter_suffix_name}
+use Rattle.tmr_base.proofs.NameLaws.{name_append, numbered_name}
 use Rattle.triplicate.proofs.Lists.{same_copy, copy_number_few}
 
 -- equal lists end alike
@@ -109,7 +109,13 @@ copy_is_name a Second h = name_append a (126 ∷ 49 ∷ []) h refl
 copy_is_name a Third h = name_append a (126 ∷ 50 ∷ []) h refl
 
 pub voter_is_name : (a : List ℕ) (p : ℕ) (c : CopyNo) → p < 2 ^ 64 → is_name a ≡ true → is_name (voter_text a p c) ≡ true
-voter_is_name a p c fits h = name_append a (126 ∷ (decimal p ++ 126 ∷ (97 + copy_number c) ∷ [])) h (voter_suffix_name (126 ∷ (decimal p ++ 126 ∷ (97 + copy_number c) ∷ [])) p c fits refl)
+voter_is_name a p c fits h =
+    ap is_name (voter_split a p c) ∙ letter_behind (a ++ 126 ∷ decimal p) c (name_append a (126 ∷ decimal p) h (numbered_name 126 p refl fits))
+  where
+    letter_behind : (stem : List ℕ) (c : CopyNo) → is_name stem ≡ true → is_name (stem ++ 126 ∷ (97 + copy_number c) ∷ []) ≡ true
+    letter_behind stem First h = name_append stem (126 ∷ 97 ∷ []) h refl
+    letter_behind stem Second h = name_append stem (126 ∷ 98 ∷ []) h refl
+    letter_behind stem Third h = name_append stem (126 ∷ 99 ∷ []) h refl
 
 pub clock_is_name : (a : List ℕ) → is_name a ≡ true → is_name (clock_text a) ≡ true
 clock_is_name a h = name_append a (126 ∷ 107 ∷ []) h refl

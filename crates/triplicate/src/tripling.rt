@@ -2,8 +2,9 @@
 ghost use Rattle.std.specs.Prelude.{◌≡◌, ◌+◌, ◌*◌, ◌<◌, ◌≤◌, ◌-◌, ◌++◌, [], ◌∷◌, ℕ, List, All, map, length, false, IfOk, OnOk};
 ghost use Rattle.std.specs.List.{flat_map};
 ghost use Rattle.tmr_base.specs.Copies.{copy_number};
+ghost use Rattle.tmr_base.specs.Names.{stem_text};
 ghost use Rattle.tmr_base.specs.declared.copies.CopyNo.TheVariants.{First};
-ghost use Rattle.flat_net.specs.Net.{Node, node_name, net_count, node_of, pins_at, IsTable, IsRegister};
+ghost use Rattle.flat_net.specs.Net.{Node, node_name, name_of, net_count, node_of, pins_at, IsTable, IsRegister};
 ghost use Rattle.flat_net.specs.Nodes.{number_of};
 ghost use Rattle.flat_net.specs.Packs.{Packs};
 ghost use Rattle.flat_net.specs.Faults.{is_among};
@@ -28,36 +29,40 @@ use graph::Graph;
 use indexmap::IndexSet;
 use std::alloc::Global;
 use table_cover::Cover;
-use tmr_base::{CopyNo, Name, NetId, OutOfMemory, PartId, Parts, copy_name, voter_name};
+use tmr_base::{
+    CopyNo, Name, NetId, OutOfMemory, PartId, Parts, copy_name, voter_on_stem, voter_stem,
+};
 
-/// The names, nodes and roles of a part of the hardened design.
+/// The names, nodes and roles of a part of the hardened design, and room for what one copy reads.
 #[derive(Drop)]
 pub struct Made {
     pub names: IndexSet<Name>,
     pub nodes: PackedNodes,
     pub roles: Vec<Role>,
+    pub room: Vec<NetId>,
 }
 
-/// What copy c of a node reads, where the first copy reads these.
-fn shifted(alloc: Global, pins: &[u32], c: CopyNo) -> Result<Vec<NetId>, OutOfMemory>
+/// What copy c of a node reads, where the first copy reads these, put into `room`.
+fn shift(room: &mut Vec<NetId>, pins: &[u32], c: CopyNo) -> Result<(), OutOfMemory>
     requires { All (λ p. p + 3 < 4294967296) pins.now }
-    ensures { IfOk result (λ nets. map number_of nets.items ≡ map (λ p. p + copy_number c) pins.now) }
+    ensures { OnOk result (map number_of room.new.items ≡ map (λ p. p + copy_number c) pins.now) }
 {
-    let mut nets = Vec::new(alloc);
+    room.clear();
     let behind = c.number();
     for pin in pins {
-        nets.push(NetId(*pin + behind))?;
+        room.push(NetId(*pin + behind))?;
     }
-    Ok(nets)
+    Ok(())
 }
 
-/// Adds copy c of table x.
+/// Adds copy c of table x. `room` is for what it reads.
 fn push_table_copy(
     alloc: Global,
     n: &FlatNet,
     x: NetId,
     c: CopyNo,
     pins: &[u32],
+    room: &mut Vec<NetId>,
     nodes: &mut PackedNodes,
 ) -> Result<(), OutOfMemory>
     requires range { x.0 < net_count n.now.net }
@@ -67,9 +72,9 @@ fn push_table_copy(
     requires room { length nodes.old.pins.items + length pins.now < 4294967296 }
     ensures { OnOk result (PushesNode nodes.old nodes.new (shifted_node c pins.now (node_of n.now.net x.0))) }
 {
-    let shifted = shifted(alloc, pins, c)?;
+    shift(room, pins, c)?;
     let cover = n.cover(x).copy(alloc)?;
-    push_table(nodes, cover, &shifted)?;
+    push_table(nodes, cover, room.as_slice())?;
     Ok(())
 }
 
@@ -95,13 +100,14 @@ fn push_register_copy(
     Ok(())
 }
 
-/// Adds copy c of node x.
+/// Adds copy c of node x. `room` is for what it reads.
 fn push_node_copy(
     alloc: Global,
     n: &FlatNet,
     x: NetId,
     c: CopyNo,
     pins: &[u32],
+    room: &mut Vec<NetId>,
     nodes: &mut PackedNodes,
 ) -> Result<(), OutOfMemory>
     requires range { x.0 < net_count n.now.net }
@@ -114,7 +120,7 @@ fn push_node_copy(
 {
     match n.kind(x) {
         Kind::Input => Ok(()),
-        Kind::Table => push_table_copy(alloc, n, x, c, pins, nodes),
+        Kind::Table => push_table_copy(alloc, n, x, c, pins, room, nodes),
         Kind::Register => push_register_copy(n, x, c, pins, nodes),
     }
 }
@@ -142,7 +148,7 @@ fn push_copy(
 {
     let name = copy_name(alloc, n.name(x), c)?;
     made.names.insert(name)?;
-    push_node_copy(alloc, n, x, c, pins, &mut made.nodes)?;
+    push_node_copy(alloc, n, x, c, pins, &mut made.room, &mut made.nodes)?;
     made.roles.push(Role::Copy { node: x, copy: c })?;
     Ok(())
 }
@@ -174,7 +180,7 @@ fn push_copies(
     Ok(())
 }
 
-/// Adds a voter of net x for partition p, which gives copy c. `copy` is the first copy of x.
+/// Adds a voter of net x for partition p, which gives copy c. `stem` begins its name, and `copy` is the first copy of x.
 fn push_voter(
     alloc: Global,
     n: &FlatNet,
@@ -183,10 +189,12 @@ fn push_voter(
     x: NetId,
     p: PartId,
     c: CopyNo,
+    stem: &Name,
     copy: u32,
     cover: &Cover,
     made: &mut Made,
 ) -> Result<(), OutOfMemory>
+    requires stem { stem.now ≡ stem_text (name_of n.now.net x.0) p.0 }
     requires range { x.0 < net_count n.now.net }
     requires copy { copy ≡ copy_net n.now.net parts.now (pin_is_voted n.now.net parts.now votes.now) x.0 First }
     requires few { copy + 3 < 4294967296 }
@@ -197,7 +205,7 @@ fn push_voter(
     ensures made { OnOk result (IsMade n.now.net parts.now (pin_is_voted n.now.net parts.now votes.now) made.new) }
     ensures roles { OnOk result (made.new.roles.items ≡ made.old.roles.items ++ Voter x p c ∷ []) }
 {
-    let name = voter_name(alloc, n.name(x), p, c)?;
+    let name = voter_on_stem(alloc, stem, c)?;
     made.names.insert(name)?;
     let majority = cover.copy(alloc)?;
     let pins = [NetId(copy), NetId(copy + 1), NetId(copy + 2)];
@@ -232,6 +240,7 @@ fn push_three_voters(
     ensures made { OnOk result (IsMade n.now.net parts.now (pin_is_voted n.now.net parts.now votes.now) made.new) }
     ensures roles { OnOk result (made.new.roles.items ≡ made.old.roles.items ++ voters_for x.0 p.0) }
 {
+    let stem = voter_stem(alloc, n.name(x), p)?;
     push_voter(
         alloc,
         n,
@@ -240,6 +249,7 @@ fn push_three_voters(
         x,
         p,
         CopyNo::First,
+        &stem,
         copy,
         cover,
         made,
@@ -252,6 +262,7 @@ fn push_three_voters(
         x,
         p,
         CopyNo::Second,
+        &stem,
         copy,
         cover,
         made,
@@ -264,6 +275,7 @@ fn push_three_voters(
         x,
         p,
         CopyNo::Third,
+        &stem,
         copy,
         cover,
         made,
@@ -430,6 +442,7 @@ pub fn make_tripled(
         names,
         nodes,
         roles,
+        room: Vec::new(alloc),
     };
     let cover = majority(alloc)?;
     let mut pins = Vec::new(alloc);
