@@ -81,7 +81,8 @@ pub record IsCert (k : PlainCert) : Type 0 where
   pub copies_long : length k.copies ≡ length k.part
   pub labels_long : length k.labels ≡ length k.part
   pub roles_in_range : (h : ℕ) (r : Role) → role_of k h ≡ Some r → RoleIsInRange k r
-  pub copies_have_roles : (x : ℕ) (c : CopyNo) → k.original_inputs ≤ x → x < k.original_inputs + length k.part → role_of k (copy_of k x c) ≡ Some (Copy (record { 0 = x }) c)
+  pub copies_have_roles : (x : ℕ) (c : CopyNo) → k.original_inputs ≤ x → x < k.original_inputs + length k.part
+      → role_of k (copy_of k x c) ≡ Some (Copy (record { 0 = x }) c)
   pub roles_are_copies : (h : ℕ) (x : ℕ) (c : CopyNo) → role_of k h ≡ Some (Copy (record { 0 = x }) c) → copy_of k x c ≡ h
 
 -- the certificate counts the inputs and nodes of both designs

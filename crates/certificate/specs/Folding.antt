@@ -192,7 +192,8 @@ fold_of_text n h bytes = do
   start ← first_line (record { line = 1; bytes = bytes })
   parts ← parts_line start.1
   depths ← repeat parts.0 part_step (record { depth = []; rest = parts.1 })
-  nodes ← repeat (length n.nodes) (node_step n h parts.0) (record { part = []; copies = []; labels = []; roles = replicate (length h.nodes) None; rest = depths.rest })
+  nodes ← repeat (length n.nodes) (node_step n h parts.0)
+      (record { part = []; copies = []; labels = []; roles = replicate (length h.nodes) None; rest = depths.rest })
   voters ← repeat (length h.nodes) (voter_step start.0 n h parts.0 nodes.roles) (record { roles = []; rest = nodes.rest })
   end ← last_line voters.rest
   Ok (record {

@@ -41,11 +41,15 @@ abbrev pub node_gives : Net → Net → List ℕ → List (ℕ × Role)
 node_gives n h line = copy_given n h line 3 First ∷ copy_given n h line 4 Second ∷ copy_given n h line 5 Third ∷ []
 
 abbrev pub voter_gives : Net → Net → List ℕ → List (ℕ × Role)
-voter_gives n h line = (value (node_in h line 1), Voter (record { 0 = value (net_in n line 2) }) (record { 0 = value (number_in line 3) }) (unwrap_or (copy_named (word_of line 4)) First)) ∷ []
+voter_gives n h line = (
+  value (node_in h line 1),
+  Voter (record { 0 = value (net_in n line 2) }) (record { 0 = value (number_in line 3) }) (unwrap_or (copy_named (word_of line 4)) First),
+) ∷ []
 
 -- the roles that a line gives to hardened nodes: a node's line to the three copies, a voter's line to the voter, any other none
 abbrev pub gives : Net → Net → List ℕ → List (ℕ × Role)
-gives n h line = if bytes_eq (word_of line 0) (codes "node") then node_gives n h line else if bytes_eq (word_of line 0) (codes "voter") then voter_gives n h line else []
+gives n h line = if bytes_eq (word_of line 0) (codes "node") then node_gives n h line
+    else if bytes_eq (word_of line 0) (codes "voter") then voter_gives n h line else []
 
 -- the roles that lines give
 abbrev pub given : Net → Net → List (List ℕ) → List (ℕ × Role)

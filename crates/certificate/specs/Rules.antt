@@ -33,7 +33,8 @@ CopiesTable k None h p c = Unit {0}
 
 -- a register that copies a register, each with its mark
 abbrev pub CopiesRegister : PlainCert → Option Node → Bool → Option Node → Bool → ℕ → CopyNo → Type 0
-CopiesRegister k (Some (Register name init pin)) free (Some (Register hname hinit hpin)) hfree p c = (hinit ≡ init) × (hfree ≡ free) × Reads k hpin pin p c
+CopiesRegister k (Some (Register name init pin)) free (Some (Register hname hinit hpin)) hfree p c =
+    (hinit ≡ init) × (hfree ≡ free) × Reads k hpin pin p c
 CopiesRegister k (Some (Register name init pin)) free (Some (Table hname cover pins)) hfree p c = ⊥
 CopiesRegister k (Some (Register name init pin)) free None hfree p c = ⊥
 CopiesRegister k (Some (Table name cover pins)) free h hfree p c = Unit {0}
@@ -53,7 +54,8 @@ LabelReaches k (Some (Register name init pin)) e = count_of k pin + 1 ≤ e
 
 -- the rules at hardened net g
 abbrev pub Rule3 : Net → Net → PlainCert → ℕ → Type 0
-Rule3 n h k g = (x : ℕ) (c : CopyNo) (p : ℕ) → role_of k g ≡ Some (Copy (record { 0 = x }) c) → part_of k x ≡ Some p → CopiesTable k (node_of n x) (node_of h g) p c
+Rule3 n h k g = (x : ℕ) (c : CopyNo) (p : ℕ) → role_of k g ≡ Some (Copy (record { 0 = x }) c) → part_of k x ≡ Some p
+    → CopiesTable k (node_of n x) (node_of h g) p c
 
 abbrev pub Rule4 : Net → List Bool → Net → List Bool → PlainCert → ℕ → Type 0
 Rule4 n f h g k y =

@@ -61,7 +61,8 @@ voted_in version n line i = if nat_eq version 1 then node_in n line i else net_i
 
 -- `0`, `1` or `2`
 abbrev pub copy_named : List ℕ → Option CopyNo
-copy_named w = if bytes_eq w (codes "0") then Some First else if bytes_eq w (codes "1") then Some Second else if bytes_eq w (codes "2") then Some Third else None
+copy_named w = if bytes_eq w (codes "0") then Some First else if bytes_eq w (codes "1") then Some Second
+    else if bytes_eq w (codes "2") then Some Third else None
 
 abbrev pub are_numbers : List ℕ → List ℕ → Bool
 are_numbers line places = list_all (λ i. is_some (number_in line i)) places

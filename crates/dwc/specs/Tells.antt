@@ -31,7 +31,8 @@ SomeDiffer n g ft t = (k : ℕ) × (k < length n.outputs) × (copy_value g ft t 
 -- original's value
 pub record TellsInCycle (n g : Net) (tr ft : List (List Bool)) (t : ℕ) : Type 0 where
   pub alarmed : (alarm_value n g ft t ≡ true) ↔ SomeDiffer n g ft t
-  pub right : alarm_value n g ft t ≡ false → (k c : ℕ) → k < length n.outputs → c < 2 → copy_value g ft t k c ≡ value_at tr t (slice_index n.outputs k)
+  pub right : alarm_value n g ft t ≡ false → (k c : ℕ) → k < length n.outputs → c < 2
+      → copy_value g ft t k c ≡ value_at tr t (slice_index n.outputs k)
 
 -- for all inputs, and all upsets that strike copies of one number alone, in each cycle the alarm tells whether they reach an output
 abbrev pub Guards : Net → Net → Type 0

@@ -112,7 +112,8 @@ pub record IsOrder (n : Net) (order : List ℕ) : Type 0 where
   pub nodes : All (IsNode n) order
   pub complete : (x : ℕ) → IsNode n x → Contains order x
   pub once : (before after : List ℕ) (x : ℕ) → order ≡ before ++ x ∷ after → Contains before x → ⊥
-  pub after : (before after : List ℕ) (x : ℕ) → order ≡ before ++ x ∷ after → All (λ pin. IsTable (node_of n pin) → Contains before pin) (table_pins (node_of n x))
+  pub after : (before after : List ℕ) (x : ℕ) → order ≡ before ++ x ∷ after
+      → All (λ pin. IsTable (node_of n pin) → Contains before pin) (table_pins (node_of n x))
 
 -- a node's pins are nets, and a table has as many as its cover is wide
 abbrev pub IsWired : ℕ → Node → Type 0

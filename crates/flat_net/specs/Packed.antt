@@ -14,7 +14,8 @@ abbrev pub nodes_from : ℕ → List (List ℕ) → List Body → List ℕ → L
 nodes_from from names [] ends pins = []
 nodes_from from [] (body ∷ bodies) ends pins = []
 nodes_from from (name ∷ names) (body ∷ bodies) [] pins = []
-nodes_from from (name ∷ names) (body ∷ bodies) (end ∷ ends) pins = node_from name body (slice_range pins from end) ∷ nodes_from end names bodies ends pins
+nodes_from from (name ∷ names) (body ∷ bodies) (end ∷ ends) pins =
+    node_from name body (slice_range pins from end) ∷ nodes_from end names bodies ends pins
 
 -- a register has one pin
 abbrev pub HasPins : Body → ℕ → ℕ → Type 0

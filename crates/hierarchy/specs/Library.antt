@@ -7,7 +7,8 @@ use Rattle.hierarchy.specs.Faults.{model_fault}
 
 -- no statement of the reached models before this one has a fault
 abbrev pub AreFaultless : List PlainModel → ℕ → Type 0
-AreFaultless library place = (k : ℕ) (m : PlainModel) → k < place → slice_get library k ≡ Some m → Reached (graph library) k → model_fault library m ≡ None
+AreFaultless library place = (k : ℕ) (m : PlainModel) → k < place → slice_get library k ≡ Some m
+    → Reached (graph library) k → model_fault library m ≡ None
 
 -- the first fault of the statements of the reached models, which are taken in the order of the file
 pub record IsFirstFault (library : List PlainModel) (fault : PlacingFault) : Type 0 where

@@ -27,7 +27,8 @@ value_at rows t x = bit (row_at rows t) x
 abbrev pub start_at : Net → List Bool → List Bool → ℕ → Option Bool
 start_at n free w x = if node_bit (length n.inputs) free x then Some (node_bit (length n.inputs) w x) else None
 
--- what a node's own equation gives it in cycle t, where `start` is its start value if it is free, `before` are the values of the cycle before and v those of this one
+-- what a node's own equation gives it in cycle t, where `start` is its start value if it is free, `before` are the
+-- values of the cycle before and v those of this one
 abbrev pub node_value : Node → Option Bool → ℕ → List Bool → List Bool → Bool
 node_value (Table name cover pins) start t before v = cover_value cover (map (bit v) pins)
 node_value (Register name init pin) start zero before v = unwrap_or start init
@@ -102,4 +103,5 @@ TracesAreUnique n =
 -- with all start values, and schedules of either version
 abbrev pub FreeTracesAreUnique : Net → List Bool → Type 0
 FreeTracesAreUnique n free =
-    (version : ℕ) (w : List Bool) (ins : List (List Bool)) → AreRows n ins → (s : List Upset) → IsScheduleOf version n (length ins) s → HasOneTrace n free w ins s
+    (version : ℕ) (w : List Bool) (ins : List (List Bool)) → AreRows n ins → (s : List Upset)
+    → IsScheduleOf version n (length ins) s → HasOneTrace n free w ins s

@@ -17,7 +17,8 @@ number_from high (b ∷ bits) = number_from (2 * high + (if b then 1 else 0)) bi
 
 -- bit k of these six words, the highest first, are the binary digits of k
 abbrev pub places : List ℕ
-places = 18446744069414584320 ∷ 18446462603027742720 ∷ 18374966859414961920 ∷ 17361641481138401520 ∷ 14757395258967641292 ∷ 12297829382473034410 ∷ []
+places = 18446744069414584320 ∷ 18446462603027742720 ∷ 18374966859414961920 ∷ 17361641481138401520
+    ∷ 14757395258967641292 ∷ 12297829382473034410 ∷ []
 
 -- the value on some bits is the word's bit at their number
 abbrev pub Tells : PlainCover → ℕ → ℕ → Type 0

@@ -47,4 +47,5 @@ refined n size parts (suc k) = pass n size (refined n size parts k)
 -- no single node moved to a partition with room lowers the cost
 abbrev pub IsMinimal : Net → ℕ → PlainParts → Type 0
 IsMinimal n size parts =
-    (i p : ℕ) → i < length n.nodes → p < parts.count → slice_index parts.of i ≢ p → has_room size parts p ≡ true → cost n parts ≤ cost n (put parts i p)
+    (i p : ℕ) → i < length n.nodes → p < parts.count → slice_index parts.of i ≢ p → has_room size parts p ≡ true
+    → cost n parts ≤ cost n (put parts i p)

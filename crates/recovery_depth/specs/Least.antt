@@ -17,11 +17,13 @@ AreDeep h k deeps = (p : ℕ) (d : Deep) → slice_get deeps p ≡ Some d → Is
 
 -- no labels and depths that the rules admit have a smaller depth
 abbrev pub AreLeast : Net → PlainCert → List Deep → Type 0
-AreLeast h k deeps = (labels : List Three) (depths : List ℕ) → Admits h (relabeled k labels depths) → (p : ℕ) (d : Deep) → slice_get deeps p ≡ Some d → d.depth ≤ slice_index depths p
+AreLeast h k deeps = (labels : List Three) (depths : List ℕ) → Admits h (relabeled k labels depths) → (p : ℕ) (d : Deep)
+    → slice_get deeps p ≡ Some d → d.depth ≤ slice_index depths p
 
 -- each label is the most registers of a walk that ends in its copy
 abbrev pub AreReaches : Net → PlainCert → List Three → Type 0
-AreReaches h k labels = (g x : ℕ) (c : CopyNo) → role_at h k g ≡ Some (Copy (record { 0 = x }) c) → IsReach (ReadsCopy h k) (own_original h k) g (label_of (relabeled k labels []) x c)
+AreReaches h k labels = (g x : ℕ) (c : CopyNo) → role_at h k g ≡ Some (Copy (record { 0 = x }) c)
+    → IsReach (ReadsCopy h k) (own_original h k) g (label_of (relabeled k labels []) x c)
 
 abbrev pub depth_in : Deep → ℕ
 depth_in d = d.depth

@@ -47,8 +47,10 @@ pub record IsStruck (k : PlainCert) (us : List Upset) (count : ℕ) (p : Option 
 
 -- the last upsets among the first
 pub record AreLasts (k : PlainCert) (us : List Upset) (count : ℕ) (lasts : List ℕ) : Type 0 where
-  pub latest : (j : ℕ) (u : Upset) (p : Option ℕ) (c : CopyNo) → j < count → slice_get us j ≡ Some u → IsIn k u.net.0 p c → u.cycle < behind_last lasts (place_of p) c
-  pub reached : (p : Option ℕ) (c : CopyNo) → IsPart k p → 0 < behind_last lasts (place_of p) c → IsStruck k us count p c (behind_last lasts (place_of p) c)
+  pub latest : (j : ℕ) (u : Upset) (p : Option ℕ) (c : CopyNo) → j < count → slice_get us j ≡ Some u → IsIn k u.net.0 p c
+      → u.cycle < behind_last lasts (place_of p) c
+  pub reached : (p : Option ℕ) (c : CopyNo) → IsPart k p → 0 < behind_last lasts (place_of p) c
+      → IsStruck k us count p c (behind_last lasts (place_of p) c)
 
 -- among the first upsets, those of two copies of one partition are more than its depth apart
 abbrev pub AreApart : PlainCert → List Upset → ℕ → Type 0

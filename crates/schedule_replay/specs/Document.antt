@@ -89,7 +89,8 @@ entry_from (Some cycle) (Some net) (Some value) = Some (record { cycle = cycle; 
 abbrev pub entry_in : Members → Option Entry
 entry_in ms =
     if only_keys is_upset_key ms
-    then entry_from (natural_at (codes "cycle") ms) (option_and_then as_str (get_member (codes "net") ms)) (option_and_then bit_of_number (natural_at (codes "value") ms))
+    then entry_from (natural_at (codes "cycle") ms) (option_and_then as_str (get_member (codes "net") ms))
+    (option_and_then bit_of_number (natural_at (codes "value") ms))
     else None
 
 abbrev pub entry_of : Data → Option Entry
@@ -129,7 +130,8 @@ and_then (Err e) f = Err e
 -- the earlier upsets and those that the entries are, counted from j
 abbrev pub upsets_from : ℕ → Net → ℕ → ℕ → List Upset → List Data → Result (List Upset) ScheduleFault
 upsets_from version h cycles j earlier [] = Ok earlier
-upsets_from version h cycles j earlier (d ∷ ds) = and_then (upset_of version h cycles j earlier (entry_of d)) (λ u. upsets_from version h cycles (j + 1) (earlier ++ u ∷ []) ds)
+upsets_from version h cycles j earlier (d ∷ ds) =
+    and_then (upset_of version h cycles j earlier (entry_of d)) (λ u. upsets_from version h cycles (j + 1) (earlier ++ u ∷ []) ds)
 
 abbrev pub row_or_fault : ℕ → Option (List Bool) → Result (List Bool) ScheduleFault
 row_or_fault t None = Err (fault.Row t)

@@ -14,4 +14,5 @@ HaveOneLength list = (i j : ℕ) (s r : PlainSchedule) → slice_get list i ≡ 
 -- outcome j is that of schedule j, where nothing is marked and nodes alone are struck
 pub record AreReplaysOf (n h : Net) (k : PlainCert) (list : List PlainSchedule) (outcomes : List Outcome) : Type 0 where
   pub long : length outcomes ≡ length list
-  pub each : (j : ℕ) (s : PlainSchedule) (o : Outcome) → slice_get list j ≡ Some s → slice_get outcomes j ≡ Some o → IsReplayOf n [] [] h [] [] k s (plain_outcome o)
+  pub each : (j : ℕ) (s : PlainSchedule) (o : Outcome) → slice_get list j ≡ Some s → slice_get outcomes j ≡ Some o
+      → IsReplayOf n [] [] h [] [] k s (plain_outcome o)

@@ -24,7 +24,8 @@ output_at n h tr ft t i = record {
   cycle = t;
   output = i;
   original = value_at tr t (slice_index n.outputs i);
-  copies = value_at ft t (slice_index h.outputs (3 * i)) ∷ value_at ft t (slice_index h.outputs (3 * i + 1)) ∷ value_at ft t (slice_index h.outputs (3 * i + 2)) ∷ [];
+  copies = value_at ft t (slice_index h.outputs (3 * i)) ∷ value_at ft t (slice_index h.outputs (3 * i + 1))
+      ∷ value_at ft t (slice_index h.outputs (3 * i + 2)) ∷ [];
 }
 
 -- the first outputs in cycle t
@@ -121,7 +122,8 @@ pub record IsOutcome (n h : Net) (k : PlainCert) (s : List Upset) (tr ft : List 
 pub record IsReplayOf (n : Net) (f w : List Bool) (h : Net) (g u : List Bool) (k : PlainCert) (s : PlainSchedule) (o : PlainOutcome) : Type 0 where
   pub original : HasOneTrace n f w s.rows []
   pub hardened : HasOneTrace h g u (spread s.rows) s.upsets
-  pub outcome : (tr ft : List (List Bool)) → IsFreeTrace n f w s.rows tr → IsFreeFaultTrace h g u (spread s.rows) s.upsets ft → IsOutcome n h k s.upsets tr ft (length s.rows) o
+  pub outcome : (tr ft : List (List Bool)) → IsFreeTrace n f w s.rows tr → IsFreeFaultTrace h g u (spread s.rows) s.upsets ft
+      → IsOutcome n h k s.upsets tr ft (length s.rows) o
 
 -- the same with the marks that count by the certificate, where the marked registers have the schedule's start values
 abbrev pub IsFreeReplay : Net → List Bool → Net → List Bool → PlainCert → PlainSchedule → PlainOutcome → Type 0
@@ -129,4 +131,5 @@ IsFreeReplay n f h g k s o = IsReplayOf n (counted k f) (given_starts k f s) h (
 
 -- the cycle behind the last upset of each partition, up to cycle t, tells whether the partition is quiet
 abbrev pub TellQuiet : PlainCert → List Upset → ℕ → List ℕ → Type 0
-TellQuiet k s t lasts = (p : ℕ) → p < length k.depth → is_quiet k s p t ≡ (nat_eq (slice_index lasts p) 0 || nat_le (slice_index lasts p + depth_of k p) t)
+TellQuiet k s t lasts = (p : ℕ) → p < length k.depth
+    → is_quiet k s p t ≡ (nat_eq (slice_index lasts p) 0 || nat_le (slice_index lasts p + depth_of k p) t)

@@ -22,7 +22,8 @@ waves (d ∷ ds) = wave_of d ++ waves ds
 pub record AreWavesOf (n : Net) (f w : List Bool) (h : Net) (g u : List Bool) (s : PlainSchedule) (values : List Bool) : Type 0 where
   pub original : HasOneTrace n f w s.rows []
   pub hardened : HasOneTrace h g u (spread s.rows) s.upsets
-  pub values_are : (tr ft : List (List Bool)) → IsFreeTrace n f w s.rows tr → IsFreeFaultTrace h g u (spread s.rows) s.upsets ft → values ≡ waves (outputs_until n h tr ft (length s.rows))
+  pub values_are : (tr ft : List (List Bool)) → IsFreeTrace n f w s.rows tr → IsFreeFaultTrace h g u (spread s.rows) s.upsets ft
+      → values ≡ waves (outputs_until n h tr ft (length s.rows))
 
 -- the same with the marks that count by the certificate, where the marked registers have the schedule's start values
 abbrev pub AreFreeWaves : Net → List Bool → Net → List Bool → PlainCert → PlainSchedule → List Bool → Type 0

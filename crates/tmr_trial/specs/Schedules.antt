@@ -25,17 +25,23 @@ row_drawn inputs s = map (λ i. draw s i 2 == 1) (range_with_len 0 inputs)
 abbrev pub upset_drawn : Net → Net → ℕ → ℕ → Option Upset
 upset_drawn n h t s =
     if length h.nodes == 0 then None
-    else Some (record { cycle = t; net = record { 0 = length h.inputs + draw s (length n.inputs) (length h.nodes) }; value = draw s (suc (length n.inputs)) 2 == 1 })
+    else Some (record {
+      cycle = t;
+      net = record { 0 = length h.inputs + draw s (length n.inputs) (length h.nodes) };
+      value = draw s (suc (length n.inputs)) 2 == 1;
+    })
 
 -- an upset is added where the schedule stays allowed with it, and nowhere else
 abbrev pub IsAdded : PlainCert → List Upset → Option Upset → List Upset → Type 0
 IsAdded k before None after = after ≡ before
-IsAdded k before (Some u) after = (Allowed (before ++ u ∷ []) k × (after ≡ before ++ u ∷ [])) ⊎ ((Allowed (before ++ u ∷ []) k → ⊥) × (after ≡ before))
+IsAdded k before (Some u) after =
+    (Allowed (before ++ u ∷ []) k × (after ≡ before ++ u ∷ [])) ⊎ ((Allowed (before ++ u ∷ []) k → ⊥) × (after ≡ before))
 
 -- the upsets of the first t cycles
 abbrev pub AreAdded : Net → Net → PlainCert → ℕ → ℕ → List Upset → Type 0
 AreAdded n h k number zero us = us ≡ []
-AreAdded n h k number (suc t) us = (before : List Upset) × AreAdded n h k number t before × IsAdded k before (upset_drawn n h t (state_before n h number t)) us
+AreAdded n h k number (suc t) us =
+    (before : List Upset) × AreAdded n h k number t before × IsAdded k before (upset_drawn n h t (state_before n h number t)) us
 
 -- the schedule of so many cycles that is drawn from this number
 pub record IsScheduleOf (number : ℕ) (n h : Net) (k : PlainCert) (cycles : ℕ) (s : PlainSchedule) : Type 0 where

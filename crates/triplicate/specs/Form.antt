@@ -84,7 +84,8 @@ version_of true = 2
 
 -- the hardened form of n, of which f are the marks, with the pins that are voted besides those that have to be; with
 -- `inputs` the certificate has version 2, and pins that read inputs are voted
-pub record HasForm (n : Net) (f : List Bool) (size : ℕ) (h : Net) (g : List Bool) (k : PlainCert) (inputs : Bool) (extra : ℕ → ℕ → Bool) : Type 0 where
+pub record HasForm (n : Net) (f : List Bool) (size : ℕ) (h : Net) (g : List Bool) (k : PlainCert) (inputs : Bool)
+    (extra : ℕ → ℕ → Bool) : Type 0 where
   pub version : k.version ≡ version_of inputs
   pub parts : parts_of k ≡ refined n size (plain_parts n size) 8
   pub tripled : IsTripled n h k

@@ -34,5 +34,6 @@ Masks n h k =
 abbrev pub FreeMasks : Net → List Bool → Net → List Bool → PlainCert → Type 0
 FreeMasks n f h g k =
     (w : List Bool) (ins tr : List (List Bool)) (s : List Upset) (ft : List (List Bool)) →
-    AreRows n ins → IsFreeTrace n (counted k f) w ins tr → IsScheduleOf k.version h (length ins) s → Allowed s k → IsFreeFaultTrace h (counted k g) (spread_start k w) (spread ins) s ft →
+    AreRows n ins → IsFreeTrace n (counted k f) w ins tr → IsScheduleOf k.version h (length ins) s → Allowed s k
+    → IsFreeFaultTrace h (counted k g) (spread_start k w) (spread ins) s ft →
     (t : ℕ) → t < length ins → IsMasked n h k tr s ft t

@@ -66,7 +66,8 @@ blocks_text n parts voted marks count = flat_map (λ x. block_text n parts voted
 -- a certificate's line of a node
 abbrev pub node_words : List ℕ → ℕ → ℕ → List (List ℕ)
 node_words name p label =
-    codes "node" ∷ name ∷ decimal p ∷ copy_text name First ∷ copy_text name Second ∷ copy_text name Third ∷ decimal label ∷ decimal label ∷ decimal label ∷ []
+    codes "node" ∷ name ∷ decimal p ∷ copy_text name First ∷ copy_text name Second ∷ copy_text name Third
+    ∷ decimal label ∷ decimal label ∷ decimal label ∷ []
 
 -- a certificate's line of a voter
 abbrev pub voter_words : List ℕ → ℕ → CopyNo → List (List ℕ)

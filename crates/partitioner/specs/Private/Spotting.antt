@@ -8,12 +8,14 @@ use Rattle.partitioner.specs.Private.Sets.{has}
 use Rattle.partitioner.specs.Refining.{has_room}
 use Rattle.partitioner.specs.Private.Tracking.{reader_count}
 
--- `free` has for each wide node the partitions with room in which some other node reads it, and `nets` for each partition the wide nodes that are read in it by another
+-- `free` has for each wide node the partitions with room in which some other node reads it, and `nets` for each
+-- partition the wide nodes that are read in it by another
 pub record AreSpots (n : Net) (size : ℕ) (parts : PlainParts) (spots : Spots) : Type 0 where
   pub free_long : length spots.free ≡ length n.nodes
   pub nets_long : length spots.nets ≡ parts.count
   pub nets : (x q : ℕ) → x < length n.nodes → q < parts.count → is_wide n x ≡ true → 0 < reader_count n parts.of x q → has spots.nets q x ≡ true
-  pub free : (x q : ℕ) → x < length n.nodes → q < parts.count → is_wide n x ≡ true → 0 < reader_count n parts.of x q → has_room size parts q ≡ true → has spots.free x q ≡ true
+  pub free : (x q : ℕ) → x < length n.nodes → q < parts.count → is_wide n x ≡ true → 0 < reader_count n parts.of x q
+      → has_room size parts q ≡ true → has spots.free x q ≡ true
 
 -- what the sets hold they hold still
 pub record KeepsSpots (before after : Spots) : Type 0 where

@@ -22,12 +22,15 @@ pub record IsBefore (rows : List (List ℕ)) (bits : List Bool) (reaches : List 
 
 -- wherever there is a register before a vertex, one is known
 abbrev pub AreBefore : List (List ℕ) → List Bool → List ℕ → List ℕ → Type 0
-AreBefore rows bits reaches before = (v : ℕ) → v < length rows → one_if (is_marked bits v) < number_at reaches v → IsBefore rows bits reaches v (number_at before v)
+AreBefore rows bits reaches before = (v : ℕ) → v < length rows → one_if (is_marked bits v) < number_at reaches v
+    → IsBefore rows bits reaches v (number_at before v)
 
 -- `result` is the last register of one of the first i vertices of the row that have this reach, and there is none only where none has
 pub record IsChosen (reads reaches : List ℕ) (bits : List Bool) (before : List ℕ) (none target i result : ℕ) : Type 0 where
-  pub all : (j : ℕ) → j < i → number_at reaches (slice_index reads j) ≡ target → last_of bits before (slice_index reads j) ≢ none → result ≢ none
-  pub some : result ≢ none → (j : ℕ) × (j < i) × (number_at reaches (slice_index reads j) ≡ target) × (last_of bits before (slice_index reads j) ≡ result)
+  pub all : (j : ℕ) → j < i → number_at reaches (slice_index reads j) ≡ target → last_of bits before (slice_index reads j) ≢ none
+      → result ≢ none
+  pub some : result ≢ none
+      → (j : ℕ) × (j < i) × (number_at reaches (slice_index reads j) ≡ target) × (last_of bits before (slice_index reads j) ≡ result)
 
 -- `result` is `best` or `other`, and there is none only where neither is one
 pub record IsOneOf (none best other result : ℕ) : Type 0 where

@@ -42,8 +42,10 @@ originals_of h k = map (original_at h k) (range_with_len 0 (length h.nodes))
 -- the last register of one of the first k vertices of partition p whose reach is the partition's depth; there is none only where none has one
 pub record AreTops (parts : PlainParts) (reaches depths : List ℕ) (bits : List Bool) (before : List ℕ) (none k : ℕ) (tops : List ℕ) : Type 0 where
   pub long : length tops ≡ parts.count
-  pub some : (p : ℕ) → p < parts.count → number_at tops p ≢ none → (g : ℕ) × (g < k) × (slice_index parts.of g ≡ p) × (number_at reaches g ≡ number_at depths p) × (last_of bits before g ≡ number_at tops p)
-  pub all : (g : ℕ) → g < k → number_at reaches g ≡ number_at depths (slice_index parts.of g) → last_of bits before g ≢ none → number_at tops (slice_index parts.of g) ≢ none
+  pub some : (p : ℕ) → p < parts.count → number_at tops p ≢ none
+      → (g : ℕ) × (g < k) × (slice_index parts.of g ≡ p) × (number_at reaches g ≡ number_at depths p) × (last_of bits before g ≡ number_at tops p)
+  pub all : (g : ℕ) → g < k → number_at reaches g ≡ number_at depths (slice_index parts.of g) → last_of bits before g ≢ none
+      → number_at tops (slice_index parts.of g) ≢ none
 
 -- so many registers that end in x, each the one before the next
 unfoldable pub walked : List ℕ → ℕ → ℕ → List ℕ
