@@ -1,5 +1,5 @@
 -- Sums and counts over the numbers below a bound.
-use Rattle.std.proofs.Common.{◌≡◌, ℕ, zero, suc, ◌+◌, ◌*◌, ◌<◌, ◌≤◌, ◌⊎◌, inl, inr, Bool, true, false, refl, ap, arith, add-one}
+use Rattle.std.proofs.Common.{◌≡◌, ℕ, zero, suc, ◌+◌, ◌*◌, ◌<◌, ◌≤◌, ◌⊎◌, inl, inr, Bool, true, false, not, refl, ap, arith, add-one}
 use Rattle.std.proofs.lemmas.Bool.{cases_eq}
 use mir.Val.{bool_byte}
 use Rattle.partitioner.specs.Below.{sum_below, one_if, count_below}
@@ -19,6 +19,10 @@ count_none p = refl
 pub one_if_le : (b : Bool) → one_if b ≤ 1
 one_if_le true = omega arith
 one_if_le false = omega arith
+
+pub one_of_two : (b : Bool) → one_if b + one_if (not b) ≡ 1
+one_of_two true = refl
+one_of_two false = refl
 
 pub count_le : (k : ℕ) (p : ℕ → Bool) → count_below k p ≤ k
 unfolding count_below

@@ -3,11 +3,10 @@ use Rattle.std.proofs.Common.{◌≡◌, ℕ, zero, suc, ◌+◌, ◌*◌, ◌<�
 use Rattle.std.specs.List.{list_any, count_by}
 use Rattle.std.proofs.lemmas.Bool.{cases_eq, eq-eqb, ne_eqb, lt-ltb}
 use Rattle.std.proofs.lemmas.List.Sums.{sum_by-cons}
-use Rattle.std.proofs.lemmas.List.Folds.{list_any_at}
 use Rattle.flat_net.specs.Net.{Net}
 use Rattle.partitioner.specs.Below.{one_if, count_below}
 use Rattle.node_reads.specs.Sources.{reads_other, other_readers}
-use Rattle.partitioner.specs.Private.Loss.{is_fresh, is_wanted}
+use Rattle.partitioner.specs.Private.Loss.{is_fresh}
 use Rattle.partitioner.specs.Private.Tracking.{reader_count}
 use Rattle.partitioner.proofs.PutLaws.{count_passing}
 
@@ -109,11 +108,3 @@ fresh_by_count n of i x q mine l reads own =
         either : (a b m : ℕ) → b ≡ a + m → not (ltb 0 a) ≡ eqb b m
         either zero b m e = sym (eq-eqb b m (omega (arith, e)))
         either (suc a) b m e = ap not (lt-ltb 0 (suc a) (omega arith)) ∙ sym (ne_eqb b m (λ h. omega (arith, e, h)))
-
-pub wanted_by_count : (n : Net) (of : List ℕ) (i q : ℕ) → is_wanted n of i q ≡ ltb 0 (reader_count n of i q)
-unfolding reader_count
-wanted_by_count n of i q = any_by_count (λ y. eqb (get_or of y 0) q) (other_readers n i)
-
--- a reader wants the node where it stands
-pub wanted_by_reader : (n : Net) (of : List ℕ) (i k : ℕ) → k < length (other_readers n i) → is_wanted n of i (get_or of (get_or (other_readers n i) k 0) 0) ≡ true
-wanted_by_reader n of i k l = list_any_at (λ y. eqb (get_or of y 0) (get_or of (get_or (other_readers n i) k 0) 0)) (other_readers n i) k 0 l (eq-eqb _ _ refl)

@@ -1,21 +1,27 @@
 -- Counting what is near in each partition.
-use Rattle.std.proofs.Common.{◌≡◌, ℕ, ◌+◌, ◌-◌, ◌<◌, ◌≤◌, ◌⊎◌, inl, inr, Bool, true, false, cond, eqb, ltb, not, ◌&&◌, ◌||◌, List, [], ◌∷◌, length, refl, sym, ◌∙◌, ap, arith, get_or, take}
-use Rattle.std.specs.List.{count_by, list_any}
+use Rattle.std.specs.Prelude.{max}
+use Rattle.std.proofs.Common.{◌≡◌, ℕ, ◌+◌, ◌<◌, ◌≤◌, ◌⊎◌, inl, inr, Bool, true, false, cond, eqb, ltb, not, ◌&&◌, ◌||◌, List, [], ◌∷◌, length, refl, sym, ◌∙◌, ap, subst, set, arith, get_or, take}
+use Rattle.std.specs.List.{count_by, list_any, range_with_len}
 use Rattle.std.proofs.lemmas.Bool.Decides.{nat_tests}
-use Rattle.std.proofs.lemmas.Bool.{cases_Bool, eq-eqb, lt-ltb, ne_eqb, true≢false, false≢true}
-use Rattle.std.proofs.lemmas.List.{length-take, take_all}
-use Rattle.std.proofs.lemmas.List.Folds.{list_any_more}
-use Rattle.std.proofs.lemmas.List.Sums.{sum_by-cons, sum_by_more, count_by-le-length}
+use Rattle.std.proofs.Math.Nat.{max-le, le-max_left, le-max_right}
+use Rattle.std.proofs.lemmas.Bool.{cases_Bool, cases_eq, eq-eqb, lt-ltb, ltb-true, ne_eqb, true≢false, false≢true}
+use Rattle.std.proofs.lemmas.List.{length-take, take_all, get_or-set_same, get_or-set_other}
+use Rattle.std.proofs.lemmas.List.Folds.{list_any_at, list_any_more}
+use Rattle.std.proofs.lemmas.List.FromFn.{get_or-range_with_len, length-range_with_len}
+use Rattle.std.proofs.lemmas.List.Sums.{sum_by-cons, sum_by_more, count_by-le-length, length-filter}
 use Rattle.std.proofs.lemmas.List.Sorted.{length_permutation}
 use Rattle.flat_net.specs.Net.{Net}
 use Rattle.partitioner.specs.declared.counts.partitioning.Partitioning.{Partitioning}
 use Rattle.partitioner.specs.declared.costs.gains.Gains.{Gains}
 use Rattle.partitioner.specs.Below.{one_if}
-use Rattle.partitioner.specs.Private.Gaining.{AreBegun, AreGains, AreKept, is_near, last_in, near_in}
-use Rattle.partitioner.specs.Private.Loss.{is_fresh, is_kept}
+use Rattle.partitioner.specs.Private.Gaining.{AreBegun, AreGains, AreKept, IsCounted, IsMost, is_near, last_in, near_in}
+use Rattle.partitioner.specs.Private.Loss.{is_fresh, is_kept, is_wanted, loss}
 use Rattle.node_reads.specs.Sources.{reads_other, other_readers, other_sources}
 use Rattle.partitioner.specs.Private.Tracking.{Tracks}
-use Rattle.partitioner.proofs.TrackLaws.{related_few}
+use Rattle.node_reads.specs.Reading.{reads}
+use Rattle.partitioner.proofs.BelowLaws.{one_if_le, one_of_two}
+use Rattle.partitioner.proofs.CountLaws.{any_by_count}
+use Rattle.partitioner.proofs.LossLaws.{loss_at_least}
 
 -- those that pass and those that do not are all
 count_both : (f : ℕ → Bool) (xs : List ℕ) → count_by (λ x. not (f x)) xs + count_by f xs ≡ length xs
@@ -32,13 +38,47 @@ count_both f (x ∷ xs) = go (f x) refl (count_both f xs)
         let pass : one_if (f x) ≡ 0 = ap one_if e in
         omega (arith, before, fail, pass, sum_by-cons (λ y. one_if (not (f y))) x xs, sum_by-cons (λ y. one_if (f y)) x xs)
 
--- so those that are not near are the rest
-pub missed_rest : (f : ℕ → Bool) (row : List ℕ) (k near : ℕ) → k ≤ length row → near ≡ count_by (λ x. not (f x)) (take k row) → (near ≤ k) × (k - near ≡ count_by f (take k row))
-missed_rest f row k near l is =
-    let both = count_both f (take k row) in
-    let long = length-take k row in
-    let few : length (take k row) ≡ k = omega (arith, long, l) in
-    (omega (arith, is, both, few), omega (arith, is, both, few))
+-- the highest count after one of them rose by one
+pub most_goes_on : (counts after : ℕ → ℕ) (most q : ℕ) → IsMost counts most → ((r : ℕ) → after r ≡ counts r + one_if (eqb q r)) → IsMost after (max most (counts q + 1))
+most_goes_on counts after most q is more = record { above = λ r. above_at r (cases_eq q r); least = λ bound h. max-le (is.least bound (λ r. omega (arith, more r, h r))) (here bound h) }
+  where
+    above_at : (r : ℕ) → (q ≡ r) ⊎ (q ≡ r → ⊥) → after r ≤ max most (counts q + 1)
+    above_at r (inl e) =
+        let one : one_if (eqb q r) ≡ 1 = ap one_if (eq-eqb q r e) in
+        omega (arith, more r, one, ap counts e, le-max_right most (counts q + 1))
+    above_at r (inr ne) =
+        let none : one_if (eqb q r) ≡ 0 = ap one_if (ne_eqb q r ne) in
+        omega (arith, more r, none, is.above r, le-max_left most (counts q + 1))
+
+    here : (bound : ℕ) → ((r : ℕ) → after r ≤ bound) → counts q + 1 ≤ bound
+    here bound h =
+        let one : one_if (eqb q q) ≡ 1 = ap one_if (eq-eqb q q refl) in
+        omega (arith, more q, one, h q)
+
+-- one more in partition q, in this turn
+pub near_raised : (near last : List ℕ) (from turn q r now : ℕ) → q < length near → q < length last → from < turn → now ≡ cond (ltb from (get_or last q 0)) (get_or near q 0) 0
+    → cond (ltb from (get_or (set last q turn) r 0)) (get_or (set near q (now + 1)) r 0) 0 ≡ cond (ltb from (get_or last r 0)) (get_or near r 0) 0 + one_if (eqb q r)
+near_raised near last from turn q r now l l' begun is = go (cases_eq q r)
+  where
+    here : cond (ltb from (get_or (set last q turn) q 0)) (get_or (set near q (now + 1)) q 0) 0 ≡ now + 1
+    here =
+        ap (λ (k : ℕ). cond (ltb from k) (get_or (set near q (now + 1)) q 0) 0) (get_or-set_same last q turn 0 l')
+        ∙ (ap (λ (b : Bool). cond b (get_or (set near q (now + 1)) q 0) 0) (lt-ltb from turn begun) ∙ get_or-set_same near q (now + 1) 0 l)
+
+    go : (q ≡ r) ⊎ (q ≡ r → ⊥) → cond (ltb from (get_or (set last q turn) r 0)) (get_or (set near q (now + 1)) r 0) 0 ≡ cond (ltb from (get_or last r 0)) (get_or near r 0) 0 + one_if (eqb q r)
+    go (inl e) =
+        let one : one_if (eqb q r) ≡ 1 = ap one_if (eq-eqb q r e) in
+        let at : cond (ltb from (get_or (set last q turn) r 0)) (get_or (set near q (now + 1)) r 0) 0 ≡ now + 1 = subst (λ (k : ℕ). cond (ltb from (get_or (set last q turn) k 0)) (get_or (set near q (now + 1)) k 0) 0 ≡ now + 1) e here in
+        let was : now ≡ cond (ltb from (get_or last r 0)) (get_or near r 0) 0 = subst (λ (k : ℕ). now ≡ cond (ltb from (get_or last k 0)) (get_or near k 0) 0) e is in
+        omega (arith, one, at, was)
+    go (inr ne) =
+        let none : one_if (eqb q r) ≡ 0 = ap one_if (ne_eqb q r ne) in
+        let at : cond (ltb from (get_or (set last q turn) r 0)) (get_or (set near q (now + 1)) r 0) 0 ≡ cond (ltb from (get_or last r 0)) (get_or near r 0) 0 =
+        ap (λ (k : ℕ). cond (ltb from k) (get_or (set near q (now + 1)) r 0) 0) (get_or-set_other last q r turn 0 (λ e. ne (sym e))) ∙ ap (λ (k : ℕ). cond (ltb from (get_or last r 0)) k 0) (get_or-set_other near q r (now + 1) 0 (λ e. ne (sym e))) in
+        omega (arith, none, at)
+
+plus_none : (a : ℕ) → a ≡ a + 0
+plus_none a = omega arith
 
 -- the counts within a turn, in which some partitions were met
 pub record InTurn (before near last : ℕ → ℕ) (turn : ℕ) (met : ℕ → Bool) : Type 0 where
@@ -52,9 +92,6 @@ turn_begins near last turn low = record {
   now = λ r e. absurd (false≢true e);
   past = λ r e. low r;
 }
-  where
-    plus_none : (a : ℕ) → a ≡ a + 0
-    plus_none a = omega arith
 
 pub turn_same : (before near last : ℕ → ℕ) (turn : ℕ) (met after : ℕ → Bool) → ((r : ℕ) → after r ≡ met r) → InTurn before near last turn met → InTurn before near last turn after
 turn_same before near last turn met after same is = record {
@@ -146,6 +183,16 @@ met_all n of i x row m r past is =
     either false true = refl
     either false false = refl
 
+-- the partitions of the first m nodes of a row
+abbrev pub held_by : List ℕ → List ℕ → ℕ → ℕ → Bool
+held_by of row m r = list_any (λ y. eqb (get_or of y 0) r) (take m row)
+
+pub held_more : (of row : List ℕ) (m q r : ℕ) → m < length row → q ≡ get_or of (get_or row m 0) 0 → held_by of row (m + 1) r ≡ (held_by of row m r || eqb q r)
+held_more of row m q r l e = list_any_more (λ y. eqb (get_or of y 0) r) row m 0 l ∙ ap (λ (k : ℕ). list_any (λ y. eqb (get_or of y 0) r) (take m row) || eqb k r) (sym e)
+
+pub held_all : (n : Net) (of : List ℕ) (i : ℕ) (row : List ℕ) (m r : ℕ) → length row ≤ m → row ≡ other_readers n i → is_wanted n of i r ≡ held_by of row m r
+held_all n of i row m r past is = ap (λ (xs : List ℕ). list_any (λ y. eqb (get_or of y 0) r) xs) (sym (take_all m row past ∙ is))
+
 -- a turn in which some partitions were met
 pub record IsTurned (old new : Gains) (count : ℕ) (met : ℕ → Bool) : Type 0 where
   pub turned : InTurn (near_in old) (near_in new) (last_in new) old.turn met
@@ -154,10 +201,17 @@ pub record IsTurned (old new : Gains) (count : ℕ) (met : ℕ → Bool) : Type 
   pub turn : new.turn ≡ old.turn
   pub near_long : length new.near.items ≡ count
   pub last_long : length new.last.items ≡ count
+  pub most : IsMost (near_in new) new.most
 
 -- a turn at its end
 pub turn_near : (n : Net) (of : List ℕ) (i x : ℕ) (row : List ℕ) (m turn : ℕ) (before near last : ℕ → ℕ) → length row ≤ m → row ≡ other_readers n x → InTurn before near last turn (met_of of i x row m) → (q : ℕ) → near q ≡ before q + one_if (is_near n of i q x)
 turn_near n of i x row m turn before near last past is turned q = turned.near_is q ∙ ap (λ (b : Bool). before q + one_if b) (sym (met_all n of i x row m q past is))
+
+-- the readers' turn at its end
+pub readers_near : (n : Net) (of : List ℕ) (i : ℕ) (row : List ℕ) (m turn : ℕ) (before near last : ℕ → ℕ) → length row ≤ m → row ≡ other_readers n i → ((q : ℕ) → before q ≡ 0) → InTurn before near last turn (held_by of row m) → (q : ℕ) → near q ≡ one_if (is_wanted n of i q)
+readers_near n of i row m turn before near last past is none turned q =
+    let same : one_if (is_wanted n of i q) ≡ one_if (held_by of row m q) = ap one_if (held_all n of i row m q past is) in
+    omega (arith, turned.near_is q, none q, same)
 
 pub turn_last : (before near last : ℕ → ℕ) (turn : ℕ) (met : ℕ → Bool) → InTurn before near last turn met → (q : ℕ) → last q ≤ turn
 turn_last before near last turn met turned q = at (cases_Bool (met q))
@@ -174,13 +228,14 @@ turn_few before near last turn met q turned few = omega (arith, turned.near_is q
     one_if_few true = omega arith
     one_if_few false = omega arith
 
--- the counts after j turns
+-- the counts after the readers' turn and j turns more
 pub record Gained (n : Net) (p : Partitioning) (i : ℕ) (row : List ℕ) (gains : Gains) (j : ℕ) : Type 0 where
   pub kept : AreKept p.count gains
   pub counted : gains.counted ≡ j
-  pub turn : gains.turn ≡ gains.from + j
+  pub turn : gains.turn ≡ gains.from + 1 + j
   pub few : gains.from ≤ 9223372036854775808
-  pub near : (q : ℕ) → near_in gains q ≡ count_by (is_near n p.of.items i q) (take j row)
+  pub near : (q : ℕ) → near_in gains q ≡ one_if (is_wanted n p.of.items i q) + count_by (is_near n p.of.items i q) (take j row)
+  pub most : IsMost (near_in gains) gains.most
 
 pub none_near : (from last near : ℕ) → last ≤ from → cond (ltb from last) near 0 ≡ 0
 none_near from last near l = ap (λ (b : Bool). cond b near 0) (ltb_past from last l)
@@ -188,52 +243,74 @@ none_near from last near l = ap (λ (b : Bool). cond b near 0) (ltb_past from la
     ltb_past : (from last : ℕ) → last ≤ from → ltb from last ≡ false
     ltb_past from last l = grind (arith, nat_tests)
 
-pub some_near : (from last near : ℕ) → from < last → cond (ltb from last) near 0 ≡ near
-some_near from last near l = ap (λ (b : Bool). cond b near 0) (lt-ltb from last l)
+-- nothing is near at first
+pub begun_none : (count : ℕ) (gains : Gains) → AreBegun count gains → (q : ℕ) → near_in gains q ≡ 0
+begun_none count gains is q = none_near gains.from (last_in gains q) (get_or gains.near.items q 0) (omega (arith, is.kept.past q, is.now))
 
--- what is not near, where something was counted and where nothing was
-pub missed_some : (n : Net) (p : Partitioning) (i q : ℕ) (gains : Gains) → AreGains n p i gains → gains.from < last_in gains q
-    → (get_or gains.near.items q 0 ≤ gains.counted) × (gains.counted - get_or gains.near.items q 0 ≡ count_by (λ x. is_fresh n p.of.items i x q) (take gains.counted (get_or p.sources i [])))
-missed_some n p i q gains is l =
-    missed_rest (λ x. is_fresh n p.of.items i x q) (get_or p.sources i []) gains.counted (get_or gains.near.items q 0) is.within
-    (sym (some_near gains.from (last_in gains q) (get_or gains.near.items q 0) l) ∙ is.near q)
+-- what is near in a partition and what is missed there are all nodes that are counted, and one
+pub missed_in_all : (n : Net) (p : Partitioning) (i q : ℕ) (gains : Gains) → AreGains n p i gains
+    → near_in gains q + (one_if (not (is_wanted n p.of.items i q)) + count_by (λ x. is_fresh n p.of.items i x q) (take gains.counted (get_or p.sources i []))) ≡ gains.counted + 1
+missed_in_all n p i q gains is =
+    let row : List ℕ = get_or p.sources i [] in
+    let both = count_both (λ x. is_fresh n p.of.items i x q) (take gains.counted row) in
+    let long = length-take gains.counted row in
+    omega (arith, is.near q, is.within, both, long, one_of_two (is_wanted n p.of.items i q))
 
-pub missed_all : (n : Net) (p : Partitioning) (i q : ℕ) (gains : Gains) → AreGains n p i gains → last_in gains q ≤ gains.from → gains.counted ≡ count_by (λ x. is_fresh n p.of.items i x q) (take gains.counted (get_or p.sources i []))
-missed_all n p i q gains is l =
-    less_none gains.counted
-    ∙ (missed_rest (λ x. is_fresh n p.of.items i x q) (get_or p.sources i []) gains.counted 0 is.within (sym (none_near gains.from (last_in gains q) (get_or gains.near.items q 0) l) ∙ is.near q)).1
-  where
-    less_none : (a : ℕ) → a ≡ a - 0
-    less_none a = omega arith
-
-pub gained_first : (n : Net) (p : Partitioning) (i : ℕ) (row : List ℕ) (gains : Gains) → AreBegun p.count gains → Gained n p i row gains 0
-gained_first n p i row gains is = record {
-  kept = is.kept;
-  counted = is.none;
-  turn = omega (arith, is.now);
-  few = omega (arith, is.now, is.few);
-  near = λ q. none_near gains.from (last_in gains q) (get_or gains.near.items q 0) (omega (arith, is.kept.past q, is.now));
+pub gained_first : (n : Net) (p : Partitioning) (i : ℕ) (row : List ℕ) (old new : Gains) → AreBegun p.count old → AreKept p.count new → new.counted ≡ old.counted → new.from ≡ old.from → new.turn ≡ old.turn + 1
+    → ((q : ℕ) → near_in new q ≡ one_if (is_wanted n p.of.items i q)) → IsMost (near_in new) new.most → Gained n p i row new 0
+gained_first n p i row old new is kept counted from turn near most = record {
+  kept = kept;
+  counted = omega (arith, counted, is.none);
+  turn = omega (arith, turn, from, is.now);
+  few = omega (arith, from, is.now, is.few);
+  near = λ q. near q ∙ plus_none (one_if (is_wanted n p.of.items i q));
+  most = most;
 }
 
-pub gained_few : (n : Net) (p : Partitioning) (i : ℕ) (row : List ℕ) (gains : Gains) (j q : ℕ) → Gained n p i row gains j → near_in gains q ≤ j
-gained_few n p i row gains j q is = omega (arith, is.near q, count_by-le-length (is_near n p.of.items i q) (take j row), length-take j row)
+pub gained_few : (n : Net) (p : Partitioning) (i : ℕ) (row : List ℕ) (gains : Gains) (j q : ℕ) → Gained n p i row gains j → near_in gains q ≤ j + 1
+gained_few n p i row gains j q is = omega (arith, is.near q, one_if_le (is_wanted n p.of.items i q), count_by-le-length (is_near n p.of.items i q) (take j row), length-take j row)
 
-pub gained_more : (n : Net) (p : Partitioning) (i : ℕ) (row : List ℕ) (old new : Gains) (j : ℕ) → Gained n p i row old j → j < length row → AreKept p.count new → new.counted ≡ old.counted + 1 → new.from ≡ old.from → new.turn ≡ old.turn + 1 → ((q : ℕ) → near_in new q ≡ near_in old q + one_if (is_near n p.of.items i q (get_or row j 0))) → Gained n p i row new (j + 1)
-gained_more n p i row old new j is l kept counted from turn near = record {
+pub gained_more : (n : Net) (p : Partitioning) (i : ℕ) (row : List ℕ) (old new : Gains) (j : ℕ) → Gained n p i row old j → j < length row → AreKept p.count new → new.counted ≡ old.counted + 1 → new.from ≡ old.from → new.turn ≡ old.turn + 1
+    → ((q : ℕ) → near_in new q ≡ near_in old q + one_if (is_near n p.of.items i q (get_or row j 0))) → IsMost (near_in new) new.most → Gained n p i row new (j + 1)
+gained_more n p i row old new j is l kept counted from turn near most = record {
   kept = kept;
   counted = omega (arith, counted, is.counted);
   turn = omega (arith, turn, from, is.turn);
   few = omega (arith, from, is.few);
   near = λ q. omega (arith, near q, is.near q, sum_by_more (λ x. one_if (is_near n p.of.items i q x)) row j 0 l);
+  most = most;
 }
 
 pub gained_gains : (n : Net) (p : Partitioning) (i : ℕ) (row : List ℕ) (gains : Gains) (j : ℕ) → row ≡ get_or p.sources i [] → j ≤ length row → Gained n p i row gains j → AreGains n p i gains
 gained_gains n p i row gains j at l is = record {
   within = omega (arith, is.counted, l, ap length at);
-  near = λ q. is.near q ∙ (ap (λ (k : ℕ). count_by (is_near n p.of.items i q) (take k row)) (sym is.counted) ∙ ap (λ (xs : List ℕ). count_by (is_near n p.of.items i q) (take gains.counted xs)) at);
+  near = λ q. is.near q ∙ ap (λ (k : ℕ). one_if (is_wanted n p.of.items i q) + k) (ap (λ (k : ℕ). count_by (is_near n p.of.items i q) (take k row)) (sym is.counted) ∙ ap (λ (xs : List ℕ). count_by (is_near n p.of.items i q) (take gains.counted xs)) at);
+  most = is.most;
 }
 
--- a node reads few others
-pub sources_few : (n : Net) (p : Partitioning) (i : ℕ) → Tracks n p → i < length n.nodes → length (get_or p.sources i []) ≤ length n.nodes
-sources_few n p i tracks l =
-    omega (arith, length_permutation (other_sources n i) (get_or p.sources i []) (tracks.sources i l), related_few (λ z y. reads_other n y z) (length n.nodes) i)
+-- a node reads fewer others than there are nodes
+others_fewer : (n : Net) (i : ℕ) → i < length n.nodes → length (other_sources n i) < length n.nodes
+others_fewer n i l =
+    let nodes = range_with_len 0 (length n.nodes) in
+    let long = length-range_with_len 0 (length n.nodes) in
+    let both = count_both (λ x. reads_other n i x) nodes in
+    let itself : not (reads_other n i i) ≡ true = ap (λ (b : Bool). not (not b && reads n i i)) (eq-eqb i i refl) in
+    let here : get_or nodes i 0 ≡ i = get_or-range_with_len 0 (length n.nodes) i 0 l ∙ none_plus i in
+    let any : list_any (λ x. not (reads_other n i x)) nodes ≡ true = list_any_at (λ x. not (reads_other n i x)) nodes i 0 (omega (arith, l, long)) (ap (λ (x : ℕ). not (reads_other n i x)) here ∙ itself) in
+    let some = ltb-true 0 (count_by (λ x. not (reads_other n i x)) nodes) (sym (any_by_count (λ x. not (reads_other n i x)) nodes) ∙ any) in
+    omega (arith, length-filter (λ x. reads_other n i x) nodes, both, long, some)
+  where
+    none_plus : (a : ℕ) → 0 + a ≡ a
+    none_plus a = omega arith
+
+pub sources_few : (n : Net) (p : Partitioning) (i : ℕ) → Tracks n p → i < length n.nodes → length (get_or p.sources i []) < length n.nodes
+sources_few n p i tracks l = omega (arith, length_permutation (other_sources n i) (get_or p.sources i []) (tracks.sources i l), others_fewer n i l)
+
+-- no partition is nearer than all that is counted
+pub most_few : (n : Net) (p : Partitioning) (i : ℕ) (gains : Gains) → AreGains n p i gains → gains.most ≤ gains.counted + 1
+most_few n p i gains is = is.most.least (gains.counted + 1) (λ q. omega (arith, missed_in_all n p i q gains is))
+
+-- a node loses no less in a partition than where most is near
+pub least_lost : (n : Net) (p : Partitioning) (i q : ℕ) (gains : Gains) → IsCounted n p i gains → gains.counted + 1 ≤ gains.most + loss n p.of.items i q
+least_lost n p i q gains is =
+    omega (arith, missed_in_all n p i q gains is.gained, is.gained.most.above q, loss_at_least n p.of.items i q (get_or p.sources i []) gains.counted (is.tracks.sources i is.node))

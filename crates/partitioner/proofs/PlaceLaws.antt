@@ -75,9 +75,9 @@ settled_place n size p i j row lead tracks l perm is tried settled =
     at c (inl h) = h
     at c (inr e) = settled_leads n size p i (j + 1) c lead is settled (omega (arith, e, loss_at_least n p.of.items i c row j perm))
 
-pub settled_at_once : (n : Net) (size : ℕ) (p : Partitioning) (i : ℕ) (lead : Lead) → Tracks n p → i < length n.nodes → IsLead n size p i lead → is_settled lead (start_of p i) 0 ≡ true → lead.place ≡ place n size (parts_of p) i
-settled_at_once n size p i lead tracks l is settled =
-    place_is n size p i lead.place tracks l (record { reached = is.reached; best = λ c h room. settled_leads n size p i 0 c lead is settled (omega arith) })
+pub settled_at_once : (n : Net) (size : ℕ) (p : Partitioning) (i least : ℕ) (lead : Lead) → Tracks n p → i < length n.nodes → IsLead n size p i lead → ((q : ℕ) → least ≤ loss n p.of.items i q) → is_settled lead (start_of p i) least ≡ true → lead.place ≡ place n size (parts_of p) i
+settled_at_once n size p i least lead tracks l is low settled =
+    place_is n size p i lead.place tracks l (record { reached = is.reached; best = λ c h room. settled_leads n size p i least c lead is settled (low c) })
 
 pub exhausted_place : (n : Net) (size : ℕ) (p : Partitioning) (i j : ℕ) (row : List ℕ) (lead : Lead) → Tracks n p → i < length n.nodes → IsPermutation (other_sources n i) row → IsLead n size p i lead → LeadsOrMissed n size p i lead.place row j → length row ≤ j → lead.place ≡ place n size (parts_of p) i
 exhausted_place n size p i j row lead tracks l perm is tried past =

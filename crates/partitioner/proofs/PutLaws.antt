@@ -13,7 +13,7 @@ use Rattle.partitioner.specs.Cost.{foreign_count, cost, is_read_in}
 use Rattle.partitioner.specs.Private.Loss.{is_kept, is_fresh, is_wanted, loss}
 use Rattle.partitioner.specs.Refining.{put}
 use Rattle.node_reads.proofs.Numbers.{passing_more, any_passing, eqb_turned}
-use Rattle.partitioner.proofs.BelowLaws.{count_same, count_changed, sum_same, sum_balanced, sum_zero}
+use Rattle.partitioner.proofs.BelowLaws.{count_same, count_changed, one_of_two, sum_same, sum_balanced, sum_zero}
 use Rattle.partitioner.proofs.CostLaws.{met_is}
 
 -- who stands in p after i is put into b
@@ -135,10 +135,6 @@ foreign_put_same n parts i b l l' within =
     let balance = count_changed parts.count b (λ p. not (eqb b p) && is_wanted n parts.of i p) (is_wanted n parts.of i) within (λ p h other. ap (λ (c : Bool). not c && is_wanted n parts.of i p) (ne_eqb b p (λ e. other (sym e)))) in
     let here : one_if (not (eqb b b) && is_wanted n parts.of i b) ≡ 0 = ap (λ (c : Bool). one_if (not c && is_wanted n parts.of i b)) (eq-eqb b b refl) in
     omega (arith, counted, balance, here, one_of_two (is_wanted n parts.of i b))
-  where
-    one_of_two : (c : Bool) → one_if c + one_if (not c) ≡ 1
-    one_of_two true = refl
-    one_of_two false = refl
 
 foreign_put : (n : Net) (parts : PlainParts) (i b x : ℕ) → i < length parts.of → i < length n.nodes → b < parts.count → foreign_count n (put parts i b) x + one_if (eqb i x) ≡ base_at n parts i x + loss_at n parts i b x
 unfolding base_at loss_at without

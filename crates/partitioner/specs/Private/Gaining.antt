@@ -1,9 +1,10 @@
 -- What a node finds in a partition of what it reads.
-use Rattle.std.specs.Prelude.{◌≡◌, ℕ, ◌<◌, ◌≤◌, Bool, not, nat_lt, List, [], length, take, slice_index, slice_index_or, count_by, if◌then◌else◌}
+use Rattle.std.specs.Prelude.{◌≡◌, ℕ, ◌<◌, ◌≤◌, ◌+◌, Bool, not, nat_lt, List, [], length, take, slice_index, slice_index_or, count_by, if◌then◌else◌}
 use Rattle.flat_net.specs.Net.{Net}
 use Rattle.partitioner.specs.declared.counts.partitioning.Partitioning.{Partitioning}
 use Rattle.partitioner.specs.declared.costs.gains.Gains.{Gains}
-use Rattle.partitioner.specs.Private.Loss.{is_fresh}
+use Rattle.partitioner.specs.Below.{one_if}
+use Rattle.partitioner.specs.Private.Loss.{is_fresh, is_wanted, loss}
 use Rattle.partitioner.specs.Private.Tracking.{Tracks}
 
 -- partition q holds node x or, beside i, a node that reads it
@@ -24,17 +25,24 @@ pub record AreKept (count : ℕ) (gains : Gains) : Type 0 where
   pub last_long : length gains.last.items ≡ count
   pub past : (q : ℕ) → last_in gains q ≤ gains.turn
 
+-- `most` is the least number that no count is above
+pub record IsMost (counts : ℕ → ℕ) (most : ℕ) : Type 0 where
+  pub above : (q : ℕ) → counts q ≤ most
+  pub least : (bound : ℕ) → ((q : ℕ) → counts q ≤ bound) → most ≤ bound
+
 -- nothing is counted, and turns are left
 pub record AreBegun (count : ℕ) (gains : Gains) : Type 0 where
   pub kept : AreKept count gains
   pub none : gains.counted ≡ 0
+  pub most : gains.most ≡ 0
   pub now : gains.from ≡ gains.turn
   pub few : gains.turn ≤ 9223372036854775808
 
--- the counts are those of the first nodes in the row of those that node i reads
+-- the counts are those of the first nodes in the row of those that node i reads, and one more where another node reads node i
 pub record AreGains (n : Net) (p : Partitioning) (i : ℕ) (gains : Gains) : Type 0 where
   pub within : gains.counted ≤ length (slice_index_or p.sources i [])
-  pub near : (q : ℕ) → near_in gains q ≡ count_by (is_near n p.of.items i q) (take gains.counted (slice_index_or p.sources i []))
+  pub near : (q : ℕ) → near_in gains q ≡ one_if (is_wanted n p.of.items i q) + count_by (is_near n p.of.items i q) (take gains.counted (slice_index_or p.sources i []))
+  pub most : IsMost (near_in gains) gains.most
 
 -- what is counted beside the partitions is right, and so is what node i gains
 pub record IsCounted (n : Net) (p : Partitioning) (i : ℕ) (gains : Gains) : Type 0 where
@@ -42,3 +50,7 @@ pub record IsCounted (n : Net) (p : Partitioning) (i : ℕ) (gains : Gains) : Ty
   pub kept : AreKept p.count gains
   pub gained : AreGains n p i gains
   pub node : i < length n.nodes
+
+-- no node whose gains these are loses less than `bound` in any partition
+abbrev pub LoseAtLeast : Gains → ℕ → Type 0
+LoseAtLeast gains bound = (n : Net) (p : Partitioning) (i q : ℕ) → IsCounted n p i gains → bound ≤ loss n p.of.items i q

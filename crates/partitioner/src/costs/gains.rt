@@ -1,9 +1,9 @@
-//! How many of the nodes that a node reads are near in each partition.
+//! What a node gains in each partition: how many of the nodes that it reads are near there, and whether it is read there.
 ghost use Rattle.std.specs.Prelude.{◌≡◌, ◌<◌, ◌≤◌, ◌+◌, ◌-◌, ◌==◌, ◌&&◌, not, ℕ, Bool, [], length, take, slice_index, slice_index_or, count_by, if◌then◌else◌, IfOk};
 ghost use Rattle.flat_net.specs.Net.{Net};
 ghost use Rattle.partitioner.specs.Below.{one_if};
-ghost use Rattle.partitioner.specs.Private.Gaining.{AreBegun, AreGains, AreKept, IsCounted, is_near, last_in, near_in};
-ghost use Rattle.partitioner.specs.Private.Loss.{is_fresh};
+ghost use Rattle.partitioner.specs.Private.Gaining.{AreBegun, AreGains, AreKept, IsCounted, IsMost, LoseAtLeast, is_near, last_in, near_in};
+ghost use Rattle.partitioner.specs.Private.Loss.{is_fresh, is_wanted};
 ghost use Rattle.partitioner.specs.Private.Tracking.{Tracks};
 
 use crate::counts::partitioning::Partitioning;
@@ -13,13 +13,16 @@ use std::alloc::Global;
 use tmr_base::OutOfMemory;
 
 /// For one node and each partition, how many of the first `counted` nodes that the one reads are near:
-/// they stand there, or others read them there.
+/// they stand there, or others read them there. Where others read the one itself, it counts as one more.
+/// `most` is the highest of these counts.
 ///
-/// Each of them has a turn of its own. A partition in which nothing was counted since turn `from` has no
-/// count, whatever stands in `near`: so nothing need be cleared before the next node.
+/// Each of the nodes has a turn of its own, after one for the readers. A partition in which nothing was
+/// counted since turn `from` has no count, whatever stands in `near`: so nothing need be cleared before the
+/// next node.
 #[derive(Drop)]
 pub struct Gains {
     pub counted: u32,
+    pub most: u32,
     pub from: u64,
     pub turn: u64,
     pub near: Vec<u32>,
@@ -34,6 +37,7 @@ pub fn no_gains(alloc: Global, count: u32) -> Result<Gains, OutOfMemory>
     let last = vec![in alloc; 0u64; count as usize]?;
     Ok(Gains {
         counted: 0,
+        most: 0,
         from: 0,
         turn: 0,
         near,
@@ -65,6 +69,20 @@ pub fn begin(gains: &mut Gains, count: u32)
     }
     gains.from = gains.turn;
     gains.counted = 0;
+    gains.most = 0;
+}
+
+/// How many are counted in partition q.
+fn near_in(gains: &Gains, q: u32) -> u32
+    requires near_long { q < length gains.now.near.items }
+    requires last_long { q < length gains.now.last.items }
+    ensures { result ≡ near_in gains.now q }
+{
+    if gains.from < gains.last[q as usize] {
+        gains.near[q as usize]
+    } else {
+        0
+    }
 }
 
 /// Counts one more in partition q, unless it was counted there in this turn.
@@ -73,6 +91,7 @@ fn count_once(gains: &mut Gains, q: u32)
     requires last_long { q < length gains.old.last.items }
     requires turn { gains.old.from < gains.old.turn }
     requires few { near_in gains.old q < 4294967295 }
+    requires most { IsMost (near_in gains.old) gains.old.most }
     ensures counted { gains.new.counted ≡ gains.old.counted }
     ensures from { gains.new.from ≡ gains.old.from }
     ensures turn { gains.new.turn ≡ gains.old.turn }
@@ -80,18 +99,15 @@ fn count_once(gains: &mut Gains, q: u32)
     ensures last_long { length gains.new.last.items ≡ length gains.old.last.items }
     ensures near { (r : ℕ) → near_in gains.new r ≡ near_in gains.old r + one_if (q == r && not (last_in gains.old r == gains.old.turn)) }
     ensures last { (r : ℕ) → last_in gains.new r ≡ (if q == r then gains.old.turn else last_in gains.old r) }
+    ensures most { IsMost (near_in gains.new) gains.new.most }
 {
-    let last = gains.last[q as usize];
-    if last == gains.turn {
+    if gains.last[q as usize] == gains.turn {
         return;
     }
-    let near = if gains.from < last {
-        gains.near[q as usize]
-    } else {
-        0
-    };
-    gains.near[q as usize] = near + 1;
+    let near = near_in(gains, q) + 1;
+    gains.near[q as usize] = near;
     gains.last[q as usize] = gains.turn;
+    gains.most = gains.most.max(near);
 }
 
 /// Counts one more in each partition in which node x, which node i reads, is near. `readers` is its row.
@@ -105,10 +121,12 @@ fn count_source(n: &FlatNet, p: &Partitioning, gains: &mut Gains, i: u32, x: u32
     requires begun { gains.old.from < gains.old.turn }
     requires turn { (q : ℕ) → last_in gains.old q < gains.old.turn }
     requires few { (q : ℕ) → near_in gains.old q < 4294967294 }
+    requires most { IsMost (near_in gains.old) gains.old.most }
     ensures counted { gains.new.counted ≡ gains.old.counted }
     ensures from { gains.new.from ≡ gains.old.from }
     ensures turn { gains.new.turn ≡ gains.old.turn }
     ensures near { (q : ℕ) → near_in gains.new q ≡ near_in gains.old q + one_if (is_near n.now.net p.now.of.items i q x) }
+    ensures most { IsMost (near_in gains.new) gains.new.most }
     ensures kept { AreKept p.now.count gains.new }
 {
     count_once(gains, part_of(n, p, x));
@@ -119,8 +137,26 @@ fn count_source(n: &FlatNet, p: &Partitioning, gains: &mut Gains, i: u32, x: u32
     }
 }
 
-/// Counts the nodes that node i reads, from the first to one that has over eight times more readers than
-/// node i reads nodes.
+/// Counts one more in each partition in which another node reads node i.
+fn count_readers(n: &FlatNet, p: &Partitioning, gains: &mut Gains, i: u32)
+    requires tracks { Tracks n.now.net p.now }
+    requires node { i < length n.now.net.nodes }
+    requires begun { AreBegun p.now.count gains.old }
+    ensures counted { gains.new.counted ≡ gains.old.counted }
+    ensures from { gains.new.from ≡ gains.old.from }
+    ensures turn { gains.new.turn ≡ gains.old.turn + 1 }
+    ensures near { (q : ℕ) → near_in gains.new q ≡ one_if (is_wanted n.now.net p.now.of.items i q) }
+    ensures most { IsMost (near_in gains.new) gains.new.most }
+    ensures kept { AreKept p.now.count gains.new }
+{
+    gains.turn += 1;
+    for y in p.readers.row(i) {
+        count_once(gains, part_of(n, p, *y));
+    }
+}
+
+/// Counts where node i is read, and then the nodes that it reads, from the first to one that has over eight
+/// times more readers than node i reads nodes.
 pub fn count_gains(n: &FlatNet, p: &Partitioning, gains: &mut Gains, i: u32)
     requires tracks { Tracks n.now.net p.now }
     requires node { i < length n.now.net.nodes }
@@ -129,6 +165,7 @@ pub fn count_gains(n: &FlatNet, p: &Partitioning, gains: &mut Gains, i: u32)
     ensures kept { AreKept p.now.count gains.new }
 {
     let _nodes = nodes_of(n);
+    count_readers(n, p, gains, i);
     let row = p.sources.row(i);
     for x in row {
         let readers = p.readers.row(*x);
@@ -141,18 +178,20 @@ pub fn count_gains(n: &FlatNet, p: &Partitioning, gains: &mut Gains, i: u32)
     }
 }
 
-/// How many of the counted nodes are not near in partition q.
+/// How many of the counted nodes are not near in partition q, and one more unless another node reads node i there.
 pub fn missed_in(n: &FlatNet, p: &Partitioning, gains: &Gains, i: u32, q: u32) -> u32
     requires counted { IsCounted n.now.net p.now i gains.now }
     requires partition { q < p.now.count }
-    ensures { result ≡ count_by (λ x. is_fresh n.now.net p.now.of.items i x q) (take gains.now.counted (slice_index_or p.now.sources i [])) }
+    ensures { result ≡ one_if (not (is_wanted n.now.net p.now.of.items i q)) + count_by (λ x. is_fresh n.now.net p.now.of.items i x q) (take gains.now.counted (slice_index_or p.now.sources i [])) }
 {
-    if gains.counted == 0 {
-        return 0;
-    }
-    if gains.from < gains.last[q as usize] {
-        gains.counted - gains.near[q as usize]
-    } else {
-        gains.counted
-    }
+    gains.counted + 1 - near_in(gains, q)
+}
+
+/// The least that the node may lose, by what is counted: it loses no less in any partition.
+pub fn least_loss(gains: &Gains) -> u64
+    requires { gains.now.most ≤ gains.now.counted + 1 }
+    ensures exact { result + gains.now.most ≡ gains.now.counted + 1 }
+    ensures least { LoseAtLeast gains.now result }
+{
+    u64::from(gains.counted) + 1 - u64::from(gains.most)
 }

@@ -4,7 +4,7 @@ ghost use Rattle.flat_net.specs.Net.{Net};
 ghost use Rattle.partitioner.specs.Below.{one_if};
 ghost use Rattle.partitioner.specs.Private.Gaining.{IsCounted};
 ghost use Rattle.node_reads.specs.Sources.{reads_other};
-ghost use Rattle.partitioner.specs.Private.Loss.{is_fresh, is_wanted, loss};
+ghost use Rattle.partitioner.specs.Private.Loss.{is_fresh, loss};
 ghost use Rattle.partitioner.specs.Private.Tracking.{Tracks, reader_count};
 
 use crate::costs::gains::{Gains, missed_in};
@@ -55,39 +55,16 @@ fn is_fresh(n: &FlatNet, p: &Partitioning, i: u32, x: u32, q: u32, mine: u32) ->
     p.of[x as usize] != q && readers_in(n, p, x, q) == mine
 }
 
-/// Some other node reads node i from partition q. Where this is known, nothing is counted.
-#[tactic(auto, using(crate::proofs::CountLaws::wanted_by_count))]
-fn is_wanted(n: &FlatNet, p: &Partitioning, i: u32, q: u32, known: bool) -> bool
-    requires tracks { Tracks n.now.net p.now }
-    requires node { i < length n.now.net.nodes }
-    requires partition { q < p.now.count }
-    requires known { known ≡ true → is_wanted n.now.net p.now.of.items i q ≡ true }
-    ensures { result ≡ is_wanted n.now.net p.now.of.items i q }
-{
-    known || 0 < readers_in(n, p, i, q)
-}
-
-/// The loss of node i in partition q, or where it is above `most`, some number above `most`. `wanted` says
-/// that the node is known to be read there by another.
-pub fn loss_up_to(
-    n: &FlatNet,
-    p: &Partitioning,
-    gains: &Gains,
-    i: u32,
-    q: u32,
-    wanted: bool,
-    most: u64,
-) -> u64
+/// The loss of node i in partition q, or where it is above `most`, some number above `most`.
+pub fn loss_up_to(n: &FlatNet, p: &Partitioning, gains: &Gains, i: u32, q: u32, most: u64) -> u64
     requires counted { IsCounted n.now.net p.now i gains.now }
     requires partition { q < p.now.count }
-    requires wanted { wanted ≡ true → is_wanted n.now.net p.now.of.items i q ≡ true }
     ensures exact { result ≤ most → result ≡ loss n.now.net p.now.of.items i q }
     ensures above { most < result → most < loss n.now.net p.now.of.items i q }
 {
     let mine = u32::from(p.of[i as usize] == q);
     let row = p.sources.row(i);
-    let mut loss = u64::from(!is_wanted(n, p, i, q, wanted))
-        + u64::from(missed_in(n, p, gains, i, q));
+    let mut loss = u64::from(missed_in(n, p, gains, i, q));
     for j in gains.counted as usize..row.len() {
         if most < loss {
             return loss;

@@ -3,7 +3,6 @@ ghost use Rattle.std.specs.Prelude.{◌≡◌, ◌<◌, ◌≤◌, ◌==◌, ℕ
 ghost use Rattle.partitioner.specs.Sizes.{capacity};
 ghost use Rattle.flat_net.specs.Net.{Net};
 ghost use Rattle.node_reads.specs.Sources.{is_wide};
-ghost use Rattle.partitioner.specs.Private.Loss.{is_wanted};
 ghost use Rattle.partitioner.specs.Refining.{has_room, place};
 ghost use Rattle.partitioner.specs.Private.Tracking.{IsPlaced, Tracks, parts_of, placed_parts};
 ghost use Rattle.partitioner.specs.Private.Spotting.{AreSpots};
@@ -11,7 +10,7 @@ ghost use Rattle.partitioner.specs.Private.Ready.{IsReady};
 ghost use Rattle.partitioner.specs.Private.Gaining.{IsCounted};
 ghost use Rattle.partitioner.specs.Private.Leading.{HasNoRoom, IsFixed, IsLead, Leads, LeadsOpen, LeadsOrLoses, LeadsReaders, is_better, is_settled, start_of};
 
-use crate::costs::gains::{Gains, begin, count_gains};
+use crate::costs::gains::{Gains, begin, count_gains, least_loss};
 use crate::costs::losses::loss_up_to;
 use crate::counts::partitioning::{Partitioning, Placed};
 use crate::counts::spots::Spots;
@@ -58,7 +57,7 @@ fn is_settled(lead: Lead, start: u32, tried: u64) -> bool
     lead.loss < tried || (lead.loss == tried && lead.place == start)
 }
 
-/// The lead after partition q is tried for node i. `wanted` says that the node is known to be read there by another.
+/// The lead after partition q is tried for node i.
 fn consider(
     n: &FlatNet,
     p: &Partitioning,
@@ -67,11 +66,9 @@ fn consider(
     i: u32,
     lead: Lead,
     q: u32,
-    wanted: bool,
 ) -> Lead
     requires counted { IsCounted n.now.net p.now i gains.now }
     requires partition { q < p.now.count }
-    requires wanted { wanted ≡ true → is_wanted n.now.net p.now.of.items i q ≡ true }
     requires lead { IsLead n.now.net size p.now i lead }
     ensures lead { IsLead n.now.net size p.now i result }
     ensures kept { (c : ℕ) → Leads n.now.net p.now i lead.place c → Leads n.now.net p.now i result.place c }
@@ -81,7 +78,7 @@ fn consider(
     if q == start || q == lead.place || !has_room(n, p, size, q) {
         return lead;
     }
-    let found = loss_up_to(n, p, gains, i, q, wanted, lead.loss);
+    let found = loss_up_to(n, p, gains, i, q, lead.loss);
     if is_better(lead, start, found, q) {
         Lead {
             place: q,
@@ -111,7 +108,7 @@ fn consider_readers(
 {
     let mut lead = lead;
     for y in p.readers.row(x) {
-        lead = consider(n, p, gains, size, i, lead, part_of(n, p, *y), x == i);
+        lead = consider(n, p, gains, size, i, lead, part_of(n, p, *y));
     }
     lead
 }
@@ -171,7 +168,7 @@ fn consider_spots(
     let mut lead = lead;
     for q in spots.free.set(x).iter() {
         if *q < p.count {
-            lead = consider(n, p, gains, size, i, lead, *q, false);
+            lead = consider(n, p, gains, size, i, lead, *q);
             if lead.loss <= tried && lead.place <= *q {
                 return lead;
             }
@@ -203,7 +200,7 @@ fn consider_source(
     ensures own { LeadsOpen n.now.net size p.now i result.place (start_of p.now x) }
     ensures tried { LeadsReaders n.now.net size p.now i result.place x }
 {
-    let lead = consider(n, p, gains, size, i, lead, part_of(n, p, x), false);
+    let lead = consider(n, p, gains, size, i, lead, part_of(n, p, x));
     if is_wide(n, &p.readers, x) {
         consider_spots(n, p, spots, gains, size, i, lead, x, tried)
     } else {
@@ -244,8 +241,8 @@ fn best_place(
 
 /// The partition that node i goes to, which is its own where no move lowers the cost.
 ///
-/// Where the node loses more than a few pairs, what it gains in each partition is counted once, rather
-/// than in each partition that is tried.
+/// What it gains in each partition is counted once, rather than in each partition that is tried. Where it gains most
+/// in its own, no other is tried.
 pub fn place_of(
     n: &FlatNet,
     p: &Partitioning,
@@ -264,9 +261,9 @@ pub fn place_of(
     count_gains(n, p, gains, i);
     let lead = Lead {
         place: start,
-        loss: loss_up_to(n, p, gains, i, start, false, u64::MAX),
+        loss: loss_up_to(n, p, gains, i, start, u64::MAX),
     };
-    if is_settled(lead, start, 0) {
+    if is_settled(lead, start, least_loss(gains)) {
         return start;
     }
     best_place(n, p, spots, gains, size, i, lead)

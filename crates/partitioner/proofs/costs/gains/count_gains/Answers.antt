@@ -1,7 +1,7 @@
 use Rattle.std.proofs.Common.{◌+◌, ℕ, List, length, sym, ap, subst, arith, IsPermutation}
 use Rattle.node_reads.specs.Sources.{other_sources}
 use Rattle.partitioner.proofs.LossLaws.{sources_below}
-use Rattle.partitioner.proofs.GainLaws.{gained_few, gained_more, sources_few}
+use Rattle.partitioner.proofs.GainLaws.{gained_few, gained_first, gained_more, sources_few}
 use Rattle.partitioner.proofs.costs.gains.count_gains.Goals as goal
 
 pub row-readers-requires : goal.row-readers-requires
@@ -25,6 +25,11 @@ overflow_add-gains-in-loop-x c =
 pub loop-x-preserved : goal.loop-x-preserved
 loop-x-preserved c =
     gained_more c.args.n.now.net c.args.p.now c.args.i c.row-row.result.now c.loop-x.gains
-    (record { counted = c.count_source.new.gains.counted + 1; from = c.count_source.new.gains.from; turn = c.count_source.new.gains.turn; near = c.count_source.new.gains.near; last = c.count_source.new.gains.last }) c.loop-x.x-index
+    (record { counted = c.count_source.new.gains.counted + 1; most = c.count_source.new.gains.most; from = c.count_source.new.gains.from; turn = c.count_source.new.gains.turn; near = c.count_source.new.gains.near; last = c.count_source.new.gains.last }) c.loop-x.x-index
     c.loop-x.invariant c.loop-x-test.true (record { near_long = c.count_source.ensures.kept.near_long; last_long = c.count_source.ensures.kept.last_long; past = c.count_source.ensures.kept.past })
-    (ap (λ (k : ℕ). k + 1) c.count_source.ensures.counted) c.count_source.ensures.from c.count_source.ensures.turn c.count_source.ensures.near
+    (ap (λ (k : ℕ). k + 1) c.count_source.ensures.counted) c.count_source.ensures.from c.count_source.ensures.turn c.count_source.ensures.near c.count_source.ensures.most
+
+pub loop-x-init : goal.loop-x-init
+loop-x-init c =
+    let new = c.count_readers.ensures in
+    gained_first c.args.n.now.net c.args.p.now c.args.i c.row-row.result.now c.args.gains.now c.count_readers.new.gains c.requires.begun new.kept new.counted new.from new.turn new.near new.most

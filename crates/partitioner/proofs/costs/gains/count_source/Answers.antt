@@ -35,6 +35,7 @@ loop-y-preserved c =
             turn = new.turn ∙ is.turn;
             near_long = new.near_long ∙ is.near_long;
             last_long = new.last_long ∙ is.last_long;
+            most = new.most;
           })
       | else-y-i w ↦
           subst (λ (g : Gains). IsTurned c.args.gains.now g c.args.p.now.count (met (j + 1))) (sym w.gains-is) (record {
@@ -44,5 +45,6 @@ loop-y-preserved c =
             turn = is.turn;
             near_long = is.near_long;
             last_long = is.last_long;
+            most = is.most;
           })
     ]

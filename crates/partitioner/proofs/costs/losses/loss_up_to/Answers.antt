@@ -1,12 +1,11 @@
-use Rattle.std.proofs.Common.{◌≡◌, ◌∙◌, ℕ, Bool, not, List, take, get_or, sym, ap, subst, arith, IsPermutation}
-use Rattle.std.specs.List.{count_by}
+use Rattle.std.proofs.Common.{◌≡◌, ◌∙◌, ℕ, not, List, take, get_or, sym, ap, subst, arith, IsPermutation}
 use Rattle.std.proofs.lemmas.List.{length-take}
 use Rattle.std.proofs.lemmas.List.Sums.{count_by-le-length}
 use Rattle.partitioner.specs.Below.{one_if}
 use Rattle.node_reads.specs.Sources.{other_sources}
 use Rattle.partitioner.specs.Private.Loss.{is_fresh, is_wanted}
 use Rattle.partitioner.proofs.BelowLaws.{one_if_le, byte_of}
-use Rattle.partitioner.proofs.LossLaws.{loss_more, loss_all, loss_at_least, sources_below, sources_read}
+use Rattle.partitioner.proofs.LossLaws.{loss_so_far, loss_more, loss_all, loss_at_least, sources_below, sources_read}
 use Rattle.partitioner.proofs.costs.losses.loss_up_to.Goals as goal
 
 pub loop-j-init : goal.loop-j-init
@@ -15,13 +14,12 @@ loop-j-init c =
     let of = c.args.p.now.of.items in
     let row = c.row-row.result.now in
     let counted = c.args.gains.now.counted in
-    let own : c.from.result ≡ one_if (not (is_wanted net of c.args.i c.args.q)) = c.from.ensures ∙ (byte_of (not c.is_wanted.result) ∙ ap (λ (b : Bool). one_if (not b)) c.is_wanted.ensures) in
-    let missed : c.from-2.result ≡ count_by (λ x. is_fresh net of c.args.i x c.args.q) (take counted row) =
-    c.from-2.ensures ∙ (c.missed_in.ensures ∙ ap (λ (xs : List ℕ). count_by (λ x. is_fresh net of c.args.i x c.args.q) (take counted xs)) (sym c.row-row.ensures)) in
+    let missed : c.from-loss.result ≡ loss_so_far net of c.args.i c.args.q row counted =
+    c.from-loss.ensures ∙ (c.missed_in.ensures ∙ ap (λ (xs : List ℕ). loss_so_far net of c.args.i c.args.q xs counted) (sym c.row-row.ensures)) in
     let most = one_if_le (not (is_wanted net of c.args.i c.args.q)) in
     let few = count_by-le-length (λ x. is_fresh net of c.args.i x c.args.q) (take counted row) in
     let long = length-take counted row in
-    (omega (arith, own, missed), omega (arith, own, missed, most, few, long))
+    (missed, omega (arith, missed, most, few, long))
 
 pub returns-then-most-loss-clause-above : goal.returns-then-most-loss-clause-above
 returns-then-most-loss-clause-above c = λ h.
@@ -43,8 +41,8 @@ pub loop-j-preserved : goal.loop-j-preserved
 loop-j-preserved c =
     let x = get_or c.row-row.result.now c.loop-j.j 0 in
     let more = loss_more c.args.n.now.net c.args.p.now.of.items c.args.i c.args.q c.row-row.result.now c.loop-j.j c.loop-j-test.true in
-    let one : c.from-loss.result ≡ one_if (is_fresh c.args.n.now.net c.args.p.now.of.items c.args.i x c.args.q) =
-    c.from-loss.ensures ∙ (byte_of c.is_fresh.result ∙ ap one_if c.is_fresh.ensures) in
+    let one : c.from-loss-in-loop-j.result ≡ one_if (is_fresh c.args.n.now.net c.args.p.now.of.items c.args.i x c.args.q) =
+    c.from-loss-in-loop-j.ensures ∙ (byte_of c.is_fresh.result ∙ ap one_if c.is_fresh.ensures) in
     let most = one_if_le (is_fresh c.args.n.now.net c.args.p.now.of.items c.args.i x c.args.q) in
     (omega (arith, more, one, c.loop-j.invariant.0), omega (arith, one, most, c.loop-j.invariant.1))
 

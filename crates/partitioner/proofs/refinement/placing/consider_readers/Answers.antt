@@ -1,10 +1,7 @@
-use Rattle.std.proofs.Common.{◌≡◌, ◌<◌, ◌∙◌, ℕ, true, List, length, get_or, sym, ap, subst, below_more, arith}
+use Rattle.std.proofs.Common.{◌≡◌, ◌<◌, ◌∙◌, ℕ, List, length, get_or, sym, subst, below_more, arith}
 use Rattle.std.proofs.lemmas.List.{get_or_default}
 use Rattle.node_reads.specs.Sources.{reads_other, other_readers}
 use Rattle.partitioner.specs.Private.Leading.{LeadsOpen, start_of}
-use Rattle.partitioner.specs.Private.Loss.{is_wanted}
-use Rattle.std.proofs.lemmas.Bool.{eqb-true}
-use Rattle.partitioner.proofs.CountLaws.{wanted_by_reader}
 use Rattle.node_reads.proofs.SourceLaws.{rows_below}
 use Rattle.partitioner.proofs.refinement.placing.consider_readers.Goals as goal
 
@@ -12,17 +9,6 @@ pub part_of-requires-clause-node : goal.part_of-requires-clause-node
 part_of-requires-clause-node c =
     subst (λ (xs : List ℕ). c.loop-y.y-index < length xs → get_or xs c.loop-y.y-index 0 < length c.args.n.now.net.nodes) (sym c.row-y-items.ensures)
     (rows_below (reads_other c.args.n.now.net) (length c.args.n.now.net.nodes) (length c.args.n.now.net.nodes) c.args.p.now.readers c.args.x c.loop-y.y-index c.requires.counted.tracks.readers c.requires.read) c.loop-y-test.true
-
-pub consider-lead-requires-clause-wanted : goal.consider-lead-requires-clause-wanted
-consider-lead-requires-clause-wanted c = λ e.
-    let net = c.args.n.now.net in
-    let of = c.args.p.now.of.items in
-    let k = c.loop-y.y-index in
-    let same : c.args.x ≡ c.args.i = eqb-true c.args.x c.args.i e in
-    let row : c.row-y-items.result.now ≡ other_readers net c.args.i = c.row-y-items.ensures ∙ (c.requires.counted.tracks.readers.row c.args.x c.requires.read ∙ ap (other_readers net) same) in
-    let within : k < length (other_readers net c.args.i) = omega (arith, c.loop-y-test.true, ap length row) in
-    let at : c.part_of.result ≡ get_or of (get_or (other_readers net c.args.i) k 0) 0 = c.part_of.ensures.value ∙ ap (λ (xs : List ℕ). get_or of (get_or xs k 0) 0) row in
-    subst (λ (q : ℕ). is_wanted net of c.args.i q ≡ true) (sym at) (wanted_by_reader net of c.args.i k within)
 
 pub loop-y-preserved : goal.loop-y-preserved
 loop-y-preserved c =
