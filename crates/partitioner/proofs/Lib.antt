@@ -16,3 +16,4 @@ pub mod RefineLaws
 pub mod WideLaws
 pub mod SetLaws
 pub mod SpotLaws
+pub mod RestLaws

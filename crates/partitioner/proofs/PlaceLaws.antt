@@ -1,5 +1,5 @@
 -- The partition where the loss is lowest is where the cost is lowest, and few partitions need be tried.
-use Rattle.std.proofs.Common.{◌≡◌, ℕ, ◌+◌, ◌<◌, ◌≤◌, ◌⊎◌, inl, inr, Bool, true, false, eqb, ltb, not, ◌&&◌, ◌||◌, List, [], ◌∷◌, length, sym, ◌∙◌, ap, subst, arith, get_or, take, IsPermutation}
+use Rattle.std.proofs.Common.{◌≡◌, ℕ, ◌+◌, ◌<◌, ◌≤◌, ◌⊎◌, inl, inr, Bool, true, false, eqb, ltb, not, ◌&&◌, ◌||◌, List, [], ◌∷◌, length, refl, sym, ◌∙◌, ap, subst, arith, get_or, take, IsPermutation}
 use Rattle.std.specs.List.{list_any, All}
 use Rattle.std.proofs.lemmas.Bool.{cases_Bool, cases_lt, and_parts, or_cases, eqb-true, ltb-true, not-false, true≢false}
 use Rattle.std.proofs.lemmas.List.Elements.{All-head, All-tail}
@@ -11,7 +11,7 @@ use Rattle.partitioner.specs.declared.refinement.placing.Lead.{Lead}
 use Rattle.partitioner.specs.Below.{one_if}
 use Rattle.node_reads.specs.Sources.{other_readers, other_sources}
 use Rattle.partitioner.specs.Cost.{cost}
-use Rattle.partitioner.specs.Private.Loss.{is_fresh, is_kept, is_wanted, loss}
+use Rattle.partitioner.specs.Private.Loss.{is_fresh, is_kept, is_wanted, loss, IsContent}
 use Rattle.partitioner.specs.Refining.{has_room, put, place}
 use Rattle.partitioner.specs.Private.Tracking.{Tracks, parts_of}
 use Rattle.partitioner.specs.Private.Leading.{AsGood, IsReached, IsLead, Leads, LeadsOpen, LeadsReaders, LeadsOrLoses, is_settled, start_of}
@@ -167,3 +167,23 @@ later_leads n size p i tried q c lead is low early later (inr h) = go (cases_lt 
 
 pub all_place : (n : Net) (size : ℕ) (p : Partitioning) (i : ℕ) (lead : Lead) → Tracks n p → i < length n.nodes → IsLead n size p i lead → ((c : ℕ) → c < p.count → LeadsOpen n size p i lead.place c) → lead.place ≡ place n size (parts_of p) i
 all_place n size p i lead tracks l is all = place_is n size p i lead.place tracks l (record { reached = is.reached; best = all })
+
+-- a node that is known to lose least where it stands is content
+pub settled_content : (n : Net) (size : ℕ) (p : Partitioning) (i least : ℕ) (lead : Lead) → IsLead n size p i lead → lead.place ≡ start_of p i → ((q : ℕ) → least ≤ loss n p.of.items i q) → is_settled lead (start_of p i) least ≡ true → IsContent n p.of.items i
+settled_content n size p i least lead is own low settled = λ q. go q (or_cases (ltb lead.loss least) (eqb lead.loss least && eqb lead.place (start_of p i)) settled)
+  where
+    here : lead.loss ≡ loss n p.of.items i (start_of p i)
+    here = is.value ∙ ap (loss n p.of.items i) own
+
+    go : (q : ℕ) → (ltb lead.loss least ≡ true) ⊎ ((eqb lead.loss least && eqb lead.place (start_of p i)) ≡ true) → loss n p.of.items i (start_of p i) ≤ loss n p.of.items i q
+    go q (inl h) = omega (arith, ltb-true lead.loss least h, here, low q)
+    go q (inr h) = omega (arith, eqb-true lead.loss least (and_parts (eqb lead.loss least) (eqb lead.place (start_of p i)) h).0, here, low q)
+
+-- a content node goes nowhere
+pub content_stays : (n : Net) (size : ℕ) (p : Partitioning) (i : ℕ) → Tracks n p → i < length n.nodes → IsContent n p.of.items i → place n size (parts_of p) i ≡ start_of p i
+content_stays n size p i tracks l content =
+    sym (place_is n size p i (start_of p i) tracks l (record { reached = inl refl; best = λ c h room. at c (cases_lt (loss n p.of.items i (start_of p i)) (loss n p.of.items i c)) }))
+  where
+    at : (c : ℕ) → (loss n p.of.items i (start_of p i) < loss n p.of.items i c) ⊎ (loss n p.of.items i c ≤ loss n p.of.items i (start_of p i)) → Leads n p i (start_of p i) c
+    at c (inl h) = inl h
+    at c (inr h) = inr (omega (arith, h, content c), inl refl)

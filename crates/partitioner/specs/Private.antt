@@ -8,3 +8,4 @@ pub mod Sets
 pub mod Spotting
 pub mod Gaining
 pub mod Ready
+pub mod Resting

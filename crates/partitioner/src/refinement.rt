@@ -4,3 +4,4 @@ pub mod minimal;
 pub mod moving;
 pub mod placing;
 pub mod refining;
+pub mod resting;

@@ -23,7 +23,7 @@ fn all_stay(n: &FlatNet, p: &Partitioning, spots: &Spots, gains: &mut Gains, siz
         return true;
     }
     for i in 0..nodes_of(n) {
-        if place_of(n, p, spots, gains, size, i) != part_of(n, p, i) {
+        if place_of(n, p, spots, gains, size, i).place != part_of(n, p, i) {
             return false;
         }
     }

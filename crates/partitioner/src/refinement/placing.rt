@@ -8,6 +8,7 @@ ghost use Rattle.partitioner.specs.Private.Tracking.{IsPlaced, Tracks, parts_of,
 ghost use Rattle.partitioner.specs.Private.Spotting.{AreSpots};
 ghost use Rattle.partitioner.specs.Private.Ready.{IsReady};
 ghost use Rattle.partitioner.specs.Private.Gaining.{IsCounted};
+ghost use Rattle.partitioner.specs.Private.Loss.{IsContent};
 ghost use Rattle.partitioner.specs.Private.Leading.{HasNoRoom, IsFixed, IsLead, Leads, LeadsOpen, LeadsOrLoses, LeadsReaders, is_better, is_settled, start_of};
 
 use crate::costs::gains::{Gains, begin, count_gains, least_loss};
@@ -22,6 +23,13 @@ use node_reads::is_wide;
 pub struct Lead {
     pub place: u32,
     pub loss: u64,
+}
+
+/// Where a node goes, and whether it is known to be content there: no partition loses less than its own.
+#[derive(Clone, Copy, Drop)]
+pub struct Found {
+    pub place: u32,
+    pub content: bool,
 }
 
 /// Where node x stands.
@@ -242,7 +250,7 @@ fn best_place(
 /// The partition that node i goes to, which is its own where no move lowers the cost.
 ///
 /// What it gains in each partition is counted once, rather than in each partition that is tried. Where it gains most
-/// in its own, no other is tried.
+/// in its own, no other is tried, and the node is content.
 pub fn place_of(
     n: &FlatNet,
     p: &Partitioning,
@@ -250,10 +258,11 @@ pub fn place_of(
     gains: &mut Gains,
     size: u32,
     i: u32,
-) -> u32
+) -> Found
     requires ready { IsReady n.now.net size p.now spots.now gains.old }
     requires node { i < length n.now.net.nodes }
-    ensures place { result ≡ place n.now.net size (parts_of p.now) i }
+    ensures place { result.place ≡ place n.now.net size (parts_of p.now) i }
+    ensures content { result.content ≡ true → IsContent n.now.net p.now.of.items i }
     ensures ready { IsReady n.now.net size p.now spots.now gains.new }
 {
     let start = part_of(n, p, i);
@@ -264,7 +273,13 @@ pub fn place_of(
         loss: loss_up_to(n, p, gains, i, start, u64::MAX),
     };
     if is_settled(lead, start, least_loss(gains)) {
-        return start;
+        return Found {
+            place: start,
+            content: true,
+        };
     }
-    best_place(n, p, spots, gains, size, i, lead)
+    Found {
+        place: best_place(n, p, spots, gains, size, i, lead),
+        content: false,
+    }
 }

@@ -6,6 +6,7 @@ ghost use Rattle.partitioner.specs.Sizes.{KeepsSize};
 ghost use Rattle.partitioner.specs.Refining.{move, pass, place, refined, IsMinimal};
 ghost use Rattle.partitioner.specs.Private.Tracking.{IsPlaced, Tracks, parts_of, placed_parts};
 ghost use Rattle.partitioner.specs.Private.Ready.{IsReady};
+ghost use Rattle.partitioner.specs.Private.Resting.{Rests};
 
 use crate::costs::gains::{Gains, no_gains};
 use crate::costs::pairs::pairs_in;
@@ -15,31 +16,45 @@ use crate::counts::tracking::{placed, tracked};
 use crate::refinement::minimal::no_move_helps;
 use crate::refinement::moving::move_to;
 use crate::refinement::placing::{may_move, part_of, place_of, some_room};
+use crate::refinement::resting::{Rest, is_resting, no_rest, note_move, note_rest};
 use flat_net::{FlatNet, nodes_of};
 use std::alloc::Global;
 use tmr_base::{OutOfMemory, Parts};
 
 /// Moves node i to where it goes. Says whether it moved.
+///
+/// A node that is content is not counted again until something changes near it.
 fn move_node(
     n: &FlatNet,
     p: &mut Partitioning,
     spots: &mut Spots,
     gains: &mut Gains,
+    rest: &mut Rest,
     size: u32,
     i: u32,
 ) -> Result<bool, OutOfMemory>
     requires ready { IsReady n.now.net size p.old spots.old gains.old }
+    requires rests { Rests n.now.net p.old.of.items rest.old }
     requires node { i < length n.now.net.nodes }
     ensures ready { OnOk result (IsReady n.now.net size p.new spots.new gains.new) }
+    ensures rests { OnOk result (Rests n.now.net p.new.of.items rest.new) }
     ensures parts { OnOk result (parts_of p.new ≡ move n.now.net size (parts_of p.old) i) }
     ensures still { IfOk result (λ moved. moved ≡ false → parts_of p.new ≡ parts_of p.old) }
     ensures stays { IfOk result (λ moved. moved ≡ false → place n.now.net size (parts_of p.old) i ≡ slice_index p.old.of.items i) }
 {
-    let place = place_of(n, p, spots, gains, size, i);
-    if place == part_of(n, p, i) {
+    if is_resting(n, p, rest, i) {
         return Ok(false);
     }
-    move_to(n, p, spots, size, i, place)?;
+    let found = place_of(n, p, spots, gains, size, i);
+    if found.content {
+        note_rest(rest, i);
+        return Ok(false);
+    }
+    if found.place == part_of(n, p, i) {
+        return Ok(false);
+    }
+    move_to(n, p, spots, size, i, found.place)?;
+    note_move(n, p, rest, i);
     Ok(true)
 }
 
@@ -49,10 +64,13 @@ fn pass_once(
     p: &mut Partitioning,
     spots: &mut Spots,
     gains: &mut Gains,
+    rest: &mut Rest,
     size: u32,
 ) -> Result<bool, OutOfMemory>
     requires ready { IsReady n.now.net size p.old spots.old gains.old }
+    requires rests { Rests n.now.net p.old.of.items rest.old }
     ensures ready { OnOk result (IsReady n.now.net size p.new spots.new gains.new) }
+    ensures rests { OnOk result (Rests n.now.net p.new.of.items rest.new) }
     ensures parts { OnOk result (parts_of p.new ≡ pass n.now.net size (parts_of p.old)) }
     ensures still { IfOk result (λ moved. moved ≡ false → parts_of p.new ≡ parts_of p.old) }
     ensures minimal { IfOk result (λ moved. moved ≡ false → IsMinimal n.now.net size (parts_of p.new)) }
@@ -62,7 +80,7 @@ fn pass_once(
     }
     let mut moved = false;
     for i in 0..nodes_of(n) {
-        if move_node(n, p, spots, gains, size, i)? {
+        if move_node(n, p, spots, gains, rest, size, i)? {
             moved = true;
         }
     }
@@ -75,17 +93,20 @@ fn pass_often(
     p: &mut Partitioning,
     spots: &mut Spots,
     gains: &mut Gains,
+    rest: &mut Rest,
     size: u32,
     passes: u32,
 ) -> Result<bool, OutOfMemory>
     requires ready { IsReady n.now.net size p.old spots.old gains.old }
+    requires rests { Rests n.now.net p.old.of.items rest.old }
     ensures ready { OnOk result (IsReady n.now.net size p.new spots.new gains.new) }
+    ensures rests { OnOk result (Rests n.now.net p.new.of.items rest.new) }
     ensures parts { OnOk result (parts_of p.new ≡ refined n.now.net size (parts_of p.old) passes) }
     ensures minimal { IfOk result (λ settled. settled ≡ true → IsMinimal n.now.net size (parts_of p.new)) }
 {
     let mut left = passes;
     while left > 0 {
-        if !pass_once(n, p, spots, gains, size)? {
+        if !pass_once(n, p, spots, gains, rest, size)? {
             return Ok(true);
         }
         left -= 1;
@@ -117,7 +138,8 @@ fn pass_all(
     let mut spots = spots_of(alloc, n, p)?;
     shut_full(n, p, &mut spots, size);
     let mut gains = no_gains(alloc, p.count)?;
-    let settled = pass_often(n, p, &mut spots, &mut gains, size, passes)?;
+    let mut rest = no_rest(alloc, n)?;
+    let settled = pass_often(n, p, &mut spots, &mut gains, &mut rest, size, passes)?;
     Ok(Passed {
         spots,
         gains,

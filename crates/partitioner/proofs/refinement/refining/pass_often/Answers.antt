@@ -8,7 +8,7 @@ use Rattle.partitioner.proofs.refinement.refining.pass_often.Goals as goal
 pub loop-left-init : goal.loop-left-init
 loop-left-init c =
     let none : 0 ≡ c.args.passes - c.args.passes = omega arith in
-    (c.requires.ready, sym (refined_none c.args.n.now.net c.args.size (parts_of c.args.p.now)) ∙ ap (λ (k : ℕ). refined c.args.n.now.net c.args.size (parts_of c.args.p.now) k) none, omega arith)
+    (c.requires.ready, sym (refined_none c.args.n.now.net c.args.size (parts_of c.args.p.now)) ∙ ap (λ (k : ℕ). refined c.args.n.now.net c.args.size (parts_of c.args.p.now) k) none, omega arith, c.requires.rests)
 
 pub returns-then-not-branch-clause-parts : goal.returns-then-not-branch-clause-parts
 returns-then-not-branch-clause-parts c =
@@ -28,6 +28,7 @@ loop-left-preserved c =
       c.in_ok-pass_once.ensures.ready,
       c.in_ok-pass_once.ensures.parts ∙ (ap (pass n c.args.size) c.loop-left.invariant.1 ∙ (sym (refined_more n c.args.size before (c.args.passes - c.loop-left.left)) ∙ ap (λ (k : ℕ). refined n c.args.size before k) more)),
       omega (arith, c.loop-left.invariant.2),
+      c.in_ok-pass_once.ensures.rests,
     )
 
 pub returns : goal.returns
@@ -35,6 +36,7 @@ returns c =
     let all : c.args.passes - c.loop-left.left ≡ c.args.passes = omega (arith, c.loop-left-test.false) in
     record {
       ready = c.loop-left.invariant.0;
+      rests = c.loop-left.invariant.3;
       parts = c.loop-left.invariant.1 ∙ ap (λ (k : ℕ). refined c.args.n.now.net c.args.size (parts_of c.args.p.now) k) all;
       minimal = λ h. absurd (false≢true h);
     }

@@ -9,7 +9,7 @@ use Rattle.partitioner.proofs.refinement.refining.pass_once.Goals as goal
 use Rattle.partitioner.proofs.refinement.refining.pass_once.Goals.{then-branch, else-branch}
 
 pub loop-i-init : goal.loop-i-init
-loop-i-init c = record { ready = c.requires.ready; parts = sym (moves_none c.args.n.now.net c.args.size (parts_of c.args.p.now)); still = λ h. refl; stays = λ h j l. omega (arith, l) }
+loop-i-init c = record { ready = c.requires.ready; rests = c.requires.rests; parts = sym (moves_none c.args.n.now.net c.args.size (parts_of c.args.p.now)); still = λ h. refl; stays = λ h j l. omega (arith, l) }
 
 pub loop-i-preserved : goal.loop-i-preserved
 loop-i-preserved c =
@@ -19,8 +19,8 @@ loop-i-preserved c =
     let after : parts_of c.move_node.new.p ≡ moves n c.args.size before (i + 1) =
     c.in_ok-move_node.ensures.parts ∙ (ap (λ (parts : PlainParts). move n c.args.size parts i) c.loop-i.invariant.parts ∙ sym (moves_more n c.args.size before i)) in
     elim c.if-branch.branch [
-      | then-branch w ↦ record { ready = c.in_ok-move_node.ensures.ready; parts = after; still = λ h. absurd (true≢false (sym w.moved-is ∙ h)); stays = λ h. absurd (true≢false (sym w.moved-is ∙ h)) }
-      | else-branch w ↦ record { ready = c.in_ok-move_node.ensures.ready; parts = after; still = λ h. c.in_ok-move_node.ensures.still w.if-branch.false ∙ c.loop-i.invariant.still (sym w.moved-is ∙ h); stays = λ h. stays_more n c.args.size before (parts_of c.loop-i.p) i (c.loop-i.invariant.still (sym w.moved-is ∙ h)) (c.loop-i.invariant.stays (sym w.moved-is ∙ h)) (c.in_ok-move_node.ensures.stays w.if-branch.false) }
+      | then-branch w ↦ record { ready = c.in_ok-move_node.ensures.ready; rests = c.in_ok-move_node.ensures.rests; parts = after; still = λ h. absurd (true≢false (sym w.moved-is ∙ h)); stays = λ h. absurd (true≢false (sym w.moved-is ∙ h)) }
+      | else-branch w ↦ record { ready = c.in_ok-move_node.ensures.ready; rests = c.in_ok-move_node.ensures.rests; parts = after; still = λ h. c.in_ok-move_node.ensures.still w.if-branch.false ∙ c.loop-i.invariant.still (sym w.moved-is ∙ h); stays = λ h. stays_more n c.args.size before (parts_of c.loop-i.p) i (c.loop-i.invariant.still (sym w.moved-is ∙ h)) (c.loop-i.invariant.stays (sym w.moved-is ∙ h)) (c.in_ok-move_node.ensures.stays w.if-branch.false) }
     ]
 
 pub returns-then-not-some_room-clause-parts : goal.returns-then-not-some_room-clause-parts
