@@ -19,6 +19,7 @@ pub mod Sizes
 pub mod Marked
 pub mod Whole
 pub mod VoterRows
+pub mod TapLaws
 pub mod Places
 pub mod Pushing
 pub mod RoleSteps

@@ -1,10 +1,10 @@
--- Where blocks begin, and where a partition stands in a row.
-use Rattle.std.proofs.Common.{◌≡◌, ℕ, suc, ◌+◌, ◌-◌, ◌*◌, ◌<◌, ◌≤◌, ◌⊎◌, refl, inl, inr, List, [], ◌∷◌, ◌++◌, length, filter, Some, sym, ap, ◌∙◌, arith, Bool, true}
-use Rattle.std.specs.Prelude.{slice_index, Contains}
+-- Where blocks begin.
+use Rattle.std.proofs.Common.{◌≡◌, ℕ, suc, ◌+◌, ◌*◌, ◌<◌, ◌≤◌, ◌⊎◌, refl, inl, inr, List, [], ◌∷◌, ◌++◌, length, sym, ap, ◌∙◌, arith, Bool, true}
+use Rattle.std.specs.Prelude.{slice_index}
 use Rattle.std.specs.List.{flat_map, range_with_len}
 use Rattle.std.proofs.lemmas.Bool.{cases_lt}
-use Rattle.std.proofs.lemmas.List.{length-append, get_or_append_left, get_or_push}
-use Rattle.std.proofs.lemmas.Option.{slice_get-get_or, get_or_from_slice_get, slice_get_within}
+use Rattle.std.proofs.lemmas.List.{get_or_append_left, get_or_push}
+use Rattle.std.proofs.lemmas.Option.{slice_get_within}
 use Rattle.tmr_base.specs.declared.copies.CopyNo.{CopyNo}
 use Rattle.tmr_base.specs.declared.copies.CopyNo.TheVariants.{First, Second, Third}
 use Rattle.tmr_base.specs.Copies.{Three, copy_number}
@@ -14,7 +14,7 @@ use Rattle.flat_net.specs.Net.{Net, net_count}
 use Rattle.triplicate.specs.Voting.{needs_voter, voting_parts}
 use Rattle.triplicate.specs.Blocks.{copies_of, block, hardened_roles}
 use Rattle.triplicate.specs.Private.Numbers.{block_start, copy_net, voter_net, voter_rank}
-use Rattle.triplicate.proofs.Lists.{blocks_more, blocks_rise, passing_cut, passing_at, passing_place}
+use Rattle.triplicate.proofs.Lists.{blocks_more, blocks_rise, passing_at}
 use Rattle.triplicate.proofs.Numbering.{copies_of_node, block_length, copy_net_node, copy_net_input, voter_net_is}
 
 -- one entry more
@@ -25,30 +25,7 @@ pushed_all f xs ys x v e long here all z h = ap (λ (zs : List ℕ). slice_index
     go (inl l) = get_or_append_left xs (v ∷ []) 0 z (omega arith) ∙ all z l
     go (inr l) = let same : z ≡ x = omega arith in get_or_push xs v 0 z (omega arith) ∙ (here ∙ ap f (sym same))
 
--- ---- ascending rows
-
-passing_rises : (p : ℕ → Bool) (x y : ℕ) → x < y → p x ≡ true → length (filter p (range_with_len 0 x)) < length (filter p (range_with_len 0 y))
-passing_rises p x y h e = omega (arith, ap length (passing_cut p x y h e), length-append (filter p (range_with_len 0 x)) (x ∷ filter p (range_with_len (x + 1) (y - (x + 1)))))
-
-pub passing_ascends : (p : ℕ → Bool) (n i j : ℕ) → i ≤ j → j < length (filter p (range_with_len 0 n)) → slice_index (filter p (range_with_len 0 n)) i ≤ slice_index (filter p (range_with_len 0 n)) j
-passing_ascends p n i j h l = go (cases_lt (slice_index (filter p (range_with_len 0 n)) j) (slice_index (filter p (range_with_len 0 n)) i))
-  where
-    go : (slice_index (filter p (range_with_len 0 n)) j < slice_index (filter p (range_with_len 0 n)) i) ⊎ (slice_index (filter p (range_with_len 0 n)) i ≤ slice_index (filter p (range_with_len 0 n)) j) → slice_index (filter p (range_with_len 0 n)) i ≤ slice_index (filter p (range_with_len 0 n)) j
-    go (inr k) = k
-    go (inl k) =
-        let a = passing_place p n i (slice_index (filter p (range_with_len 0 n)) i) (slice_get-get_or (filter p (range_with_len 0 n)) i 0 (omega arith)) in
-        let b = passing_place p n j (slice_index (filter p (range_with_len 0 n)) j) (slice_get-get_or (filter p (range_with_len 0 n)) j 0 l) in
-        absurd (omega (arith, h, a.rank, b.rank, passing_rises p (slice_index (filter p (range_with_len 0 n)) j) (slice_index (filter p (range_with_len 0 n)) i) k b.passes))
-
 module _ (n : Net) (parts : PlainParts) (voted : ℕ → ℕ → Bool) where
-  pub part_listed : (x p : ℕ) → p < parts.count → needs_voter n parts voted x p ≡ true → Contains (voting_parts n parts voted x) p
-  part_listed x p h e =
-      let at = passing_at (needs_voter n parts voted x) p parts.count h e in
-      (voter_rank n parts voted x p, slice_get_within (voting_parts n parts voted x) (voter_rank n parts voted x p) p at, get_or_from_slice_get (voting_parts n parts voted x) (voter_rank n parts voted x p) p p at)
-
-  pub rank_is : (x p i : ℕ) → i < length (voting_parts n parts voted x) → slice_index (voting_parts n parts voted x) i ≡ p → i ≡ voter_rank n parts voted x p
-  rank_is x p i h e = (passing_place (needs_voter n parts voted x) parts.count i p (slice_get-get_or (voting_parts n parts voted x) i 0 h ∙ ap Some e)).rank
-
   -- ---- where blocks begin
 
   pub start_none : block_start n parts voted 0 ≡ 3 * length n.inputs

@@ -75,29 +75,51 @@ next_first n parts voted done some rs i = record { rest = rs ++ i.rest; split = 
 pub next_behind : (n : Net) (parts : PlainParts) (voted : ℕ → ℕ → Bool) (done new some rs : List Role) → IsNext n parts voted done (some ++ rs) → new ≡ done ++ some → IsNext n parts voted new rs
 next_behind n parts voted done new some rs i e = record { rest = i.rest; split = i.split ∙ (ap (λ (xs : List Role). done ++ xs) (append_assoc some rs i.rest) ∙ (sym (append_assoc done some (rs ++ i.rest)) ∙ ap (λ (xs : List Role). xs ++ (rs ++ i.rest)) (sym e))) }
 
+-- behind what is done, nothing at once
+pub next_nothing : (n : Net) (parts : PlainParts) (voted : ℕ → ℕ → Bool) (done new some : List Role) → IsNext n parts voted done some → new ≡ done ++ some → IsNext n parts voted new []
+next_nothing n parts voted done new some i e = record { rest = i.rest; split = i.split ∙ (sym (append_assoc done some i.rest) ∙ ap (λ (xs : List Role). xs ++ i.rest) (sym e)) }
+
+-- or all is done
+pub next_end : (n : Net) (parts : PlainParts) (voted : ℕ → ℕ → Bool) (done : List Role) → done ≡ hardened_roles n parts voted → IsNext n parts voted done []
+next_end n parts voted done e = record { rest = []; split = sym e ∙ sym (append-nil done) }
+
 -- ---- names that are new
 
-pub fresh_role : (n : Net) (parts : PlainParts) (voted : ℕ → ℕ → Bool) (done : List Role) (r : Role) → HasRoom n parts voted → IsNext n parts voted done (r ∷ []) → is_among (hardened_inputs n ++ map (role_name n) done) (role_name n r) ≡ false
-fresh_role n parts voted done r room next = not_among (hardened_inputs n ++ map (role_name n) done) (role_name n r) (λ k h e. room.names k (length (hardened_inputs n ++ map (role_name n) done)) h within (ap (λ (xs : List (List ℕ)). get_or xs k []) whole ∙ (get_or_append_left (hardened_inputs n ++ map (role_name n) done) (role_name n r ∷ map (role_name n) next.rest) [] k h ∙ (e ∙ sym here))))
+pub distinct_front : (xs ys : List (List ℕ)) → AreDistinct (xs ++ ys) → AreDistinct xs
+distinct_front xs ys d j k h l e = d j k h (omega (arith, length-append xs ys)) (get_or_append_left xs ys [] j (omega arith) ∙ (e ∙ sym (get_or_append_left xs ys [] k l)))
+
+-- a name of the hardened design is none of those before it
+pub none_before : (xs ys : List (List ℕ)) (x : List ℕ) → AreDistinct (xs ++ x ∷ ys) → is_among xs x ≡ false
+none_before xs ys x distinct = not_among xs x (λ k h e. distinct k (length xs) h within (get_or_append_left xs (x ∷ ys) [] k h ∙ (e ∙ sym here)))
   where
-    whole : hardened_inputs n ++ map (role_name n) (hardened_roles n parts voted) ≡ (hardened_inputs n ++ map (role_name n) done) ++ role_name n r ∷ map (role_name n) next.rest
-    whole = ap (λ (rs : List Role). hardened_inputs n ++ map (role_name n) rs) next.split ∙ (ap (λ (xs : List (List ℕ)). hardened_inputs n ++ xs) (map-append (role_name n) done (r ∷ next.rest)) ∙ sym (append_assoc (hardened_inputs n) (map (role_name n) done) (role_name n r ∷ map (role_name n) next.rest)))
+    within : length xs < length (xs ++ x ∷ ys)
+    within = omega (arith, length-append xs (x ∷ ys))
 
-    within : length (hardened_inputs n ++ map (role_name n) done) < length (hardened_inputs n ++ map (role_name n) (hardened_roles n parts voted))
-    within = omega (arith, ap length whole, length-append (hardened_inputs n ++ map (role_name n) done) (role_name n r ∷ map (role_name n) next.rest))
-
-    here : get_or (hardened_inputs n ++ map (role_name n) (hardened_roles n parts voted)) (length (hardened_inputs n ++ map (role_name n) done)) [] ≡ role_name n r
+    here : get_or (xs ++ x ∷ ys) (length xs) [] ≡ x
     here =
-        let z : length (hardened_inputs n ++ map (role_name n) done) ≡ length (hardened_inputs n ++ map (role_name n) done) + 0 = omega arith in
-        ap (λ (xs : List (List ℕ)). get_or xs (length (hardened_inputs n ++ map (role_name n) done)) []) whole ∙ (ap (λ k. get_or ((hardened_inputs n ++ map (role_name n) done) ++ role_name n r ∷ map (role_name n) next.rest) k []) z ∙ get_or-append-add (hardened_inputs n ++ map (role_name n) done) (role_name n r ∷ map (role_name n) next.rest) 0 [])
+        let z : length xs ≡ length xs + 0 = omega arith in
+        ap (λ k. get_or (xs ++ x ∷ ys) k []) z ∙ get_or-append-add xs (x ∷ ys) 0 []
+
+-- it goes behind them, before those that are left
+pub put_next : (whole keys left rest new : List (List ℕ)) (x : List ℕ) → AreDistinct whole → keys ++ left ≡ whole → left ≡ x ∷ rest → new ≡ insert_key bytes_eq keys x → new ++ rest ≡ whole
+put_next whole keys left rest new x distinct all begins put =
+    let here : keys ++ x ∷ rest ≡ whole = sym (ap (λ (ys : List (List ℕ)). keys ++ ys) begins) ∙ all in
+    ap (λ (ys : List (List ℕ)). ys ++ rest) (put ∙ insert_new keys x (none_before keys rest x (subst AreDistinct (sym here) distinct))) ∙ (append_assoc keys (x ∷ []) rest ∙ here)
+
+-- the names of the first roles differ
+pub names_apart : (n : Net) (parts : PlainParts) (voted : ℕ → ℕ → Bool) (made : Made) → HasRoom n parts voted → IsMade n parts voted made → IsNext n parts voted made.roles.items [] → AreDistinct (made.names.keys ++ made.waiting.items)
+names_apart n parts voted made room is next = rw is.named (distinct_front (hardened_inputs n ++ map (role_name n) made.roles.items) (map (role_name n) next.rest) (subst AreDistinct whole room.names))
+  where
+    whole : hardened_inputs n ++ map (role_name n) (hardened_roles n parts voted) ≡ (hardened_inputs n ++ map (role_name n) made.roles.items) ++ map (role_name n) next.rest
+    whole = ap (λ (rs : List Role). hardened_inputs n ++ map (role_name n) rs) next.split ∙ (ap (λ (xs : List (List ℕ)). hardened_inputs n ++ xs) (map-append (role_name n) made.roles.items next.rest) ∙ sym (append_assoc (hardened_inputs n) (map (role_name n) made.roles.items) (map (role_name n) next.rest)))
 
 -- one role more
-pub made_more : (n : Net) (parts : PlainParts) (voted : ℕ → ℕ → Bool) (old new : Made) (r : Role) (node : Node) → HasRoom n parts voted → IsMade n parts voted old → IsNext n parts voted old.roles.items (r ∷ []) → new.names.keys ≡ insert_key bytes_eq old.names.keys (role_name n r) → new.roles.items ≡ old.roles.items ++ r ∷ [] → node ≡ role_node n parts voted r → node_name node ≡ role_name n r →
+pub made_more : (n : Net) (parts : PlainParts) (voted : ℕ → ℕ → Bool) (old new : Made) (r : Role) (node : Node) → IsMade n parts voted old → new.names.keys ≡ old.names.keys → new.waiting.items ≡ old.waiting.items ++ role_name n r ∷ [] → new.roles.items ≡ old.roles.items ++ r ∷ [] → node ≡ role_node n parts voted r → node_name node ≡ role_name n r →
     ((names : List (List ℕ)) (done : List Node) → Packs names old.nodes done → Packs (names ++ node_name node ∷ []) new.nodes (done ++ node ∷ [])) → IsMade n parts voted new
-made_more n parts voted old new r node room made next names roles same name packs = record {
+made_more n parts voted old new r node made names waiting roles same name packs = record {
   named =
-      let fresh : is_among old.names.keys (role_name n r) ≡ false = ap (λ (xs : List (List ℕ)). is_among xs (role_name n r)) made.named ∙ fresh_role n parts voted old.roles.items r room next in
-      names ∙ (insert_new old.names.keys (role_name n r) fresh ∙ (ap (λ (xs : List (List ℕ)). xs ++ role_name n r ∷ []) made.named ∙ (append_assoc (hardened_inputs n) (map (role_name n) old.roles.items) (role_name n r ∷ []) ∙ ap (λ (xs : List (List ℕ)). hardened_inputs n ++ xs) (sym (ap (map (role_name n)) roles ∙ map-append (role_name n) old.roles.items (r ∷ []))))));
+      let front : new.names.keys ++ new.waiting.items ≡ (old.names.keys ++ old.waiting.items) ++ role_name n r ∷ [] = ap (λ (xs : List (List ℕ)). xs ++ new.waiting.items) names ∙ (ap (λ (xs : List (List ℕ)). old.names.keys ++ xs) waiting ∙ sym (append_assoc old.names.keys old.waiting.items (role_name n r ∷ []))) in
+      front ∙ (ap (λ (xs : List (List ℕ)). xs ++ role_name n r ∷ []) made.named ∙ (append_assoc (hardened_inputs n) (map (role_name n) old.roles.items) (role_name n r ∷ []) ∙ ap (λ (xs : List (List ℕ)). hardened_inputs n ++ xs) (sym (ap (map (role_name n)) roles ∙ map-append (role_name n) old.roles.items (r ∷ [])))));
   packed =
       let nodes : map (role_node n parts voted) new.roles.items ≡ map (role_node n parts voted) old.roles.items ++ node ∷ [] = ap (map (role_node n parts voted)) roles ∙ (map-append (role_node n parts voted) old.roles.items (r ∷ []) ∙ ap (λ (m : Node). map (role_node n parts voted) old.roles.items ++ m ∷ []) (sym same)) in
       let names' : map (role_name n) new.roles.items ≡ map (role_name n) old.roles.items ++ node_name node ∷ [] = ap (map (role_name n)) roles ∙ (map-append (role_name n) old.roles.items (r ∷ []) ∙ ap (λ (m : List ℕ). map (role_name n) old.roles.items ++ m ∷ []) (sym name)) in
@@ -190,9 +212,6 @@ voter_is n parts voted x p c k v nets e f g =
     rw (e, g, b, d, f) refl
 
 -- ---- whole blocks
-
-pub distinct_front : (xs ys : List (List ℕ)) → AreDistinct (xs ++ ys) → AreDistinct xs
-distinct_front xs ys d j k h l e = d j k h (omega (arith, length-append xs ys)) (get_or_append_left xs ys [] j (omega arith) ∙ (e ∙ sym (get_or_append_left xs ys [] k l)))
 
 pub next_block : (n : Net) (parts : PlainParts) (voted : ℕ → ℕ → Bool) (done : List Role) (x : ℕ) → done ≡ flat_map (block n parts voted) (range_with_len 0 x) → x < net_count n → IsNext n parts voted done (block n parts voted x)
 unfolding hardened_roles

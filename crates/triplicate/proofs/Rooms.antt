@@ -1,5 +1,5 @@
 -- The hardened design has room, and its names are those of its roles.
-use Rattle.std.proofs.Common.{◌≡◌, ℕ, ◌<◌, List, [], ◌++◌, map, get_or, sym, ap, ◌∙◌, subst, arith, Bool}
+use Rattle.std.proofs.Common.{◌≡◌, ℕ, ◌<◌, List, [], ◌++◌, map, get_or, sym, ap, ◌∙◌, subst, arith, Bool, append-nil}
 use Rattle.std.proofs.lemmas.List.{length-append, length-map}
 use Rattle.tmr_base.specs.Parts.{PlainParts}
 use Rattle.flat_net.specs.Net.{Net, net_names, node_name, net_count, name_of}
@@ -36,8 +36,8 @@ module _ (n : Net) (parts : PlainParts) (voted : ℕ → ℕ → Bool) (t : Labe
       differs : (j k : ℕ) → j < k → k < net_count (hardened_net n parts voted) → name_of (hardened_net n parts voted) j ≡ name_of (hardened_net n parts voted) k → ⊥
       differs j k less h e = omega (arith, less, names_differ n parts voted t is j k (omega arith) h e)
 
-  pub made_names : (made : Made) → IsMade n parts voted made → made.roles.items ≡ hardened_roles n parts voted → made.names.keys ≡ net_names (hardened_net n parts voted)
-  made_names made m e = m.named ∙ (ap (λ rs. hardened_inputs n ++ map (role_name n) rs) e ∙ sym all_names)
+  pub made_names : (made : Made) → IsMade n parts voted made → made.waiting.items ≡ [] → made.roles.items ≡ hardened_roles n parts voted → made.names.keys ≡ net_names (hardened_net n parts voted)
+  made_names made m none e = sym (append-nil made.names.keys) ∙ (sym (ap (λ (xs : List (List ℕ)). made.names.keys ++ xs) none) ∙ (m.named ∙ (ap (λ rs. hardened_inputs n ++ map (role_name n) rs) e ∙ sym all_names)))
 
   pub made_nodes : (made : Made) → IsMade n parts voted made → made.roles.items ≡ hardened_roles n parts voted → Packs (map node_name (hardened_net n parts voted).nodes) made.nodes (hardened_net n parts voted).nodes
   unfolding hardened_net

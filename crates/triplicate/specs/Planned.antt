@@ -17,6 +17,7 @@ use Rattle.triplicate.specs.Private.Given.{IsGiven}
 use Rattle.triplicate.specs.Private.Labels.{labeling}
 use Rattle.triplicate.specs.Private.Pins.{PlainVotes, pin_is_voted, AreVotesOf}
 use Rattle.triplicate.specs.Private.Starts.{AreVoterRows}
+use Rattle.triplicate.specs.Private.Taps.{AreTaps}
 
 -- the pins that are voted
 abbrev pub votes_in : Plan → PlainVotes
@@ -48,7 +49,7 @@ pair_in n p = record {
 }
 
 -- refined partitions of this size, a cut of the loops inside them, and the extra pins that the bound `most` wants; for each
--- net the partitions that need a voter of it; and what is told of the partitions
+-- net the partitions that need a voter of it, and for each pin which voter it reads; and what is told of the partitions
 pub record IsPlan (n : Net) (size : ℕ) (inputs : Bool) (most : ℕ) (p : Plan) : Type 0 where
   pub inputs_are : p.inputs ≡ inputs
   pub given : IsGiven n p.parts (voted_in n p) (labeling p.inputs p.extra.table)
@@ -59,6 +60,7 @@ pub record IsPlan (n : Net) (size : ℕ) (inputs : Bool) (most : ℕ) (p : Plan)
   pub none : length n.nodes < most → (y j : ℕ) → is_extra p.extra.marks y j ≡ false
   pub exact : p.parts ≡ refined n size (plain_parts n size) 8
   pub voters : AreVoterRows n p.parts (voted_in n p) p.voters
+  pub taps : AreTaps n p.parts (voted_in n p) p.taps
   pub pairs : p.cost ≡ cost n p.parts
   pub plain_pairs : p.plain ≡ cost n (plain_parts n size)
   pub minimal : IsTrue p.minimal ↔ IsMinimal n size p.parts

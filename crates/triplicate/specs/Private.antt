@@ -5,5 +5,6 @@ pub mod Labels
 pub mod Given
 pub mod Noted
 pub mod Starts
+pub mod Taps
 pub mod Made
 pub mod Built

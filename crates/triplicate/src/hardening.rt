@@ -4,6 +4,7 @@ ghost use Rattle.flat_net.specs.Net.{net_count, pin_total};
 ghost use Rattle.triplicate.specs.Planned.{votes_in, voted_in};
 ghost use Rattle.triplicate.specs.Private.Pins.{AreVotesOf};
 ghost use Rattle.triplicate.specs.Private.Starts.{AreVoterRows};
+ghost use Rattle.triplicate.specs.Private.Taps.{AreTaps};
 ghost use Rattle.triplicate.specs.Private.Construction.{hardened_net, hardened_cert};
 ghost use Rattle.triplicate.specs.Private.Given.{IsGiven};
 ghost use Rattle.triplicate.specs.Private.Labels.{labeling};
@@ -30,6 +31,7 @@ fn triplicate(
 ) -> Result<(FlatNet, Certificate), OutOfMemory>
     requires votes { AreVotesOf n.now.net plan.now.parts (votes_in plan.now) }
     requires voters { AreVoterRows n.now.net plan.now.parts (voted_in n.now.net plan.now) plan.now.voters }
+    requires taps { AreTaps n.now.net plan.now.parts (voted_in n.now.net plan.now) plan.now.taps }
     requires given { IsGiven n.now.net plan.now.parts (voted_in n.now.net plan.now) (labeling plan.now.inputs plan.now.extra.table) }
     ensures net { IfOk result (λ r. r.0.net ≡ hardened_net n.now.net plan.now.parts (voted_in n.now.net plan.now)) }
     ensures cert { IfOk result (λ r. r.1 ≡ hardened_cert n.now.net plan.now.parts (voted_in n.now.net plan.now) (labeling plan.now.inputs plan.now.extra.table)) }
@@ -42,7 +44,7 @@ fn triplicate(
         extra: &plan.extra,
     };
     let starts = block_starts(alloc, n, parts, &votes, &plan.voters)?;
-    let made = make_tripled(alloc, n, parts, &votes, &plan.voters, &starts)?;
+    let made = make_tripled(alloc, n, parts, &votes, &plan.voters, &plan.taps, &starts)?;
     let net = assembled(alloc, n, parts, &votes, &starts, made.names, made.nodes)?;
     let cert = certified(alloc, n, parts, &votes, &plan.extra, &starts, made.roles)?;
     Ok((net, cert))

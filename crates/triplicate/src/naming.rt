@@ -1,5 +1,5 @@
-//! The names of the hardened design's inputs and clock.
-ghost use Rattle.std.specs.Prelude.{◌≡◌, ◌+◌, ◌*◌, ◌<◌, length, take, IfOk, OnOk};
+//! The names of the hardened design's inputs and clock, and how names come into the set.
+ghost use Rattle.std.specs.Prelude.{◌≡◌, ◌+◌, ◌*◌, ◌<◌, ◌≤◌, ◌++◌, [], length, take, IfOk, OnOk};
 ghost use Rattle.tmr_base.specs.Copies.{copy_number};
 ghost use Rattle.flat_net.specs.Draft.{AreDistinct};
 ghost use Rattle.triplicate.specs.Blocks.{hardened_inputs, hardened_clock};
@@ -7,6 +7,7 @@ ghost use Rattle.triplicate.specs.Blocks.{hardened_inputs, hardened_clock};
 use flat_net::{FlatNet, nodes_of};
 use indexmap::IndexSet;
 use std::alloc::Global;
+use std::mem::replace;
 use tmr_base::{CopyNo, Edge, Name, NetId, OutOfMemory, clock_name, copy_name};
 
 /// Adds the name of copy c of input i.
@@ -41,6 +42,53 @@ pub fn input_names(alloc: Global, n: &FlatNet, room: usize) -> Result<IndexSet<N
         push_input_name(alloc, n, i, CopyNo::Third, &mut names)?;
     }
     Ok(names)
+}
+
+/// How many of every third of these names the set has.
+///
+/// The names of three copies stand side by side in the table, and so do those of three voters. One of each three is looked
+/// up, with nothing else between, so that many places of the table are fetched from memory at once. Fetched one behind the other
+/// they would take a quarter of the time of hardening.
+fn known_among(names: &IndexSet<Name>, waiting: &[Name]) -> usize
+    ensures { result ≤ length waiting.now }
+{
+    let mut known: usize = 0;
+    for k in 0..waiting.len() / 3 {
+        if names.contains(&waiting[3 * k]) {
+            known += 1;
+        }
+    }
+    known
+}
+
+/// Puts these names into the set.
+fn insert_all(names: &mut IndexSet<Name>, waiting: Vec<Name>) -> Result<(), OutOfMemory>
+    requires { AreDistinct (names.old.keys ++ waiting.items) }
+    ensures { OnOk result (names.new.keys ≡ names.old.keys ++ waiting.items) }
+{
+    for name in waiting {
+        names.insert(name)?;
+    }
+    Ok(())
+}
+
+/// Puts the names that wait into the set, behind those that are there: those that the set has not are counted first, and room is
+/// made for so many.
+pub fn put_names(
+    alloc: Global,
+    names: &mut IndexSet<Name>,
+    waiting: &mut Vec<Name>,
+) -> Result<(), OutOfMemory>
+    requires { AreDistinct (names.old.keys ++ waiting.old.items) }
+    ensures names { OnOk result (names.new.keys ≡ names.old.keys ++ waiting.old.items) }
+    ensures waiting { OnOk result (waiting.new.items ≡ []) }
+{
+    let known = known_among(names, waiting.as_slice());
+    names.reserve(waiting.len() - known)?;
+    let room = Vec::with_capacity(alloc, waiting.len())?;
+    let full = replace(waiting, room);
+    insert_all(names, full)?;
+    Ok(())
 }
 
 /// The hardened clock.

@@ -10,6 +10,7 @@ ghost use Rattle.triplicate.specs.Private.Starts.{AreVoterRows};
 
 use crate::blocks::hardened_nets;
 use crate::certifying::depths_of;
+use crate::taps::Taps;
 use crate::voters::voting_parts;
 use crate::voting::{VotedPins, is_voted};
 use feedback_cut::{CutPins, cut_in_order};
@@ -33,6 +34,8 @@ pub struct Plan {
     pub extra: Extra,
     /// For each net the partitions that need a voter of it, in ascending order.
     pub voters: Graph,
+    /// Which of its net's voters each pin reads.
+    pub taps: Taps,
     /// In how many pairs of a node and another partition the node is read there.
     pub cost: u64,
     /// That number for the plain cut.
@@ -114,7 +117,8 @@ pub fn make_plan(
         inputs,
         cut: found.cut,
         extra,
-        voters,
+        voters: voters.rows,
+        taps: voters.taps,
         cost: refined.cost,
         plain: refined.before,
         minimal: refined.minimal,

@@ -15,13 +15,15 @@ ghost use Rattle.triplicate.specs.Form.{majority_cover};
 ghost use Rattle.table_cover.specs.Pushing.{with_row};
 ghost use Rattle.triplicate.specs.Blocks.{copies_of, voters_for, block, hardened_roles};
 ghost use Rattle.triplicate.specs.Private.Starts.{AreVoterRows, AreStarts};
+ghost use Rattle.triplicate.specs.Private.Taps.{AreTaps};
 ghost use Rattle.triplicate.specs.Private.Numbers.{copy_net};
 ghost use Rattle.triplicate.specs.Private.Construction.{first_pins_to};
 ghost use Rattle.triplicate.specs.Private.Made.{IsMade, HasRoom, IsNext, shifted_node, PushesNode};
 
 use crate::blocks::room_of;
-use crate::naming::input_names;
+use crate::naming::{input_names, put_names};
 use crate::pins::{first_copy, first_pins};
+use crate::taps::Taps;
 use crate::voting::VotedPins;
 use certificate::Role;
 use flat_net::{FlatNet, Kind, PackedNodes, nodes_of, push_register, push_table};
@@ -33,10 +35,15 @@ use tmr_base::{
     CopyNo, Name, NetId, OutOfMemory, PartId, Parts, copy_name, voter_on_stem, voter_stem,
 };
 
-/// The names, nodes and roles of a part of the hardened design, and room for what one copy reads.
+/// So many names wait at least before they are put into the set.
+const MANY: usize = 512;
+
+/// The names, nodes and roles of a part of the hardened design, and room for what one copy reads. The last names wait
+/// outside the set.
 #[derive(Drop)]
 pub struct Made {
     pub names: IndexSet<Name>,
+    pub waiting: Vec<Name>,
     pub nodes: PackedNodes,
     pub roles: Vec<Role>,
     pub room: Vec<NetId>,
@@ -147,7 +154,7 @@ fn push_copy(
     ensures roles { OnOk result (made.new.roles.items ≡ made.old.roles.items ++ Copy x c ∷ []) }
 {
     let name = copy_name(alloc, n.name(x), c)?;
-    made.names.insert(name)?;
+    made.waiting.push(name)?;
     push_node_copy(alloc, n, x, c, pins, &mut made.room, &mut made.nodes)?;
     made.roles.push(Role::Copy { node: x, copy: c })?;
     Ok(())
@@ -206,7 +213,7 @@ fn push_voter(
     ensures roles { OnOk result (made.new.roles.items ≡ made.old.roles.items ++ Voter x p c ∷ []) }
 {
     let name = voter_on_stem(alloc, stem, c)?;
-    made.names.insert(name)?;
+    made.waiting.push(name)?;
     let majority = cover.copy(alloc)?;
     let pins = [NetId(copy), NetId(copy + 1), NetId(copy + 2)];
     push_table(&mut made.nodes, majority, &pins)?;
@@ -317,7 +324,7 @@ fn push_own_copies(
     n: &FlatNet,
     parts: &Parts,
     votes: &VotedPins,
-    voters: &Graph,
+    taps: &Taps,
     starts: &[u32],
     x: u32,
     pins: &mut Vec<u32>,
@@ -325,7 +332,7 @@ fn push_own_copies(
 ) -> Result<(), OutOfMemory>
     requires votes { AreVotesOf n.now.net parts.now votes.now }
     requires starts { AreStarts n.now.net parts.now (pin_is_voted n.now.net parts.now votes.now) starts.now }
-    requires voters { AreVoterRows n.now.net parts.now (pin_is_voted n.now.net parts.now votes.now) voters.now }
+    requires taps { AreTaps n.now.net parts.now (pin_is_voted n.now.net parts.now votes.now) taps.now }
     requires range { x < net_count n.now.net }
     requires room { HasRoom n.now.net parts.now (pin_is_voted n.now.net parts.now votes.now) }
     requires made { IsMade n.now.net parts.now (pin_is_voted n.now.net parts.now votes.now) made.old }
@@ -339,7 +346,7 @@ fn push_own_copies(
         return Ok(());
     }
     let _part = parts.of(x - inputs);
-    first_pins(n, parts, votes, starts, voters, x - inputs, pins)?;
+    first_pins(n, parts, votes, starts, taps, x - inputs, pins)?;
     push_copies(alloc, n, parts, votes, NetId(x), pins, made)?;
     Ok(())
 }
@@ -351,6 +358,7 @@ fn push_block(
     parts: &Parts,
     votes: &VotedPins,
     voters: &Graph,
+    taps: &Taps,
     starts: &[u32],
     x: u32,
     cover: &Cover,
@@ -360,6 +368,7 @@ fn push_block(
     requires votes { AreVotesOf n.now.net parts.now votes.now }
     requires starts { AreStarts n.now.net parts.now (pin_is_voted n.now.net parts.now votes.now) starts.now }
     requires voters { AreVoterRows n.now.net parts.now (pin_is_voted n.now.net parts.now votes.now) voters.now }
+    requires taps { AreTaps n.now.net parts.now (pin_is_voted n.now.net parts.now votes.now) taps.now }
     requires range { x < net_count n.now.net }
     requires cover { cover.now ≡ majority_cover }
     requires room { HasRoom n.now.net parts.now (pin_is_voted n.now.net parts.now votes.now) }
@@ -368,7 +377,7 @@ fn push_block(
     ensures made { OnOk result (IsMade n.now.net parts.now (pin_is_voted n.now.net parts.now votes.now) made.new) }
     ensures roles { OnOk result (made.new.roles.items ≡ made.old.roles.items ++ block n.now.net parts.now (pin_is_voted n.now.net parts.now votes.now) x) }
 {
-    push_own_copies(alloc, n, parts, votes, voters, starts, x, pins, made)?;
+    push_own_copies(alloc, n, parts, votes, taps, starts, x, pins, made)?;
     let copy = first_copy(n, parts, votes, starts, x);
     let row = voters.row(x);
     push_voters(alloc, n, parts, votes, NetId(x), row, copy, cover, made)?;
@@ -418,6 +427,46 @@ fn pin_room(n: &FlatNet, nets: u32) -> usize {
     3 * n.pin_total() as usize + 3 * (nets as usize).saturating_sub(copies)
 }
 
+/// Puts the names that wait into the set.
+fn put_waiting(
+    alloc: Global,
+    n: &FlatNet,
+    parts: &Parts,
+    votes: &VotedPins,
+    made: &mut Made,
+) -> Result<(), OutOfMemory>
+    requires room { HasRoom n.now.net parts.now (pin_is_voted n.now.net parts.now votes.now) }
+    requires made { IsMade n.now.net parts.now (pin_is_voted n.now.net parts.now votes.now) made.old }
+    requires next { IsNext n.now.net parts.now (pin_is_voted n.now.net parts.now votes.now) made.old.roles.items [] }
+    ensures made { OnOk result (IsMade n.now.net parts.now (pin_is_voted n.now.net parts.now votes.now) made.new) }
+    ensures roles { OnOk result (made.new.roles.items ≡ made.old.roles.items) }
+    ensures waiting { OnOk result (made.new.waiting.items ≡ []) }
+{
+    put_names(alloc, &mut made.names, &mut made.waiting)?;
+    Ok(())
+}
+
+/// Puts the names that wait into the set, if there are many.
+fn put_if_many(
+    alloc: Global,
+    n: &FlatNet,
+    parts: &Parts,
+    votes: &VotedPins,
+    made: &mut Made,
+) -> Result<(), OutOfMemory>
+    requires room { HasRoom n.now.net parts.now (pin_is_voted n.now.net parts.now votes.now) }
+    requires made { IsMade n.now.net parts.now (pin_is_voted n.now.net parts.now votes.now) made.old }
+    requires next { IsNext n.now.net parts.now (pin_is_voted n.now.net parts.now votes.now) made.old.roles.items [] }
+    ensures made { OnOk result (IsMade n.now.net parts.now (pin_is_voted n.now.net parts.now votes.now) made.new) }
+    ensures roles { OnOk result (made.new.roles.items ≡ made.old.roles.items) }
+{
+    if made.waiting.len() < MANY {
+        return Ok(());
+    }
+    put_waiting(alloc, n, parts, votes, made)?;
+    Ok(())
+}
+
 /// The names, nodes and roles of the hardened design.
 pub fn make_tripled(
     alloc: Global,
@@ -425,13 +474,16 @@ pub fn make_tripled(
     parts: &Parts,
     votes: &VotedPins,
     voters: &Graph,
+    taps: &Taps,
     starts: &[u32],
 ) -> Result<Made, OutOfMemory>
     requires votes { AreVotesOf n.now.net parts.now votes.now }
     requires starts { AreStarts n.now.net parts.now (pin_is_voted n.now.net parts.now votes.now) starts.now }
     requires voters { AreVoterRows n.now.net parts.now (pin_is_voted n.now.net parts.now votes.now) voters.now }
+    requires taps { AreTaps n.now.net parts.now (pin_is_voted n.now.net parts.now votes.now) taps.now }
     requires room { HasRoom n.now.net parts.now (pin_is_voted n.now.net parts.now votes.now) }
     ensures made { IfOk result (λ made. IsMade n.now.net parts.now (pin_is_voted n.now.net parts.now votes.now) made) }
+    ensures waiting { IfOk result (λ made. made.waiting.items ≡ []) }
     ensures roles { IfOk result (λ made. made.roles.items ≡ hardened_roles n.now.net parts.now (pin_is_voted n.now.net parts.now votes.now)) }
 {
     let room = room_of(starts);
@@ -440,6 +492,7 @@ pub fn make_tripled(
     let roles = Vec::with_capacity(alloc, room as usize)?;
     let mut made = Made {
         names,
+        waiting: Vec::new(alloc),
         nodes,
         roles,
         room: Vec::new(alloc),
@@ -449,8 +502,10 @@ pub fn make_tripled(
     let nets = n.input_count() + nodes_of(n);
     for x in 0..nets {
         push_block(
-            alloc, n, parts, votes, voters, starts, x, &cover, &mut pins, &mut made,
+            alloc, n, parts, votes, voters, taps, starts, x, &cover, &mut pins, &mut made,
         )?;
+        put_if_many(alloc, n, parts, votes, &mut made)?;
     }
+    put_waiting(alloc, n, parts, votes, &mut made)?;
     Ok(made)
 }

@@ -1,11 +1,15 @@
-//! For each net the partitions that need a voter of it.
-ghost use Rattle.std.specs.Prelude.{◌≡◌, ◌+◌, ◌<◌, ℕ, [], length, All, IfOk, OnOk, slice_index_or};
+//! For each net the partitions that need a voter of it, and which of these voters each pin reads.
+ghost use Rattle.std.specs.Prelude.{◌≡◌, ◌+◌, ◌<◌, ◌++◌, ◌∷◌, ℕ, [], length, map, All, IfOk, OnOk, slice_index, slice_index_or};
+ghost use Rattle.std.specs.List.{range_with_len};
+ghost use Rattle.tmr_base.specs.Parts.{AreParts};
 ghost use Rattle.flat_net.specs.Net.{net_count};
 ghost use Rattle.feedback_cut.specs.Inner.{node_pins};
 ghost use Rattle.node_reads.specs.Noting.{Lists};
 ghost use Rattle.triplicate.specs.Private.Pins.{pin_is_voted, AreVotesOf};
-ghost use Rattle.triplicate.specs.Private.Noted.{is_in, needs, pin_noted, pins_noted, nodes_noted, parts_noted};
+ghost use Rattle.triplicate.specs.Private.Noted.{is_in, needs, pin_noted, pins_noted, nodes_noted, parts_noted, IsNoting};
+ghost use Rattle.triplicate.specs.Private.Taps.{tap_of, IsTapped, AreTaps};
 
+use crate::taps::{Taps, no_taps};
 use crate::voting::{VotedPins, is_voted};
 use flat_net::{FlatNet, nodes_of};
 use graph::{Graph, Readers};
@@ -27,50 +31,72 @@ fn members(alloc: Global, n: &FlatNet, parts: &Parts) -> Result<Readers, OutOfMe
     Ok(rows)
 }
 
-/// Notes the partition of node y for what it reads at pin j, where that is voted.
+/// For each net the partitions that need a voter of it, and which of these voters each pin reads.
+#[derive(Drop)]
+struct Noted {
+    rows: Readers,
+    taps: Taps,
+}
+
+/// The same, where the rows stand one behind the other.
+#[derive(Drop)]
+pub struct Voters {
+    pub rows: Graph,
+    pub taps: Taps,
+}
+
+/// Notes the partition of node y for what it reads at pin j, where that is voted, and at which place of the net's row it stands.
 fn note_pin(
     n: &FlatNet,
     parts: &Parts,
     votes: &VotedPins,
     rows: &mut Readers,
+    places: &mut Vec<u32>,
     y: u32,
     j: u32,
 ) -> Result<(), OutOfMemory>
     requires votes { AreVotesOf n.now.net parts.now votes.now }
     requires node { y < length n.now.net.nodes }
     requires pin { j < length (node_pins n.now.net y) }
-    requires rows { length rows.old ≡ net_count n.now.net }
-    ensures { OnOk result (rows.new ≡ pin_noted n.now.net parts.now (pin_is_voted n.now.net parts.now votes.now) y j rows.old) }
+    requires noting { IsNoting n.now.net parts.now (pin_is_voted n.now.net parts.now votes.now) (slice_index parts.now.of y) rows.old }
+    ensures rows { OnOk result (rows.new ≡ pin_noted n.now.net parts.now (pin_is_voted n.now.net parts.now votes.now) y j rows.old) }
+    ensures places { OnOk result (places.new.items ≡ places.old.items ++ tap_of n.now.net parts.now (pin_is_voted n.now.net parts.now votes.now) y j ∷ []) }
+    ensures noting { OnOk result (IsNoting n.now.net parts.now (pin_is_voted n.now.net parts.now votes.now) (slice_index parts.now.of y) rows.new) }
 {
     let _nodes = nodes_of(n);
+    let _count = parts.count();
     if !is_voted(n, parts, votes, y, j) {
+        places.push(0)?;
         return Ok(());
     }
     let inputs = n.input_count();
     let pin = n.pin(NetId(inputs + y), j);
     let part = parts.of(y);
     note(rows, pin.0, part)?;
+    places.push(rows.row(pin.0).len() as u32)?;
     Ok(())
 }
 
 /// Notes the partition of node y for what it reads at voted pins.
-#[tactic(auto, using(crate::proofs::VoterRows::pins_step, crate::proofs::VoterRows::pins_none))]
 fn note_pins(
     n: &FlatNet,
     parts: &Parts,
     votes: &VotedPins,
     rows: &mut Readers,
+    places: &mut Vec<u32>,
     y: u32,
 ) -> Result<(), OutOfMemory>
     requires votes { AreVotesOf n.now.net parts.now votes.now }
     requires node { y < length n.now.net.nodes }
-    requires rows { length rows.old ≡ net_count n.now.net }
-    ensures { OnOk result (rows.new ≡ pins_noted n.now.net parts.now (pin_is_voted n.now.net parts.now votes.now) y (length (node_pins n.now.net y)) rows.old) }
+    requires noting { IsNoting n.now.net parts.now (pin_is_voted n.now.net parts.now votes.now) (slice_index parts.now.of y) rows.old }
+    ensures rows { OnOk result (rows.new ≡ pins_noted n.now.net parts.now (pin_is_voted n.now.net parts.now votes.now) y (length (node_pins n.now.net y)) rows.old) }
+    ensures places { OnOk result (places.new.items ≡ places.old.items ++ map (tap_of n.now.net parts.now (pin_is_voted n.now.net parts.now votes.now) y) (range_with_len 0 (length (node_pins n.now.net y)))) }
+    ensures noting { OnOk result (IsNoting n.now.net parts.now (pin_is_voted n.now.net parts.now votes.now) (slice_index parts.now.of y) rows.new) }
 {
     let _nodes = nodes_of(n);
     let node = NetId(n.input_count() + y);
     for j in 0..n.pin_count(node) {
-        note_pin(n, parts, votes, rows, y, j)?;
+        note_pin(n, parts, votes, rows, places, y, j)?;
     }
     Ok(())
 }
@@ -81,51 +107,64 @@ fn note_members(
     parts: &Parts,
     votes: &VotedPins,
     rows: &mut Readers,
+    taps: &mut Taps,
+    p: u32,
     members: &[u32],
 ) -> Result<(), OutOfMemory>
     requires votes { AreVotesOf n.now.net parts.now votes.now }
     requires nodes { All (λ y. y < length n.now.net.nodes) members.now }
-    requires rows { length rows.old ≡ net_count n.now.net }
-    ensures { OnOk result (rows.new ≡ nodes_noted n.now.net parts.now (pin_is_voted n.now.net parts.now votes.now) members.now rows.old) }
+    requires own { All (λ y. slice_index parts.now.of y ≡ p) members.now }
+    requires long { length taps.old.firsts.items ≡ length n.now.net.nodes }
+    requires noting { IsNoting n.now.net parts.now (pin_is_voted n.now.net parts.now votes.now) p rows.old }
+    ensures rows { OnOk result (rows.new ≡ nodes_noted n.now.net parts.now (pin_is_voted n.now.net parts.now votes.now) members.now rows.old) }
+    ensures long { OnOk result (length taps.new.firsts.items ≡ length n.now.net.nodes) }
+    ensures members { OnOk result (All (IsTapped n.now.net parts.now (pin_is_voted n.now.net parts.now votes.now) taps.new) members.now) }
+    ensures kept { OnOk result ((y : ℕ) → IsTapped n.now.net parts.now (pin_is_voted n.now.net parts.now votes.now) taps.old y → IsTapped n.now.net parts.now (pin_is_voted n.now.net parts.now votes.now) taps.new y) }
 {
     for y in members {
-        note_pins(n, parts, votes, rows, *y)?;
+        taps.firsts[*y as usize] = taps.places.len();
+        note_pins(n, parts, votes, rows, &mut taps.places, *y)?;
     }
     Ok(())
 }
 
-/// For each net the partitions that need a voter of it. The partitions are gone through in ascending order, so that
-/// no row needs sorting.
+/// For each net the partitions that need a voter of it, and which of these voters each pin reads. The partitions are gone
+/// through in ascending order, so that no row needs sorting, and a pin's voter is that of the last partition in the row.
 fn noted_parts(
     alloc: Global,
     n: &FlatNet,
     parts: &Parts,
     votes: &VotedPins,
-) -> Result<Readers, OutOfMemory>
+) -> Result<Noted, OutOfMemory>
     requires votes { AreVotesOf n.now.net parts.now votes.now }
-    ensures { IfOk result (λ rows. Lists (needs n.now.net parts.now (pin_is_voted n.now.net parts.now votes.now)) parts.now.count (net_count n.now.net) rows) }
+    requires in_range { AreParts parts.now }
+    ensures rows { IfOk result (λ r. Lists (needs n.now.net parts.now (pin_is_voted n.now.net parts.now votes.now)) parts.now.count (net_count n.now.net) r.rows) }
+    ensures taps { IfOk result (λ r. AreTaps n.now.net parts.now (pin_is_voted n.now.net parts.now votes.now) r.taps) }
 {
     let members = members(alloc, n, parts)?;
     let nets = n.input_count() + nodes_of(n);
     let mut rows = Readers::empty(alloc, nets)?;
+    let mut taps = no_taps(alloc, nodes_of(n), n.pin_total())?;
     let count = parts.count();
     for p in 0..count {
-        note_members(n, parts, votes, &mut rows, members.row(p))?;
+        note_members(n, parts, votes, &mut rows, &mut taps, p, members.row(p))?;
     }
-    Ok(rows)
+    Ok(Noted { rows, taps })
 }
 
-/// For each net the partitions that need a voter of it, in ascending order.
+/// For each net the partitions that need a voter of it, in ascending order, and which of these voters each pin reads.
 pub fn voting_parts(
     alloc: Global,
     n: &FlatNet,
     parts: &Parts,
     votes: &VotedPins,
-) -> Result<Graph, OutOfMemory>
+) -> Result<Voters, OutOfMemory>
     requires votes { AreVotesOf n.now.net parts.now votes.now }
-    ensures { IfOk result (λ rows. Lists (needs n.now.net parts.now (pin_is_voted n.now.net parts.now votes.now)) parts.now.count (net_count n.now.net) rows) }
+    requires in_range { AreParts parts.now }
+    ensures rows { IfOk result (λ r. Lists (needs n.now.net parts.now (pin_is_voted n.now.net parts.now votes.now)) parts.now.count (net_count n.now.net) r.rows) }
+    ensures taps { IfOk result (λ r. AreTaps n.now.net parts.now (pin_is_voted n.now.net parts.now votes.now) r.taps) }
 {
-    let rows = noted_parts(alloc, n, parts, votes)?;
+    let Noted { rows, taps } = noted_parts(alloc, n, parts, votes)?;
     let packed = rows.packed(alloc)?;
-    Ok(packed)
+    Ok(Voters { rows: packed, taps })
 }

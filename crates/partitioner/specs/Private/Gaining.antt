@@ -41,7 +41,8 @@ pub record AreBegun (count : ℕ) (gains : Gains) : Type 0 where
 -- the counts are those of the first nodes in the row of those that node i reads, and one more where another node reads node i
 pub record AreGains (n : Net) (p : Partitioning) (i : ℕ) (gains : Gains) : Type 0 where
   pub within : gains.counted ≤ length (slice_index_or p.sources i [])
-  pub near : (q : ℕ) → near_in gains q ≡ one_if (is_wanted n p.of.items i q) + count_by (is_near n p.of.items i q) (take gains.counted (slice_index_or p.sources i []))
+  pub near : (q : ℕ) →
+      near_in gains q ≡ one_if (is_wanted n p.of.items i q) + count_by (is_near n p.of.items i q) (take gains.counted (slice_index_or p.sources i []))
   pub most : IsMost (near_in gains) gains.most
 
 -- what is counted beside the partitions is right, and so is what node i gains

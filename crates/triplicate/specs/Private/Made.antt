@@ -13,9 +13,9 @@ use Rattle.triplicate.specs.declared.tripling.Made.{Made}
 use Rattle.triplicate.specs.Blocks.{hardened_roles, hardened_inputs, role_name}
 use Rattle.triplicate.specs.Private.Construction.{role_node, hardened_net}
 
--- the names and nodes are those of the roles
+-- the names and nodes are those of the roles; the last names wait outside the set
 pub record IsMade (n : Net) (parts : PlainParts) (voted : ℕ → ℕ → Bool) (made : Made) : Type 0 where
-  pub named : made.names.keys ≡ hardened_inputs n ++ map (role_name n) made.roles.items
+  pub named : made.names.keys ++ made.waiting.items ≡ hardened_inputs n ++ map (role_name n) made.roles.items
   pub packed : Packs (map (role_name n) made.roles.items) made.nodes (map (role_node n parts voted) made.roles.items)
 
 -- the hardened design has names that differ, and pins and nets that are few enough for their numbers

@@ -2,9 +2,9 @@
 use Rattle.std.specs.Prelude.{ℕ, zero, suc, ◌==◌, Bool, List, [], ◌∷◌, length, filter, slice_index, if◌then◌else◌}
 use Rattle.std.specs.List.{range_with_len}
 use Rattle.tmr_base.specs.Parts.{PlainParts}
-use Rattle.flat_net.specs.Net.{Net}
+use Rattle.flat_net.specs.Net.{Net, net_count}
 use Rattle.feedback_cut.specs.Inner.{node_pins}
-use Rattle.node_reads.specs.Noting.{noted}
+use Rattle.node_reads.specs.Noting.{noted, ListsMarked}
 use Rattle.triplicate.specs.Voting.{needs_voter}
 
 -- node y stands in partition p
@@ -37,3 +37,8 @@ members n parts p = filter (λ y. is_in parts y p) (range_with_len 0 (length n.n
 unfoldable pub parts_noted : Net → PlainParts → (ℕ → ℕ → Bool) → ℕ → List (List ℕ) → List (List ℕ)
 parts_noted n parts voted zero rows = rows
 parts_noted n parts voted (suc p) rows = nodes_noted n parts voted (members n parts p) (parts_noted n parts voted p rows)
+
+-- partition p is being noted: each row has the partitions below p that need a voter of its net, and the marked ones have p too
+pub record IsNoting (n : Net) (parts : PlainParts) (voted : ℕ → ℕ → Bool) (p : ℕ) (rows : List (List ℕ)) : Type 0 where
+  pub marked : ℕ → Bool
+  pub lists : ListsMarked (needs n parts voted) p (net_count n) marked rows

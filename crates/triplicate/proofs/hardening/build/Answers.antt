@@ -12,6 +12,9 @@ triplicate-requires-clause-votes c = c.in_ok-plan.ensures.votes
 pub triplicate-requires-clause-voters : goal.triplicate-requires-clause-voters
 triplicate-requires-clause-voters c = c.in_ok-plan.ensures.voters
 
+pub triplicate-requires-clause-taps : goal.triplicate-requires-clause-taps
+triplicate-requires-clause-taps c = c.in_ok-plan.ensures.taps
+
 pub triplicate-requires-clause-given : goal.triplicate-requires-clause-given
 triplicate-requires-clause-given c = c.in_ok-plan.ensures.given
 

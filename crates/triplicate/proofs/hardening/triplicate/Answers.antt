@@ -10,7 +10,7 @@ pub make_tripled-requires-clause-room : goal.make_tripled-requires-clause-room
 make_tripled-requires-clause-room c = room c.args.n.now.net c.args.plan.now.parts (voted_in c.args.n.now.net c.args.plan.now) (labeling c.args.plan.now.inputs c.args.plan.now.extra.table) c.requires.given
 
 pub assembled-requires-clause-names : goal.assembled-requires-clause-names
-assembled-requires-clause-names c = made_names c.args.n.now.net c.args.plan.now.parts (voted_in c.args.n.now.net c.args.plan.now) (labeling c.args.plan.now.inputs c.args.plan.now.extra.table) c.requires.given c.in_ok-made.made c.in_ok-made.ensures.made c.in_ok-made.ensures.roles
+assembled-requires-clause-names c = made_names c.args.n.now.net c.args.plan.now.parts (voted_in c.args.n.now.net c.args.plan.now) (labeling c.args.plan.now.inputs c.args.plan.now.extra.table) c.requires.given c.in_ok-made.made c.in_ok-made.ensures.made c.in_ok-made.ensures.waiting c.in_ok-made.ensures.roles
 
 pub assembled-requires-clause-nodes : goal.assembled-requires-clause-nodes
 assembled-requires-clause-nodes c = made_nodes c.args.n.now.net c.args.plan.now.parts (voted_in c.args.n.now.net c.args.plan.now) (labeling c.args.plan.now.inputs c.args.plan.now.extra.table) c.requires.given c.in_ok-made.made c.in_ok-made.ensures.made c.in_ok-made.ensures.roles

@@ -25,6 +25,10 @@ voting_parts-requires c =
         cut = c.in_ok-found.ensures.cut;
         marks = c.in_ok-extra.ensures.marks;
       };
+      in_range = record {
+        in_range = (ranges_of c.args.n.now.net c.args.size c.in_ok-refined.refined.parts c.requires.size exact).below;
+        few = omega (arith, (ranges_of c.args.n.now.net c.args.size c.in_ok-refined.refined.parts c.requires.size exact).long, c.nodes_of-nodes.ensures.few, c.nodes_of-nodes.ensures.count);
+      };
     }
 
 pub returns : goal.returns
@@ -44,7 +48,8 @@ returns c =
       bound = c.in_ok-extra.ensures.extra;
       none = c.in_ok-extra.ensures.none;
       exact = exact;
-      voters = c.in_ok-voters.ensures;
+      voters = c.in_ok-voters.ensures.rows;
+      taps = c.in_ok-voters.ensures.taps;
       pairs = c.in_ok-refined.ensures.cost;
       plain_pairs = c.in_ok-refined.ensures.before ∙ ap (cost c.args.n.now.net) c.in_ok-start.ensures.exact;
       minimal = c.in_ok-refined.ensures.minimal;

@@ -1,8 +1,6 @@
-use Rattle.std.proofs.Common.{◌≡◌, ◌+◌, ◌-◌, ℕ, List, length, ap, ◌∙◌, arith}
+use Rattle.std.proofs.Common.{◌≡◌, ◌+◌, ◌-◌, ◌++◌, [], ◌∷◌, ℕ, List, length, refl, ap, ◌∙◌, arith}
 use Rattle.std.specs.Prelude.{slice_index}
-use Rattle.std.specs.Str.{bytes_eq}
 use Rattle.std.proofs.lemmas.List.FromFn.{length-map-range_with_len}
-use Rattle.indexmap.specs.IndexSet.{insert_key}
 use Rattle.tmr_base.specs.declared.copies.CopyNo.TheVariants.{First}
 use Rattle.tmr_base.specs.Names.{copy_text}
 use Rattle.flat_net.specs.Net.{node_of, node_name, pins_at}
@@ -31,5 +29,5 @@ pub returns-clause-made : goal.returns-clause-made
 returns-clause-made c =
     let same = shifted_is c.args.n.now.net c.args.parts.now (pin_is_voted c.args.n.now.net c.args.parts.now c.args.votes.now) c.args.x.0 c.args.c c.args.pins.now c.requires.node c.requires.pins in
     let name = c.in_ok-name.ensures ∙ ap (λ (a : List ℕ). copy_text a c.args.c) c.name.ensures in
-    made_more c.args.n.now.net c.args.parts.now (pin_is_voted c.args.n.now.net c.args.parts.now c.args.votes.now) c.args.made.now _ (Copy c.args.x c.args.c) (shifted_node c.args.c c.args.pins.now (node_of c.args.n.now.net c.args.x.0)) c.requires.room c.requires.made c.requires.next
-    (c.in_ok-insert.ensures.keys ∙ ap (insert_key bytes_eq c.args.made.now.names.keys) name) c.in_ok-push.ensures.items same (ap node_name same ∙ copy_named c.args.n.now.net c.args.parts.now (pin_is_voted c.args.n.now.net c.args.parts.now c.args.votes.now) c.args.x.0 c.args.c c.requires.node c.requires.range) c.in_ok-push_node_copy.ensures
+    made_more c.args.n.now.net c.args.parts.now (pin_is_voted c.args.n.now.net c.args.parts.now c.args.votes.now) c.args.made.now _ (Copy c.args.x c.args.c) (shifted_node c.args.c c.args.pins.now (node_of c.args.n.now.net c.args.x.0)) c.requires.made refl
+    (c.in_ok-push.ensures.items ∙ ap (λ (a : List ℕ). c.args.made.now.waiting.items ++ a ∷ []) name) c.in_ok-push-2.ensures.items same (ap node_name same ∙ copy_named c.args.n.now.net c.args.parts.now (pin_is_voted c.args.n.now.net c.args.parts.now c.args.votes.now) c.args.x.0 c.args.c c.requires.node c.requires.range) c.in_ok-push_node_copy.ensures

@@ -1,6 +1,4 @@
-use Rattle.std.proofs.Common.{◌+◌, [], ◌∷◌, refl, ap, ◌∙◌}
-use Rattle.std.specs.Str.{bytes_eq}
-use Rattle.indexmap.specs.IndexSet.{insert_key}
+use Rattle.std.proofs.Common.{◌+◌, ◌++◌, [], ◌∷◌, ℕ, List, refl, ap, ◌∙◌}
 use Rattle.tmr_base.specs.Names.{voter_text}
 use Rattle.flat_net.specs.Net.{Table, name_of, node_name}
 use Rattle.certificate.specs.declared.role.Role.TheVariants.{Voter}
@@ -15,5 +13,5 @@ pub returns-clause-made : goal.returns-clause-made
 returns-clause-made c =
     let same = voter_is c.args.n.now.net c.args.parts.now (pin_is_voted c.args.n.now.net c.args.parts.now c.args.votes.now) c.args.x.0 c.args.p.0 c.args.c c.in_ok-majority.majority c.args.copy (c.args.copy ∷ (c.args.copy + 1) ∷ (c.args.copy + 2) ∷ []) (c.in_ok-majority.ensures ∙ c.requires.cover) c.requires.copy refl in
     let name = c.in_ok-name.ensures (name_of c.args.n.now.net c.args.x.0) c.args.p.0 c.requires.stem in
-    made_more c.args.n.now.net c.args.parts.now (pin_is_voted c.args.n.now.net c.args.parts.now c.args.votes.now) c.args.made.now _ (Voter c.args.x c.args.p c.args.c) (Table (voter_text (name_of c.args.n.now.net c.args.x.0) c.args.p.0 c.args.c) c.in_ok-majority.majority (c.args.copy ∷ (c.args.copy + 1) ∷ (c.args.copy + 2) ∷ [])) c.requires.room c.requires.made c.requires.next
-    (c.in_ok-insert.ensures.keys ∙ ap (insert_key bytes_eq c.args.made.now.names.keys) name) c.in_ok-push.ensures.items same (ap node_name same) (λ names done k. c.in_ok-push_table.ensures.table names (voter_text (name_of c.args.n.now.net c.args.x.0) c.args.p.0 c.args.c) done k)
+    made_more c.args.n.now.net c.args.parts.now (pin_is_voted c.args.n.now.net c.args.parts.now c.args.votes.now) c.args.made.now _ (Voter c.args.x c.args.p c.args.c) (Table (voter_text (name_of c.args.n.now.net c.args.x.0) c.args.p.0 c.args.c) c.in_ok-majority.majority (c.args.copy ∷ (c.args.copy + 1) ∷ (c.args.copy + 2) ∷ [])) c.requires.made refl
+    (c.in_ok-push.ensures.items ∙ ap (λ (a : List ℕ). c.args.made.now.waiting.items ++ a ∷ []) name) c.in_ok-push-2.ensures.items same (ap node_name same) (λ names done k. c.in_ok-push_table.ensures.table names (voter_text (name_of c.args.n.now.net c.args.x.0) c.args.p.0 c.args.c) done k)
