@@ -35,8 +35,8 @@ use tmr_base::{
     CopyNo, Name, NetId, OutOfMemory, PartId, Parts, copy_name, voter_on_stem, voter_stem,
 };
 
-/// So many names wait at least before they are put into the set.
-const MANY: usize = 512;
+/// So many names wait before they are put into the set. They come in threes.
+const MANY: usize = 513;
 
 /// The names, nodes and roles of a part of the hardened design, and room for what one copy reads. The last names wait
 /// outside the set.
@@ -290,6 +290,46 @@ fn push_three_voters(
     Ok(())
 }
 
+/// Puts the names that wait into the set.
+fn put_waiting(
+    alloc: Global,
+    n: &FlatNet,
+    parts: &Parts,
+    votes: &VotedPins,
+    made: &mut Made,
+) -> Result<(), OutOfMemory>
+    requires room { HasRoom n.now.net parts.now (pin_is_voted n.now.net parts.now votes.now) }
+    requires made { IsMade n.now.net parts.now (pin_is_voted n.now.net parts.now votes.now) made.old }
+    requires next { IsNext n.now.net parts.now (pin_is_voted n.now.net parts.now votes.now) made.old.roles.items [] }
+    ensures made { OnOk result (IsMade n.now.net parts.now (pin_is_voted n.now.net parts.now votes.now) made.new) }
+    ensures roles { OnOk result (made.new.roles.items ≡ made.old.roles.items) }
+    ensures waiting { OnOk result (made.new.waiting.items ≡ []) }
+{
+    put_names(alloc, &mut made.names, &mut made.waiting)?;
+    Ok(())
+}
+
+/// Puts the names that wait into the set, if there are many.
+fn put_if_many(
+    alloc: Global,
+    n: &FlatNet,
+    parts: &Parts,
+    votes: &VotedPins,
+    made: &mut Made,
+) -> Result<(), OutOfMemory>
+    requires room { HasRoom n.now.net parts.now (pin_is_voted n.now.net parts.now votes.now) }
+    requires made { IsMade n.now.net parts.now (pin_is_voted n.now.net parts.now votes.now) made.old }
+    requires next { IsNext n.now.net parts.now (pin_is_voted n.now.net parts.now votes.now) made.old.roles.items [] }
+    ensures made { OnOk result (IsMade n.now.net parts.now (pin_is_voted n.now.net parts.now votes.now) made.new) }
+    ensures roles { OnOk result (made.new.roles.items ≡ made.old.roles.items) }
+{
+    if made.waiting.len() < MANY {
+        return Ok(());
+    }
+    put_waiting(alloc, n, parts, votes, made)?;
+    Ok(())
+}
+
 /// Adds the voters of net x for these partitions.
 fn push_voters(
     alloc: Global,
@@ -314,6 +354,7 @@ fn push_voters(
 {
     for p in row {
         push_three_voters(alloc, n, parts, votes, x, PartId(*p), copy, cover, made)?;
+        put_if_many(alloc, n, parts, votes, made)?;
     }
     Ok(())
 }
@@ -427,46 +468,6 @@ fn pin_room(n: &FlatNet, nets: u32) -> usize {
     3 * n.pin_total() as usize + 3 * (nets as usize).saturating_sub(copies)
 }
 
-/// Puts the names that wait into the set.
-fn put_waiting(
-    alloc: Global,
-    n: &FlatNet,
-    parts: &Parts,
-    votes: &VotedPins,
-    made: &mut Made,
-) -> Result<(), OutOfMemory>
-    requires room { HasRoom n.now.net parts.now (pin_is_voted n.now.net parts.now votes.now) }
-    requires made { IsMade n.now.net parts.now (pin_is_voted n.now.net parts.now votes.now) made.old }
-    requires next { IsNext n.now.net parts.now (pin_is_voted n.now.net parts.now votes.now) made.old.roles.items [] }
-    ensures made { OnOk result (IsMade n.now.net parts.now (pin_is_voted n.now.net parts.now votes.now) made.new) }
-    ensures roles { OnOk result (made.new.roles.items ≡ made.old.roles.items) }
-    ensures waiting { OnOk result (made.new.waiting.items ≡ []) }
-{
-    put_names(alloc, &mut made.names, &mut made.waiting)?;
-    Ok(())
-}
-
-/// Puts the names that wait into the set, if there are many.
-fn put_if_many(
-    alloc: Global,
-    n: &FlatNet,
-    parts: &Parts,
-    votes: &VotedPins,
-    made: &mut Made,
-) -> Result<(), OutOfMemory>
-    requires room { HasRoom n.now.net parts.now (pin_is_voted n.now.net parts.now votes.now) }
-    requires made { IsMade n.now.net parts.now (pin_is_voted n.now.net parts.now votes.now) made.old }
-    requires next { IsNext n.now.net parts.now (pin_is_voted n.now.net parts.now votes.now) made.old.roles.items [] }
-    ensures made { OnOk result (IsMade n.now.net parts.now (pin_is_voted n.now.net parts.now votes.now) made.new) }
-    ensures roles { OnOk result (made.new.roles.items ≡ made.old.roles.items) }
-{
-    if made.waiting.len() < MANY {
-        return Ok(());
-    }
-    put_waiting(alloc, n, parts, votes, made)?;
-    Ok(())
-}
-
 /// The names, nodes and roles of the hardened design.
 pub fn make_tripled(
     alloc: Global,
@@ -492,7 +493,7 @@ pub fn make_tripled(
     let roles = Vec::with_capacity(alloc, room as usize)?;
     let mut made = Made {
         names,
-        waiting: Vec::new(alloc),
+        waiting: Vec::with_capacity(alloc, MANY)?,
         nodes,
         roles,
         room: Vec::new(alloc),
