@@ -16,6 +16,7 @@ pub mod HardenedOrder
 pub mod Valid
 pub mod Votes
 pub mod Sizes
+pub mod PinSums
 pub mod Marked
 pub mod Whole
 pub mod VoterRows

@@ -1,5 +1,5 @@
 -- How large the hardened design is.
-use Rattle.std.proofs.Common.{◌≡◌, ◌≢◌, ℕ, zero, suc, ◌+◌, ◌-◌, ◌*◌, ◌<◌, ◌≤◌, ◌⊎◌, inl, inr, List, [], ◌∷◌, ◌++◌, length, map, refl, sym, ap, ◌∙◌, arith, append-nil, Bool, true, false, if◌then◌else◌, get_or, slice_get, Option, Some, take, set, filter, replicate, cond, All, Any, eqb, ltb}
+use Rattle.std.proofs.Common.{◌≡◌, ◌≢◌, ℕ, zero, suc, ◌+◌, ◌-◌, ◌*◌, ◌<◌, ◌≤◌, ◌⊎◌, inl, inr, List, [], ◌∷◌, ◌++◌, length, map, refl, sym, ap, ◌∙◌, arith, append-nil, Bool, true, false, if◌then◌else◌, get_or, take, set, filter, replicate, cond, All, Any, eqb, ltb}
 use Rattle.std.specs.Prelude.{sum_by, count_by}
 use Rattle.std.specs.List.{flat_map, range_with_len}
 use Rattle.std.proofs.lemmas.Bool.{cases_lt, cases_eq, ne_eqb, eq-eqb, eqb-true, ltb-true, lt-ltb, false≢true}
@@ -8,9 +8,7 @@ use Rattle.std.proofs.lemmas.Map.Steps.{length-le_from_distinct_below}
 use Rattle.std.proofs.lemmas.List.Folds.{Any-from_list_any}
 use Rattle.std.proofs.lemmas.List.{length-append, map-append, get_or_default, length_push, take_all, length-replicate}
 use Rattle.std.proofs.lemmas.List.Sums.{sum_by-append, sum_by-cons, sum_by_push, sum_by_more, sum_by-set}
-use Rattle.std.proofs.lemmas.Option.{get_or_from_slice_get}
 use Rattle.std.specs.Prelude.{slice_index}
-use Rattle.flat_net.proofs.Slots.{slot_at, slice_get_there}
 use Rattle.feedback_cut.specs.Inner.{node_pins}
 use Rattle.node_reads.specs.Noting.{noted, ends_in}
 use Rattle.tmr_base.specs.declared.copies.CopyNo.TheVariants.{First, Second, Third}
@@ -28,6 +26,7 @@ use Rattle.triplicate.specs.Blocks.{copies_of, voters_for, block, hardened_roles
 use Rattle.triplicate.specs.Private.Construction.{hardened_net, role_node}
 use Rattle.triplicate.specs.Result.{is_voter_role}
 use Rattle.triplicate.proofs.Lists.{blocks_more}
+use Rattle.triplicate.proofs.PinSums.{all_pins}
 use Rattle.triplicate.proofs.Numbering.{copies_of_node, copies_of_input, block_length}
 
 -- ---- sums
@@ -104,23 +103,6 @@ module _ (n : Net) (parts : PlainParts) (voted : ℕ → ℕ → Bool) where
   unfolding hardened_roles
   roles_counted = omega (arith, blocks_counted (net_count n))
 
-  -- ---- pins
-
-  -- the pins of the first k nodes
-  own_pins : (k : ℕ) → k ≤ length n.nodes → sum_by (λ y. length (node_pins n y)) (range_with_len 0 k) ≡ sum_by (λ node. length (pins_of node)) (take k n.nodes)
-  own_pins zero h = refl
-  own_pins (suc k) h =
-      let (node, at) = slice_get_there n.nodes k (omega arith) in
-      let e : suc k ≡ k + 1 = omega arith in
-      let back : (length n.inputs + k) - length n.inputs ≡ k = omega arith in
-      let here : node_of n (length n.inputs + k) ≡ Some node = slot_at (length n.inputs) n.nodes (length n.inputs + k) (omega arith) ∙ (ap (slice_get n.nodes) back ∙ at) in
-      let g : ℕ → ℕ = λ y. length (node_pins n y) in
-      let f : Node → ℕ = λ m. length (pins_of m) in
-      omega (arith, ap (sum_by g) (numbers_more k), sum_by_push g (range_with_len 0 k) k, ap (λ j. sum_by f (take j n.nodes)) e, sum_by_more f n.nodes k node (omega arith), ap f (get_or_from_slice_get n.nodes k node node at), ap (λ (o : Option Node). length (pins_at o)) here, own_pins k (omega arith))
-
-  all_pins : sum_by (λ y. length (node_pins n y)) (range_with_len 0 (length n.nodes)) ≡ pin_total n
-  all_pins = own_pins (length n.nodes) (omega arith) ∙ ap (sum_by (λ node. length (pins_of node))) (take_all (length n.nodes) n.nodes (omega arith))
-
   -- ---- how much noting adds
 
   noted_adds : (rows : List (List ℕ)) (x k : ℕ) → x < length rows → sum_by length (noted rows x k) ≤ sum_by length rows + 1
@@ -172,7 +154,7 @@ module _ (n : Net) (parts : PlainParts) (voted : ℕ → ℕ → Bool) where
       let long : length rows ≡ net_count n = lists.long in
       let all : sum_by length (take (net_count n) rows) ≡ sum_by length rows = ap (sum_by length) (take_all (net_count n) rows (omega arith)) in
       let none : sum_by length start ≡ 0 = empty_total (net_count n) in
-      omega (arith, voters_listed rows (net_count n) long lists.row (omega arith), all, parts_add parts.count start (λ y i h. omega (arith, pin_in_range n valid y i h, length-replicate {A = List ℕ} (net_count n) [])), none, part_of_sum (λ y. length (node_pins n y)) (λ y. ltb (slice_index parts.of y) parts.count) (range_with_len 0 (length n.nodes)), all_pins)
+      omega (arith, voters_listed rows (net_count n) long lists.row (omega arith), all, parts_add parts.count start (λ y i h. omega (arith, pin_in_range n valid y i h, length-replicate {A = List ℕ} (net_count n) [])), none, part_of_sum (λ y. length (node_pins n y)) (λ y. ltb (slice_index parts.of y) parts.count) (range_with_len 0 (length n.nodes)), all_pins n)
 
   -- ---- the pins of the hardened design
 
@@ -215,7 +197,7 @@ module _ (n : Net) (parts : PlainParts) (voted : ℕ → ℕ → Bool) where
   unfolding hardened_net hardened_roles
   few_hardened_pins valid =
       let e : net_count n - length n.inputs ≡ length n.nodes = omega arith in
-      omega (arith, blocks_pins (net_count n) (omega arith), ap (λ k. sum_by (λ y. length (node_pins n y)) (range_with_len 0 k)) e, all_pins)
+      omega (arith, blocks_pins (net_count n) (omega arith), ap (λ k. sum_by (λ y. length (node_pins n y)) (range_with_len 0 k)) e, all_pins n)
 
 pub outputs_few : (n : Net) → IsValid n → length n.outputs ≤ net_count n
 outputs_few n valid = few_apart n.outputs (net_count n) valid.unordered.outputs_differ valid.unordered.outputs_in_range

@@ -1,11 +1,11 @@
 -- Which voter each pin reads, as it is noted.
-use Rattle.std.proofs.Common.{◌≡◌, ◌≢◌, ℕ, suc, ◌+◌, ◌<◌, ◌≤◌, ◌⊎◌, inl, inr, List, [], ◌∷◌, ◌++◌, length, take, filter, get_or, refl, sym, ap, ◌∙◌, subst, arith, Bool, true, false, eqb, ◌||◌, All, set}
-use Rattle.std.specs.Prelude.{slice_index, map}
+use Rattle.std.proofs.Common.{◌≡◌, ◌≢◌, ℕ, suc, ◌+◌, ◌<◌, ◌≤◌, ◌⊎◌, inl, inr, List, [], ◌∷◌, ◌++◌, length, take, filter, get_or, refl, sym, ap, ◌∙◌, subst, arith, Bool, true, false, eqb, ◌||◌, All, set, below_more}
+use Rattle.std.specs.Prelude.{slice_index}
 use Rattle.std.specs.List.{range_with_len}
 use Rattle.std.proofs.lemmas.Bool.{eq-eqb, eqb-true, cases_eq, cases_lt}
-use Rattle.std.proofs.lemmas.List.{length-append, length_push, get_or_append_left, get_or-append-add, get_or-set_same, get_or-set_other, take_more, append_assoc}
-use Rattle.std.proofs.lemmas.List.FromFn.{length-map-range_with_len, map-range_with_len_more, get_or-map-range_with_len, length-range_with_len}
-use Rattle.std.proofs.lemmas.List.Elements.{All-append, filter_passes}
+use Rattle.std.proofs.lemmas.List.{length_push, get_or_append_left, get_or_push, get_or-set_same, get_or-set_other, take_more}
+use Rattle.std.proofs.lemmas.List.FromFn.{length-range_with_len}
+use Rattle.std.proofs.lemmas.List.Elements.{All-append, All-take, filter_passes}
 use Rattle.std.proofs.lemmas.Option.{slice_get_within, get_or_from_slice_get}
 use Rattle.node_reads.specs.Noting.{noted, related, Lists, ListsMarked}
 use Rattle.node_reads.proofs.NotingLaws.{marked_row, noted_marks, marks_none}
@@ -15,8 +15,9 @@ use Rattle.feedback_cut.specs.Inner.{node_pins}
 use Rattle.triplicate.specs.declared.taps.Taps.{Taps}
 use Rattle.triplicate.specs.Private.Noted.{is_in, needs, members, IsNoting}
 use Rattle.triplicate.specs.Private.Numbers.{voter_rank}
-use Rattle.triplicate.specs.Private.Taps.{tap_of, IsTapped}
+use Rattle.triplicate.specs.Private.Taps.{tap_of, tap_start, HasPlaces, IsTapped}
 use Rattle.triplicate.proofs.Lists.{passing_at}
+use Rattle.triplicate.proofs.PinSums.{starts_apart}
 
 passing_few : (p : ℕ → Bool) (xs : List ℕ) → length (filter p xs) ≤ length xs
 passing_few p [] = omega arith
@@ -26,9 +27,32 @@ passing_few p (x ∷ xs) = go (p x) refl (passing_few p xs)
     go true e ih = rw e (omega (arith, ih))
     go false e ih = rw e (omega (arith, ih))
 
--- one place more
-pub places_more : (f : ℕ → ℕ) (old now new : List ℕ) (j : ℕ) → now ≡ old ++ map f (range_with_len 0 j) → new ≡ now ++ f j ∷ [] → new ≡ old ++ map f (range_with_len 0 (j + 1))
-places_more f old now new j e g = g ∙ (ap (λ (xs : List ℕ). xs ++ f j ∷ []) e ∙ (append_assoc old (map f (range_with_len 0 j)) (f j ∷ []) ∙ ap (λ (xs : List ℕ). old ++ xs) (sym (map-range_with_len_more f 0 j j (omega arith)))))
+-- ---- lists that are written place by place
+
+-- the next place of a run is written
+pub places_more : (f : ℕ → ℕ) (old new : List ℕ) (first j : ℕ) → first + j < length old → new ≡ set old (first + j) (f j) → ((i : ℕ) → i < j → slice_index old (first + i) ≡ f i) → (i : ℕ) → i < j + 1 → slice_index new (first + i) ≡ f i
+places_more f old new first j h e before =
+    below_more _ _
+    (λ i l. ap (λ (xs : List ℕ). slice_index xs (first + i)) e ∙ (get_or-set_other old (first + j) (first + i) (f j) 0 (apart i l) ∙ before i l))
+    (ap (λ (xs : List ℕ). slice_index xs (first + j)) e ∙ get_or-set_same old (first + j) (f j) 0 h)
+  where
+    apart : (i : ℕ) → i < j → first + i ≢ first + j
+    apart i l = omega (arith, l)
+
+-- what stands outside the run stays
+pub places_others : (old new start : List ℕ) (first many j v : ℕ) → j < many → new ≡ set old (first + j) v → ((k : ℕ) → (k < first) ⊎ (first + many ≤ k) → slice_index old k ≡ slice_index start k) → (k : ℕ) → (k < first) ⊎ (first + many ≤ k) → slice_index new k ≡ slice_index start k
+places_others old new start first many j v h e same k out = ap (λ (xs : List ℕ). slice_index xs k) e ∙ (get_or-set_other old (first + j) k v 0 (apart out) ∙ same k out)
+  where
+    apart : (k < first) ⊎ (first + many ≤ k) → k ≢ first + j
+    apart (inl l) = omega (arith, l)
+    apart (inr l) = omega (arith, l, h)
+
+-- the places of one node more have a beginning
+pub firsts_more : (n : Net) (old new : List ℕ) (y next : ℕ) → length old ≡ y → new ≡ old ++ next ∷ [] → next ≡ tap_start n y → ((z : ℕ) → z < y → slice_index old z ≡ tap_start n z) → (z : ℕ) → z < y + 1 → slice_index new z ≡ tap_start n z
+firsts_more n old new y next long e is before =
+    below_more _ _
+    (λ z l. ap (λ (xs : List ℕ). slice_index xs z) e ∙ (get_or_append_left old (next ∷ []) 0 z (omega (arith, l, long)) ∙ before z l))
+    (ap (λ (xs : List ℕ). slice_index xs y) e ∙ (get_or_push old next 0 y long ∙ is))
 
 module _ (n : Net) (parts : PlainParts) (voted : ℕ → ℕ → Bool) where
   -- ---- the rows while a partition is noted
@@ -78,48 +102,49 @@ module _ (n : Net) (parts : PlainParts) (voted : ℕ → ℕ → Bool) where
 
   -- ---- node after node
 
-  -- the places of node y, behind those that were there
-  pub tapped_own : (new : Taps) (y : ℕ) (firsts places : List ℕ) → y < length firsts → new.firsts.items ≡ set firsts y (length places) → new.places.items ≡ places ++ map (tap_of n parts voted y) (range_with_len 0 (length (node_pins n y))) → IsTapped n parts voted new y
-  tapped_own new y firsts places h ef ep =
-      let first : slice_index new.firsts.items y ≡ length places = ap (λ (xs : List ℕ). slice_index xs y) ef ∙ get_or-set_same firsts y (length places) 0 h in
-      let long : length new.places.items ≡ length places + length (node_pins n y) = ap length ep ∙ (length-append places (map (tap_of n parts voted y) (range_with_len 0 (length (node_pins n y)))) ∙ ap (λ (k : ℕ). length places + k) (length-map-range_with_len (tap_of n parts voted y) 0 (length (node_pins n y)))) in
-      record {
-        within = omega (arith, first, long);
-        each = λ j l. ap (λ (k : ℕ). slice_index new.places.items (k + j)) first
-            ∙ (ap (λ (xs : List ℕ). slice_index xs (length places + j)) ep
-            ∙ (get_or-append-add places (map (tap_of n parts voted y) (range_with_len 0 (length (node_pins n y)))) j 0
-            ∙ get_or-map-range_with_len (tap_of n parts voted y) 0 (length (node_pins n y)) j j 0 l (omega arith)));
-      }
+  -- there is still a place for each pin
+  pub places_kept : (old new : Taps) → new.firsts.items ≡ old.firsts.items → length new.places.items ≡ length old.places.items → HasPlaces n old → HasPlaces n new
+  places_kept old new ef ep has = record {
+    long = ap length ef ∙ has.long;
+    each = λ y h. ap (λ (xs : List ℕ). slice_index xs y) ef ∙ has.each y h;
+    places = ep ∙ has.places;
+  }
 
-  -- those of another node stay
-  tapped_other : (old new : Taps) (y z at : ℕ) (more : List ℕ) → z ≢ y → new.firsts.items ≡ set old.firsts.items y at → new.places.items ≡ old.places.items ++ more → IsTapped n parts voted old z → IsTapped n parts voted new z
-  tapped_other old new y z at more ne ef ep t =
-      let first : slice_index new.firsts.items z ≡ slice_index old.firsts.items z = ap (λ (xs : List ℕ). slice_index xs z) ef ∙ get_or-set_other old.firsts.items y z at 0 ne in
-      record {
-        within = omega (arith, first, ap length ep, length-append old.places.items more, t.within);
-        each = λ j l. ap (λ (k : ℕ). slice_index new.places.items (k + j)) first
-            ∙ (ap (λ (xs : List ℕ). slice_index xs (slice_index old.firsts.items z + j)) ep
-            ∙ (get_or_append_left old.places.items more 0 (slice_index old.firsts.items z + j) (omega (arith, t.within, l))
-            ∙ t.each j l));
-      }
+  -- there is room for the pins of node y
+  pub tap_room : (taps : Taps) (y : ℕ) → HasPlaces n taps → y < length n.nodes → slice_index taps.firsts.items y + length (node_pins n y) ≤ length taps.places.items
+  tap_room taps y has h = omega (arith, has.each y h, has.places, starts_apart n y (length n.nodes) h)
 
-  pub tapped_kept : (old new : Taps) (y z : ℕ) → y < length old.firsts.items → new.firsts.items ≡ set old.firsts.items y (length old.places.items) → new.places.items ≡ old.places.items ++ map (tap_of n parts voted y) (range_with_len 0 (length (node_pins n y))) → IsTapped n parts voted old z → IsTapped n parts voted new z
-  tapped_kept old new y z h ef ep t = go (cases_eq z y)
+  -- the places of another node stay
+  tapped_other : (old new : Taps) (y z : ℕ) → z ≢ y → y < length n.nodes → z < length n.nodes → HasPlaces n old → HasPlaces n new → ((k : ℕ) → (k < slice_index old.firsts.items y) ⊎ (slice_index old.firsts.items y + length (node_pins n y) ≤ k) → slice_index new.places.items k ≡ slice_index old.places.items k) → IsTapped n parts voted old z → IsTapped n parts voted new z
+  tapped_other old new y z ne hy hz has now others t =
+      let first : slice_index new.firsts.items z ≡ slice_index old.firsts.items z = now.each z hz ∙ sym (has.each z hz) in
+      record {
+        within = tap_room new z now hz;
+        each = λ j l. ap (λ (k : ℕ). slice_index new.places.items (k + j)) first ∙ (others (slice_index old.firsts.items z + j) (out j l (cases_lt z y)) ∙ t.each j l);
+      }
+    where
+      out : (j : ℕ) → j < length (node_pins n z) → (z < y) ⊎ (y ≤ z) → (slice_index old.firsts.items z + j < slice_index old.firsts.items y) ⊎ (slice_index old.firsts.items y + length (node_pins n y) ≤ slice_index old.firsts.items z + j)
+      out j l (inl b) = inl (omega (arith, l, has.each z hz, has.each y hy, starts_apart n z y b))
+      out j l (inr b) = inr (omega (arith, has.each z hz, has.each y hy, starts_apart n y z (omega (arith, b, ne))))
+
+  pub tapped_kept : (old new : Taps) (y z : ℕ) → y < length n.nodes → z < length n.nodes → HasPlaces n old → HasPlaces n new → ((k : ℕ) → (k < slice_index old.firsts.items y) ⊎ (slice_index old.firsts.items y + length (node_pins n y) ≤ k) → slice_index new.places.items k ≡ slice_index old.places.items k) → IsTapped n parts voted new y → IsTapped n parts voted old z → IsTapped n parts voted new z
+  tapped_kept old new y z hy hz has now others own t = go (cases_eq z y)
     where
       go : (z ≡ y) ⊎ (z ≢ y) → IsTapped n parts voted new z
-      go (inl e) = subst (λ (k : ℕ). IsTapped n parts voted new k) (sym e) (tapped_own new y old.firsts.items old.places.items h ef ep)
-      go (inr ne) = tapped_other old new y z (length old.places.items) (map (tap_of n parts voted y) (range_with_len 0 (length (node_pins n y)))) ne ef ep t
+      go (inl e) = subst (λ (k : ℕ). IsTapped n parts voted new k) (sym e) own
+      go (inr ne) = tapped_other old new y z ne hy hz has now others t
 
-  pub tapped_more : (old new : Taps) (ys : List ℕ) (i : ℕ) → i < length ys → get_or ys i 0 < length old.firsts.items → new.firsts.items ≡ set old.firsts.items (get_or ys i 0) (length old.places.items) → new.places.items ≡ old.places.items ++ map (tap_of n parts voted (get_or ys i 0)) (range_with_len 0 (length (node_pins n (get_or ys i 0)))) → All (IsTapped n parts voted old) (take i ys) → All (IsTapped n parts voted new) (take (i + 1) ys)
-  tapped_more old new ys i l h ef ep done =
-      let before : All (IsTapped n parts voted new) (take i ys) = λ k d b. tapped_kept old new (get_or ys i 0) (get_or (take i ys) k d) h ef ep (done k d b) in
+  pub tapped_more : (old new : Taps) (ys : List ℕ) (i : ℕ) → i < length ys → All (λ y. y < length n.nodes) ys → HasPlaces n old → HasPlaces n new → ((k : ℕ) → (k < slice_index old.firsts.items (get_or ys i 0)) ⊎ (slice_index old.firsts.items (get_or ys i 0) + length (node_pins n (get_or ys i 0)) ≤ k) → slice_index new.places.items k ≡ slice_index old.places.items k) → IsTapped n parts voted new (get_or ys i 0) → All (IsTapped n parts voted old) (take i ys) → All (IsTapped n parts voted new) (take (i + 1) ys)
+  tapped_more old new ys i l below has now others own done =
+      let few : All (λ y. y < length n.nodes) (take i ys) = All-take (λ y. y < length n.nodes) i ys below in
+      let before : All (IsTapped n parts voted new) (take i ys) = λ k d b. tapped_kept old new (get_or ys i 0) (get_or (take i ys) k d) (below i 0 l) (few k d b) has now others own (done k d b) in
       let last : All (IsTapped n parts voted new) (get_or ys i 0 ∷ []) = λ k d b. one k d b in
       subst (λ (zs : List ℕ). All (IsTapped n parts voted new) zs) (sym (take_more ys i 0 l)) (All-append (IsTapped n parts voted new) (take i ys) (get_or ys i 0 ∷ []) before last)
     where
       one : (k d : ℕ) → k < 1 → IsTapped n parts voted new (get_or (get_or ys i 0 ∷ []) k d)
       one k d b =
           let first : k ≡ 0 = omega (arith, b) in
-          subst (λ (m : ℕ). IsTapped n parts voted new (get_or (get_or ys i 0 ∷ []) m d)) (sym first) (tapped_own new (get_or ys i 0) old.firsts.items old.places.items h ef ep)
+          subst (λ (m : ℕ). IsTapped n parts voted new (get_or (get_or ys i 0 ∷ []) m d)) (sym first) own
 
   -- ---- partition after partition
 

@@ -2,17 +2,17 @@
 ghost use Rattle.std.specs.Prelude.{◌≡◌, ◌+◌, ◌*◌, ◌<◌, ◌≤◌, ◌^◌, All, length, IfOk, OnOk};
 ghost use Rattle.flat_net.specs.Net.{net_count, pin_total};
 ghost use Rattle.feedback_cut.specs.Inner.{node_pins};
-ghost use Rattle.triplicate.specs.Private.Pins.{pin_is_voted, AreVotesOf};
 ghost use Rattle.triplicate.specs.Blocks.{hardened_roles};
 ghost use Rattle.triplicate.specs.Planned.{IsPlan, votes_in, voted_in};
 ghost use Rattle.triplicate.specs.Private.Numbers.{HasFewNets};
 ghost use Rattle.triplicate.specs.Private.Starts.{AreVoterRows};
+ghost use Rattle.triplicate.specs.Private.Taps.{AreTaps};
 
 use crate::blocks::hardened_nets;
 use crate::certifying::depths_of;
-use crate::taps::Taps;
+use crate::taps::{Taps, tap};
 use crate::voters::voting_parts;
-use crate::voting::{VotedPins, is_voted};
+use crate::voting::VotedPins;
 use feedback_cut::{CutPins, cut_in_order};
 use flat_net::{FlatNet, nodes_of};
 use graph::Graph;
@@ -56,14 +56,15 @@ impl Plan {
         }
     }
 
-    /// Whether pin j of node y is voted. Nodes and pins are counted from 0.
+    /// Whether pin j of node y is voted: whether it reads a voter. Nodes and pins are counted from 0.
     pub fn is_voted(&self, n: &FlatNet, y: u32, j: u32) -> bool
-        requires votes { AreVotesOf n.now.net self.now.parts (votes_in self.now) }
+        requires taps { AreTaps n.now.net self.now.parts (voted_in n.now.net self.now) self.now.taps }
         requires node { y < length n.now.net.nodes }
         requires pin { j < length (node_pins n.now.net y) }
-        ensures { result ≡ pin_is_voted n.now.net self.now.parts (votes_in self.now) y j }
+        ensures { result ≡ voted_in n.now.net self.now y j }
     {
-        is_voted(n, &self.parts, &self.votes(), y, j)
+        let _nodes = nodes_of(n);
+        tap(&self.taps, y, j) != 0
     }
 
     /// The depth of each partition.

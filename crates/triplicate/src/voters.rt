@@ -1,13 +1,12 @@
 //! For each net the partitions that need a voter of it, and which of these voters each pin reads.
-ghost use Rattle.std.specs.Prelude.{◌≡◌, ◌+◌, ◌<◌, ◌++◌, ◌∷◌, ℕ, [], length, map, All, IfOk, OnOk, slice_index, slice_index_or};
-ghost use Rattle.std.specs.List.{range_with_len};
+ghost use Rattle.std.specs.Prelude.{◌≡◌, ◌+◌, ◌<◌, ◌≤◌, ◌⊎◌, ℕ, [], length, All, IfOk, OnOk, slice_index, slice_index_or, slice_set};
 ghost use Rattle.tmr_base.specs.Parts.{AreParts};
 ghost use Rattle.flat_net.specs.Net.{net_count};
 ghost use Rattle.feedback_cut.specs.Inner.{node_pins};
 ghost use Rattle.node_reads.specs.Noting.{Lists};
 ghost use Rattle.triplicate.specs.Private.Pins.{pin_is_voted, AreVotesOf};
 ghost use Rattle.triplicate.specs.Private.Noted.{is_in, needs, pin_noted, pins_noted, nodes_noted, parts_noted, IsNoting};
-ghost use Rattle.triplicate.specs.Private.Taps.{tap_of, IsTapped, AreTaps};
+ghost use Rattle.triplicate.specs.Private.Taps.{tap_of, HasPlaces, IsTapped, AreTaps};
 
 use crate::taps::{Taps, no_taps};
 use crate::voting::{VotedPins, is_voted};
@@ -46,57 +45,73 @@ pub struct Voters {
 }
 
 /// Notes the partition of node y for what it reads at pin j, where that is voted, and at which place of the net's row it stands.
+/// That place is written at `at`.
 fn note_pin(
     n: &FlatNet,
     parts: &Parts,
     votes: &VotedPins,
     rows: &mut Readers,
     places: &mut Vec<u32>,
+    at: usize,
     y: u32,
     j: u32,
 ) -> Result<(), OutOfMemory>
     requires votes { AreVotesOf n.now.net parts.now votes.now }
     requires node { y < length n.now.net.nodes }
     requires pin { j < length (node_pins n.now.net y) }
+    requires at { at < length places.old.items }
     requires noting { IsNoting n.now.net parts.now (pin_is_voted n.now.net parts.now votes.now) (slice_index parts.now.of y) rows.old }
     ensures rows { OnOk result (rows.new ≡ pin_noted n.now.net parts.now (pin_is_voted n.now.net parts.now votes.now) y j rows.old) }
-    ensures places { OnOk result (places.new.items ≡ places.old.items ++ tap_of n.now.net parts.now (pin_is_voted n.now.net parts.now votes.now) y j ∷ []) }
+    ensures places { OnOk result (places.new.items ≡ slice_set places.old.items at (tap_of n.now.net parts.now (pin_is_voted n.now.net parts.now votes.now) y j)) }
     ensures noting { OnOk result (IsNoting n.now.net parts.now (pin_is_voted n.now.net parts.now votes.now) (slice_index parts.now.of y) rows.new) }
 {
     let _nodes = nodes_of(n);
     let _count = parts.count();
     if !is_voted(n, parts, votes, y, j) {
-        places.push(0)?;
+        places[at] = 0;
         return Ok(());
     }
     let inputs = n.input_count();
     let pin = n.pin(NetId(inputs + y), j);
     let part = parts.of(y);
     note(rows, pin.0, part)?;
-    places.push(rows.row(pin.0).len() as u32)?;
+    places[at] = rows.row(pin.0).len() as u32;
     Ok(())
 }
 
-/// Notes the partition of node y for what it reads at voted pins.
+/// Notes the partition of node y for what it reads at voted pins. The places for its pins begin at `first`.
 fn note_pins(
     n: &FlatNet,
     parts: &Parts,
     votes: &VotedPins,
     rows: &mut Readers,
     places: &mut Vec<u32>,
+    first: u32,
     y: u32,
 ) -> Result<(), OutOfMemory>
     requires votes { AreVotesOf n.now.net parts.now votes.now }
     requires node { y < length n.now.net.nodes }
+    requires room { first + length (node_pins n.now.net y) ≤ length places.old.items }
     requires noting { IsNoting n.now.net parts.now (pin_is_voted n.now.net parts.now votes.now) (slice_index parts.now.of y) rows.old }
     ensures rows { OnOk result (rows.new ≡ pins_noted n.now.net parts.now (pin_is_voted n.now.net parts.now votes.now) y (length (node_pins n.now.net y)) rows.old) }
-    ensures places { OnOk result (places.new.items ≡ places.old.items ++ map (tap_of n.now.net parts.now (pin_is_voted n.now.net parts.now votes.now) y) (range_with_len 0 (length (node_pins n.now.net y)))) }
+    ensures long { OnOk result (length places.new.items ≡ length places.old.items) }
+    ensures places { OnOk result ((j : ℕ) → j < length (node_pins n.now.net y) → slice_index places.new.items (first + j) ≡ tap_of n.now.net parts.now (pin_is_voted n.now.net parts.now votes.now) y j) }
+    ensures others { OnOk result ((k : ℕ) → (k < first) ⊎ (first + length (node_pins n.now.net y) ≤ k) → slice_index places.new.items k ≡ slice_index places.old.items k) }
     ensures noting { OnOk result (IsNoting n.now.net parts.now (pin_is_voted n.now.net parts.now votes.now) (slice_index parts.now.of y) rows.new) }
 {
     let _nodes = nodes_of(n);
     let node = NetId(n.input_count() + y);
     for j in 0..n.pin_count(node) {
-        note_pin(n, parts, votes, rows, places, y, j)?;
+        note_pin(
+            n,
+            parts,
+            votes,
+            rows,
+            places,
+            first as usize + j as usize,
+            y,
+            j,
+        )?;
     }
     Ok(())
 }
@@ -114,16 +129,16 @@ fn note_members(
     requires votes { AreVotesOf n.now.net parts.now votes.now }
     requires nodes { All (λ y. y < length n.now.net.nodes) members.now }
     requires own { All (λ y. slice_index parts.now.of y ≡ p) members.now }
-    requires long { length taps.old.firsts.items ≡ length n.now.net.nodes }
+    requires places { HasPlaces n.now.net taps.old }
     requires noting { IsNoting n.now.net parts.now (pin_is_voted n.now.net parts.now votes.now) p rows.old }
     ensures rows { OnOk result (rows.new ≡ nodes_noted n.now.net parts.now (pin_is_voted n.now.net parts.now votes.now) members.now rows.old) }
-    ensures long { OnOk result (length taps.new.firsts.items ≡ length n.now.net.nodes) }
+    ensures places { OnOk result (HasPlaces n.now.net taps.new) }
     ensures members { OnOk result (All (IsTapped n.now.net parts.now (pin_is_voted n.now.net parts.now votes.now) taps.new) members.now) }
-    ensures kept { OnOk result ((y : ℕ) → IsTapped n.now.net parts.now (pin_is_voted n.now.net parts.now votes.now) taps.old y → IsTapped n.now.net parts.now (pin_is_voted n.now.net parts.now votes.now) taps.new y) }
+    ensures kept { OnOk result ((y : ℕ) → y < length n.now.net.nodes → IsTapped n.now.net parts.now (pin_is_voted n.now.net parts.now votes.now) taps.old y → IsTapped n.now.net parts.now (pin_is_voted n.now.net parts.now votes.now) taps.new y) }
 {
     for y in members {
-        taps.firsts[*y as usize] = taps.places.len();
-        note_pins(n, parts, votes, rows, &mut taps.places, *y)?;
+        let first = taps.firsts[*y as usize];
+        note_pins(n, parts, votes, rows, &mut taps.places, first, *y)?;
     }
     Ok(())
 }
@@ -144,7 +159,7 @@ fn noted_parts(
     let members = members(alloc, n, parts)?;
     let nets = n.input_count() + nodes_of(n);
     let mut rows = Readers::empty(alloc, nets)?;
-    let mut taps = no_taps(alloc, nodes_of(n), n.pin_total())?;
+    let mut taps = no_taps(alloc, n)?;
     let count = parts.count();
     for p in 0..count {
         note_members(n, parts, votes, &mut rows, &mut taps, p, members.row(p))?;

@@ -1,5 +1,6 @@
 -- Which voter each pin reads, as the construction notes it.
-use Rattle.std.specs.Prelude.{◌≡◌, ℕ, suc, ◌+◌, ◌≤◌, ◌<◌, Bool, length, slice_index, if◌then◌else◌}
+use Rattle.std.specs.Prelude.{◌≡◌, ℕ, suc, ◌+◌, ◌≤◌, ◌<◌, Bool, length, slice_index, sum_by, if◌then◌else◌}
+use Rattle.std.specs.List.{range_with_len}
 use Rattle.tmr_base.specs.Parts.{PlainParts}
 use Rattle.flat_net.specs.Net.{Net}
 use Rattle.feedback_cut.specs.Inner.{node_pins}
@@ -13,6 +14,16 @@ tap_of n parts voted y j = if voted y j then suc (voter_rank n parts voted (slic
 -- the place that is noted for pin j of node y
 abbrev pub tap_in : Taps → ℕ → ℕ → ℕ
 tap_in taps y j = slice_index taps.places.items (slice_index taps.firsts.items y + j)
+
+-- where the places for the pins of node y begin: behind those for the pins of all nodes before it
+abbrev pub tap_start : Net → ℕ → ℕ
+tap_start n y = sum_by (λ z. length (node_pins n z)) (range_with_len 0 y)
+
+-- there is a place for each pin, node by node
+pub record HasPlaces (n : Net) (taps : Taps) : Type 0 where
+  pub long : length taps.firsts.items ≡ length n.nodes
+  pub each : (y : ℕ) → y < length n.nodes → slice_index taps.firsts.items y ≡ tap_start n y
+  pub places : length taps.places.items ≡ tap_start n (length n.nodes)
 
 -- the places of all pins of node y are noted
 pub record IsTapped (n : Net) (parts : PlainParts) (voted : ℕ → ℕ → Bool) (taps : Taps) (y : ℕ) : Type 0 where

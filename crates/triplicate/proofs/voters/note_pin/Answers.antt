@@ -1,4 +1,4 @@
-use Rattle.std.proofs.Common.{◌≡◌, ◌+◌, ◌++◌, ◌∷◌, [], ℕ, suc, List, length, get_or, true, false, sym, ap, subst, ◌∙◌, rules, arith}
+use Rattle.std.proofs.Common.{◌≡◌, ◌+◌, [], ℕ, suc, List, length, get_or, set, true, false, sym, ap, subst, ◌∙◌, rules, arith}
 use Rattle.std.specs.Prelude.{slice_index}
 use Rattle.flat_net.specs.Net.{node_of, pins_at}
 use Rattle.feedback_cut.specs.Inner.{node_pins}
@@ -35,7 +35,7 @@ returns-clause-places c =
     let noting : IsNoting c.args.n.now.net c.args.parts.now (pin_is_voted c.args.n.now.net c.args.parts.now c.args.votes.now) c.of-part.result c.args.rows.now = subst (λ (p : ℕ). IsNoting c.args.n.now.net c.args.parts.now (pin_is_voted c.args.n.now.net c.args.parts.now c.args.votes.now) p c.args.rows.now) (sym c.of-part.ensures.value) c.requires.noting in
     let row : c.row.result.now ≡ get_or (noted c.args.rows.now c.pin-pin.result.0 c.of-part.result) c.pin-pin.result.0 [] = c.row.ensures ∙ ap (λ (rs : List (List ℕ)). get_or rs c.pin-pin.result.0 []) c.in_ok-note.ensures in
     let place : length c.row.result.now ≡ suc (voter_rank c.args.n.now.net c.args.parts.now (pin_is_voted c.args.n.now.net c.args.parts.now c.args.votes.now) c.pin-pin.result.0 c.of-part.result) = ap length row ∙ noted_place c.args.n.now.net c.args.parts.now (pin_is_voted c.args.n.now.net c.args.parts.now c.args.votes.now) c.of-part.result c.pin-pin.result.0 c.args.rows.now noting c.pin-pin.ensures.range in
-    c.in_ok-push-2.ensures.items ∙ ap (λ (k : ℕ). c.args.places.now.items ++ k ∷ []) (place ∙ tap_is c.args.n.now.net c.args.parts.now (pin_is_voted c.args.n.now.net c.args.parts.now c.args.votes.now) c.args.y c.args.j c.pin-pin.result.0 c.of-part.result v pin c.of-part.ensures.value)
+    ap (λ (k : ℕ). set c.args.places.now.items c.args.at k) (place ∙ tap_is c.args.n.now.net c.args.parts.now (pin_is_voted c.args.n.now.net c.args.parts.now c.args.votes.now) c.args.y c.args.j c.pin-pin.result.0 c.of-part.result v pin c.of-part.ensures.value)
 
 pub returns-clause-noting : goal.returns-clause-noting
 returns-clause-noting c =

@@ -14,7 +14,7 @@ loop-p-init c =
     let nets : c.input_count.result + c.nodes_of.result ≡ net_count c.args.n.now.net = omega (arith, c.input_count.ensures.count, c.nodes_of.ensures.count) in
     record {
       rows = c.in_ok-rows.ensures ∙ (ap (λ k. replicate k []) nets ∙ sym (parts_none c.args.n.now.net c.args.parts.now (pin_is_voted c.args.n.now.net c.args.parts.now c.args.votes.now) (replicate (net_count c.args.n.now.net) [])));
-      long = c.in_ok-taps.ensures ∙ c.nodes_of-2.ensures.count;
+      places = c.in_ok-taps.ensures;
       done = λ y h l. absurd (omega (arith, l));
     }
 
@@ -43,8 +43,8 @@ loop-p-preserved c =
           ∙ (ap (λ ys. nodes_noted c.args.n.now.net c.args.parts.now (pin_is_voted c.args.n.now.net c.args.parts.now c.args.votes.now) ys c.loop-p.rows) row
           ∙ (ap (nodes_noted c.args.n.now.net c.args.parts.now (pin_is_voted c.args.n.now.net c.args.parts.now c.args.votes.now) (members c.args.n.now.net c.args.parts.now c.loop-p.p)) c.loop-p.invariant.rows
           ∙ sym (parts_step c.args.n.now.net c.args.parts.now (pin_is_voted c.args.n.now.net c.args.parts.now c.args.votes.now) c.loop-p.p (replicate (net_count c.args.n.now.net) []))));
-      long = c.in_ok-note_members.ensures.long;
-      done = parts_tapped c.args.n.now.net c.args.parts.now (pin_is_voted c.args.n.now.net c.args.parts.now c.args.votes.now) c.note_members.new.taps c.loop-p.p (λ y h l. c.in_ok-note_members.ensures.kept y (c.loop-p.invariant.done y h l)) own;
+      places = c.in_ok-note_members.ensures.places;
+      done = parts_tapped c.args.n.now.net c.args.parts.now (pin_is_voted c.args.n.now.net c.args.parts.now c.args.votes.now) c.note_members.new.taps c.loop-p.p (λ y h l. c.in_ok-note_members.ensures.kept y h (c.loop-p.invariant.done y h l)) own;
     }
 
 pub returns-clause-rows : goal.returns-clause-rows
