@@ -6,7 +6,8 @@ ghost use Rattle.feedback_cut.specs.Inner.{node_pins};
 ghost use Rattle.blif_writer.specs.Left.{spaced};
 ghost use Rattle.blif_writer.specs.Text.{control_words, lines_text};
 ghost use Rattle.triplicate.specs.Blocks.{hardened_clock};
-ghost use Rattle.triplicate.specs.Planned.{voted_in};
+ghost use Rattle.triplicate.specs.Planned.{votes_in, voted_in};
+ghost use Rattle.triplicate.specs.Private.Pins.{AreVotesOf};
 ghost use Rattle.triplicate.specs.Private.Taps.{AreTaps};
 ghost use Rattle.hardened_text.specs.Private.Spelled.{pin_spelled, pins_spelled};
 ghost use Rattle.hardened_text.specs.Private.Lines.{pin_names, copy_lines, AreRowsOf};
@@ -177,7 +178,7 @@ fn put_three(
 
 /// Which pins of node y are voted, put into `votes`.
 fn note_votes(n: &FlatNet, plan: &Plan, y: u32, votes: &mut Vec<bool>) -> Result<(), AllocError>
-    requires planned { AreTaps n.now.net plan.now.parts (voted_in n.now.net plan.now) plan.now.taps }
+    requires taps { AreTaps n.now.net plan.now.parts (voted_in n.now.net plan.now) plan.now.taps }
     requires node { y < length n.now.net.nodes }
     ensures { OnOk result (votes.new.items ≡ map (voted_in n.now.net plan.now y) (range_with_len 0 (length (node_pins n.now.net y)))) }
 {
@@ -230,7 +231,8 @@ pub fn put_copies(
     free: bool,
     room: &mut Room,
 ) -> Result<(), AllocError>
-    requires planned { AreTaps n.now.net plan.now.parts (voted_in n.now.net plan.now) plan.now.taps }
+    requires planned { AreVotesOf n.now.net plan.now.parts (votes_in plan.now) }
+    requires taps { AreTaps n.now.net plan.now.parts (voted_in n.now.net plan.now) plan.now.taps }
     requires node { y < length n.now.net.nodes }
     requires control { control.now ≡ spaced (control_words (hardened_clock n.now.net.clock)) }
     ensures { OnOk result (out.new.items ≡ ((out.old.items ++ lines_text (copy_lines (hardened_clock n.now.net.clock) (pin_names n.now.net plan.now.parts (voted_in n.now.net plan.now) y First) First free (node_of n.now.net (length n.now.net.inputs + y))))

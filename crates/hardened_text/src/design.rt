@@ -7,10 +7,11 @@ ghost use Rattle.blif_writer.specs.Left.{spaced, spaced_line};
 ghost use Rattle.blif_writer.specs.Text.{edge_word, clock_words, control_words, lines_text, free_text};
 ghost use Rattle.certificate.specs.Starts.{counted, spread_start};
 ghost use Rattle.triplicate.specs.Blocks.{copies_of, hardened_clock};
-ghost use Rattle.triplicate.specs.Planned.{voted_in};
+ghost use Rattle.triplicate.specs.Planned.{votes_in, voted_in};
 ghost use Rattle.triplicate.specs.Private.Construction.{hardened_net, hardened_cert};
 ghost use Rattle.triplicate.specs.Private.Given.{IsGiven};
 ghost use Rattle.triplicate.specs.Private.Labels.{labeling};
+ghost use Rattle.triplicate.specs.Private.Pins.{AreVotesOf};
 ghost use Rattle.triplicate.specs.Private.Taps.{AreTaps};
 ghost use Rattle.triplicate.specs.Private.Starts.{AreVoterRows};
 ghost use Rattle.hardened_text.specs.Private.Spelled.{three_spelled};
@@ -107,7 +108,8 @@ fn put_own_copies(
     control: &[u8],
     room: &mut Room,
 ) -> Result<(), AllocError>
-    requires planned { AreTaps n.now.net plan.now.parts (voted_in n.now.net plan.now) plan.now.taps }
+    requires planned { AreVotesOf n.now.net plan.now.parts (votes_in plan.now) }
+    requires taps { AreTaps n.now.net plan.now.parts (voted_in n.now.net plan.now) plan.now.taps }
     requires net { x < net_count n.now.net }
     requires control { control.now ≡ spaced (control_words (hardened_clock n.now.net.clock)) }
     ensures { OnOk result (out.new.items ≡ out.old.items ++ lines_text (flat_map (role_lines n.now.net plan.now.parts (voted_in n.now.net plan.now) free) (copies_of n.now.net x))) }
@@ -131,7 +133,8 @@ fn put_block(
     room: &mut Room,
     head: &mut Vec<u8>,
 ) -> Result<(), AllocError>
-    requires planned { AreTaps n.now.net plan.now.parts (voted_in n.now.net plan.now) plan.now.taps }
+    requires planned { AreVotesOf n.now.net plan.now.parts (votes_in plan.now) }
+    requires taps { AreTaps n.now.net plan.now.parts (voted_in n.now.net plan.now) plan.now.taps }
     requires voters { AreVoterRows n.now.net plan.now.parts (voted_in n.now.net plan.now) plan.now.voters }
     requires net { x < net_count n.now.net }
     requires control { control.now ≡ spaced (control_words (hardened_clock n.now.net.clock)) }
@@ -155,7 +158,8 @@ fn is_free(n: &FreeNet, inputs: bool, x: u32) -> bool
 
 /// Puts what stands for all nets.
 fn put_blocks(alloc: Global, out: &mut Vec<u8>, n: &FreeNet, plan: &Plan) -> Result<(), AllocError>
-    requires planned { AreTaps n.now.design.net plan.now.parts (voted_in n.now.design.net plan.now) plan.now.taps }
+    requires planned { AreVotesOf n.now.design.net plan.now.parts (votes_in plan.now) }
+    requires taps { AreTaps n.now.design.net plan.now.parts (voted_in n.now.design.net plan.now) plan.now.taps }
     requires voters { AreVoterRows n.now.design.net plan.now.parts (voted_in n.now.design.net plan.now) plan.now.voters }
     ensures { OnOk result (out.new.items ≡ out.old.items ++ blocks_text n.now.design.net plan.now.parts (voted_in n.now.design.net plan.now) (marks_of plan.now.inputs n.now.free) (net_count n.now.design.net)) }
 {
@@ -190,7 +194,8 @@ fn put_ports(out: &mut Vec<u8>, n: &FlatNet) -> Result<(), AllocError>
 
 /// The flat text of the hardened design.
 pub fn design_text(alloc: Global, n: &FreeNet, plan: &Plan) -> Result<Vec<u8>, AllocError>
-    requires planned { AreTaps n.now.design.net plan.now.parts (voted_in n.now.design.net plan.now) plan.now.taps }
+    requires planned { AreVotesOf n.now.design.net plan.now.parts (votes_in plan.now) }
+    requires taps { AreTaps n.now.design.net plan.now.parts (voted_in n.now.design.net plan.now) plan.now.taps }
     requires voters { AreVoterRows n.now.design.net plan.now.parts (voted_in n.now.design.net plan.now) plan.now.voters }
     requires given { IsGiven n.now.design.net plan.now.parts (voted_in n.now.design.net plan.now) (labeling plan.now.inputs plan.now.extra.table) }
     ensures { IfOk result (λ bytes. bytes.items ≡ free_text (hardened_net n.now.design.net plan.now.parts (voted_in n.now.design.net plan.now))
