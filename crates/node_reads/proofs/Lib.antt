@@ -3,3 +3,4 @@ pub mod NotingLaws
 pub mod PinLaws
 pub mod SourceLaws
 pub mod WideRows
+pub mod LoggedLaws

@@ -1,3 +1,4 @@
 pub mod Reading
 pub mod Noting
 pub mod Sources
+pub mod Private

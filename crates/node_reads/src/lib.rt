@@ -4,10 +4,12 @@
 //! Those of `sorted_rows` have the same nodes; in which order is no clause, and only the time that a search takes hangs on it.
 #![tactic(auto)]
 
+mod notes;
 mod reading;
 mod sorting;
 mod wide;
 
-pub use reading::{note, packed_readers_of, readers_of, sources_of};
+pub use notes::Notes;
+pub use reading::{packed_readers_of, sources_of};
 pub use sorting::sorted_rows;
 pub use wide::{is_long, is_wide, wide_sources_of};

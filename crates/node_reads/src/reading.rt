@@ -6,33 +6,13 @@ ghost use Rattle.node_reads.specs.Noting.{ends_in, noted, Lists, ListsMarked};
 ghost use Rattle.node_reads.specs.Sources.{reads_other, is_source, marked_by_pins, AreReaders, AreSources};
 
 use flat_net::{FlatNet, nodes_of};
-use graph::{Graph, Readers};
+use crate::notes::Notes;
+use graph::Graph;
 use std::alloc::Global;
 use tmr_base::{NetId, OutOfMemory};
 
-/// The last number of the row is k.
-fn ends_in(row: &[u32], k: u32) -> bool
-    ensures { result ≡ ends_in row.now k }
-{
-    match row.last() {
-        Some(last) => *last == k,
-        None => false,
-    }
-}
-
-/// Puts k behind row x, unless it is the last number of that row.
-pub fn note(rows: &mut Readers, x: u32, k: u32) -> Result<(), OutOfMemory>
-    requires { x < length rows.old }
-    ensures { OnOk result (rows.new ≡ noted rows.old x k) }
-{
-    if ends_in(rows.row(x), k) {
-        return Ok(());
-    }
-    rows.add(x, k)
-}
-
 /// Notes the node that pin j of node y reads.
-fn note_pin(n: &FlatNet, rows: &mut Readers, y: u32, j: u32) -> Result<(), OutOfMemory>
+fn note_pin(n: &FlatNet, rows: &mut Notes, y: u32, j: u32) -> Result<(), OutOfMemory>
     requires node { y < length n.now.net.nodes }
     requires pin { j < length (pins_at (node_of n.now.net (length n.now.net.inputs + y))) }
     requires listed { ListsMarked (reads_other n.now.net) y (length n.now.net.nodes) (marked_by_pins n.now.net y j) rows.old }
@@ -48,13 +28,13 @@ fn note_pin(n: &FlatNet, rows: &mut Readers, y: u32, j: u32) -> Result<(), OutOf
     if x == y {
         return Ok(());
     }
-    note(rows, x, y)?;
+    rows.note(x, y)?;
     Ok(())
 }
 
 /// Notes the nodes that node y reads.
 #[tactic(auto, using(crate::proofs::PinLaws::pins_start, crate::proofs::PinLaws::pins_end))]
-fn note_pins(n: &FlatNet, rows: &mut Readers, y: u32) -> Result<(), OutOfMemory>
+fn note_pins(n: &FlatNet, rows: &mut Notes, y: u32) -> Result<(), OutOfMemory>
     requires node { y < length n.now.net.nodes }
     requires listed { Lists (reads_other n.now.net) y (length n.now.net.nodes) rows.old }
     ensures { OnOk result (Lists (reads_other n.now.net) (y + 1) (length n.now.net.nodes) rows.new) }
@@ -68,11 +48,11 @@ fn note_pins(n: &FlatNet, rows: &mut Readers, y: u32) -> Result<(), OutOfMemory>
 }
 
 /// For each node the other nodes that read it, in ascending order.
-pub fn readers_of(alloc: Global, n: &FlatNet) -> Result<Readers, OutOfMemory>
+fn noted_readers(alloc: Global, n: &FlatNet) -> Result<Notes, OutOfMemory>
     ensures { IfOk result (λ rows. AreReaders n.now.net rows) }
 {
     let count = nodes_of(n);
-    let mut rows = Readers::empty(alloc, count)?;
+    let mut rows = Notes::empty(alloc, count, n.pin_total() as usize)?;
     for y in 0..count {
         note_pins(n, &mut rows, y)?;
     }
@@ -83,13 +63,13 @@ pub fn readers_of(alloc: Global, n: &FlatNet) -> Result<Readers, OutOfMemory>
 pub fn packed_readers_of(alloc: Global, n: &FlatNet) -> Result<Graph, OutOfMemory>
     ensures { IfOk result (λ rows. AreReaders n.now.net rows) }
 {
-    let rows = readers_of(alloc, n)?;
+    let rows = noted_readers(alloc, n)?;
     let packed = rows.packed(alloc)?;
     Ok(packed)
 }
 
 /// Notes node x in the rows of the nodes of `n` that read it.
-fn note_readers(n: &FlatNet, readers: &Graph, rows: &mut Readers, x: u32) -> Result<(), OutOfMemory>
+fn note_readers(n: &FlatNet, readers: &Graph, rows: &mut Notes, x: u32) -> Result<(), OutOfMemory>
     requires node { x < length n.now.net.nodes }
     requires readers { AreReaders n.now.net readers.now }
     requires listed { Lists (is_source n.now.net) x (length n.now.net.nodes) rows.old }
@@ -97,20 +77,30 @@ fn note_readers(n: &FlatNet, readers: &Graph, rows: &mut Readers, x: u32) -> Res
 {
     let _nodes = nodes_of(n);
     for y in readers.row(x) {
-        note(rows, *y, x)?;
+        rows.note(*y, x)?;
     }
     Ok(())
 }
 
 /// For each node the other nodes that it reads, in ascending order, from the nodes that read each.
-pub fn sources_of(alloc: Global, n: &FlatNet, readers: &Graph) -> Result<Readers, OutOfMemory>
+fn noted_sources(alloc: Global, n: &FlatNet, readers: &Graph) -> Result<Notes, OutOfMemory>
     requires { AreReaders n.now.net readers.now }
     ensures { IfOk result (λ rows. AreSources n.now.net rows) }
 {
     let count = nodes_of(n);
-    let mut rows = Readers::empty(alloc, count)?;
+    let mut rows = Notes::empty(alloc, count, n.pin_total() as usize)?;
     for x in 0..count {
         note_readers(n, readers, &mut rows, x)?;
     }
     Ok(rows)
+}
+
+/// The same, packed.
+pub fn sources_of(alloc: Global, n: &FlatNet, readers: &Graph) -> Result<Graph, OutOfMemory>
+    requires { AreReaders n.now.net readers.now }
+    ensures { IfOk result (λ rows. AreSources n.now.net rows) }
+{
+    let rows = noted_sources(alloc, n, readers)?;
+    let packed = rows.packed(alloc)?;
+    Ok(packed)
 }

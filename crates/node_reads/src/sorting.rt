@@ -1,7 +1,7 @@
 //! Readers in ascending order of how long other rows are.
 ghost use Rattle.std.specs.Prelude.{◌≡◌, ◌<◌, [], ℕ, length, slice_index_or, IfOk, OnOk, IsPermutation};
 
-use graph::{Graph, Readers};
+use graph::Graph;
 use std::alloc::Global;
 use tmr_base::OutOfMemory;
 
@@ -30,7 +30,7 @@ fn set_by_weight(sorted: &mut Vec<u32>, row: &[u32], weights: &[u32]) -> Result<
 /// promise the same numbers, in some order.
 pub fn sorted_rows(
     alloc: Global,
-    rows: &Readers,
+    rows: &Graph,
     by: &Graph,
     count: u32,
 ) -> Result<Graph, OutOfMemory>

@@ -4,7 +4,7 @@ ghost use Rattle.flat_net.specs.Net.{Net};
 ghost use Rattle.node_reads.specs.Sources.{is_wide, wide_sources, AreReaders, AreSources};
 
 use flat_net::{FlatNet, nodes_of};
-use graph::{Graph, Readers};
+use graph::Graph;
 use std::alloc::Global;
 use tmr_base::OutOfMemory;
 
@@ -50,7 +50,7 @@ pub fn wide_sources_of(
     alloc: Global,
     n: &FlatNet,
     readers: &Graph,
-    sources: &Readers,
+    sources: &Graph,
 ) -> Result<Graph, OutOfMemory>
     requires readers { AreReaders n.now.net readers.now }
     requires sources { AreSources n.now.net sources.now }

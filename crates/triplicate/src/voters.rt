@@ -11,29 +11,30 @@ ghost use Rattle.triplicate.specs.Private.Taps.{tap_of, HasPlaces, IsTapped, Are
 use crate::taps::{Taps, no_taps};
 use crate::voting::{VotedPins, is_voted};
 use flat_net::{FlatNet, nodes_of};
-use graph::{Graph, Readers};
-use node_reads::note;
+use graph::Graph;
+use node_reads::Notes;
 use std::alloc::Global;
 use tmr_base::{NetId, OutOfMemory, Parts};
 
 /// For each partition its nodes, in ascending order.
 #[tactic(auto, using(crate::proofs::VoterRows::member_noted, crate::proofs::VoterRows::no_members))]
-fn members(alloc: Global, n: &FlatNet, parts: &Parts) -> Result<Readers, OutOfMemory>
+fn members(alloc: Global, n: &FlatNet, parts: &Parts) -> Result<Graph, OutOfMemory>
     requires { length parts.now.of ≡ length n.now.net.nodes }
     ensures { IfOk result (λ rows. Lists (is_in parts.now) (length n.now.net.nodes) parts.now.count rows) }
 {
-    let mut rows = Readers::empty(alloc, parts.count())?;
+    let mut rows = Notes::empty(alloc, parts.count(), nodes_of(n) as usize)?;
     for y in 0..nodes_of(n) {
         let part = parts.of(y);
-        note(&mut rows, part, y)?;
+        rows.note(part, y)?;
     }
-    Ok(rows)
+    let packed = rows.packed(alloc)?;
+    Ok(packed)
 }
 
 /// For each net the partitions that need a voter of it, and which of these voters each pin reads.
 #[derive(Drop)]
 struct Noted {
-    rows: Readers,
+    rows: Notes,
     taps: Taps,
 }
 
@@ -50,7 +51,7 @@ fn note_pin(
     n: &FlatNet,
     parts: &Parts,
     votes: &VotedPins,
-    rows: &mut Readers,
+    rows: &mut Notes,
     places: &mut Vec<u32>,
     at: usize,
     y: u32,
@@ -74,8 +75,8 @@ fn note_pin(
     let inputs = n.input_count();
     let pin = n.pin(NetId(inputs + y), j);
     let part = parts.of(y);
-    note(rows, pin.0, part)?;
-    places[at] = rows.row(pin.0).len() as u32;
+    rows.note(pin.0, part)?;
+    places[at] = rows.count(pin.0);
     Ok(())
 }
 
@@ -84,7 +85,7 @@ fn note_pins(
     n: &FlatNet,
     parts: &Parts,
     votes: &VotedPins,
-    rows: &mut Readers,
+    rows: &mut Notes,
     places: &mut Vec<u32>,
     first: u32,
     y: u32,
@@ -121,7 +122,7 @@ fn note_members(
     n: &FlatNet,
     parts: &Parts,
     votes: &VotedPins,
-    rows: &mut Readers,
+    rows: &mut Notes,
     taps: &mut Taps,
     p: u32,
     members: &[u32],
@@ -158,7 +159,7 @@ fn noted_parts(
 {
     let members = members(alloc, n, parts)?;
     let nets = n.input_count() + nodes_of(n);
-    let mut rows = Readers::empty(alloc, nets)?;
+    let mut rows = Notes::empty(alloc, nets, n.pin_total() as usize)?;
     let mut taps = no_taps(alloc, n)?;
     let count = parts.count();
     for p in 0..count {

@@ -1,0 +1,215 @@
+//! Rows that grow in any order, kept as one list of all that is noted in them.
+ghost use Rattle.std.specs.Prelude.{◌≡◌, ◌<◌, ◌≤◌, ◌+◌, ◌++◌, ◌∷◌, [], length, replicate, slice_index, slice_index_or, slice_set, slice_range, IfOk, OnOk};
+ghost use Rattle.node_reads.specs.Noting.{noted};
+ghost use Rattle.node_reads.specs.Private.Logged.{row_of, rows_of, tally_at, is_last, tallied, AreIn, AreTallies, AreStarts, AreEnds, AreLaid};
+
+use graph::Graph;
+use std::alloc::Global;
+use std::marker::Model;
+use tmr_base::OutOfMemory;
+
+/// What was noted: a number, in a row.
+#[derive(Clone, Copy, Debug, PartialEq, Eq, Drop)]
+pub struct Note {
+    pub row: u32,
+    pub number: u32,
+}
+
+/// How many numbers a row has, and the last of them.
+#[derive(Clone, Copy, Debug, PartialEq, Eq, Drop)]
+pub struct Tally {
+    pub count: u32,
+    pub last: u32,
+}
+
+/// Rows of numbers, which grow in any order. What is noted is kept in one list, in the order in which it comes, and is put into its
+/// rows together in the end. So one small place of each row is looked up while they grow, where rows of their own would take four times
+/// as much memory, and their numbers more.
+#[derive(Drop)]
+pub struct Notes {
+    tallies: Vec<Tally>,
+    log: Vec<Note>,
+}
+
+impl Model for Notes {
+    ghost use Rattle.std.specs.Prelude.{ℕ, List, length};
+    ghost use Rattle.node_reads.specs.Private.Logged.{rows_of, AreTallies};
+
+    ghost Value = { List (List ℕ) };
+
+    ghost view = { λ notes. rows_of (length notes.tallies.items) notes.log.items };
+
+    ghost invariant = { λ notes. AreTallies notes.tallies.items notes.log.items };
+}
+
+/// The last number of the row with this tally is k.
+fn is_last(tally: Tally, k: u32) -> bool
+    ensures { result ≡ is_last tally k }
+{
+    tally.count > 0 && tally.last == k
+}
+
+/// Row x is one longer, and ends in k.
+fn count_note(tallies: &mut Vec<Tally>, x: u32, k: u32)
+    requires row { x < length tallies.old.items }
+    requires few { (tally_at tallies.old.items x).count + 1 < 4294967296 }
+    ensures { tallies.new.items ≡ slice_set tallies.old.items x (tallied (tally_at tallies.old.items x) k) }
+{
+    let tally = tallies[x as usize];
+    tallies[x as usize] = Tally {
+        count: tally.count + 1,
+        last: k,
+    };
+}
+
+/// Puts k behind row x.
+fn add_note(tallies: &mut Vec<Tally>, log: &mut Vec<Note>, x: u32, k: u32) -> Result<(), OutOfMemory>
+    requires tallies { AreTallies tallies.old.items log.old.items }
+    requires row { x < length tallies.old.items }
+    ensures tallies { AreTallies tallies.new.items log.new.items }
+    ensures long { length tallies.new.items ≡ length tallies.old.items }
+    ensures rows { OnOk result (rows_of (length tallies.old.items) log.new.items ≡ slice_set (rows_of (length tallies.old.items) log.old.items) x (row_of log.old.items x ++ k ∷ [])) }
+{
+    if log.len() >= 4_294_967_295 {
+        return Err(OutOfMemory);
+    }
+    log.push(Note { row: x, number: k })?;
+    count_note(tallies, x, k);
+    Ok(())
+}
+
+/// Puts k behind row x, unless it is the last number of that row.
+fn note_once(tallies: &mut Vec<Tally>, log: &mut Vec<Note>, x: u32, k: u32) -> Result<(), OutOfMemory>
+    requires tallies { AreTallies tallies.old.items log.old.items }
+    requires row { x < length tallies.old.items }
+    ensures tallies { AreTallies tallies.new.items log.new.items }
+    ensures long { length tallies.new.items ≡ length tallies.old.items }
+    ensures rows { OnOk result (rows_of (length tallies.old.items) log.new.items ≡ noted (rows_of (length tallies.old.items) log.old.items) x k) }
+{
+    if is_last(tallies[x as usize], k) {
+        return Ok(());
+    }
+    add_note(tallies, log, x, k)?;
+    Ok(())
+}
+
+/// Where each row begins. `log` is read by the clauses alone.
+fn starts(alloc: Global, tallies: &[Tally], log: &[Note]) -> Result<Vec<u32>, OutOfMemory>
+    requires { AreTallies tallies.now log.now }
+    ensures { IfOk result (λ starts. AreStarts (length tallies.now) log.now starts.items) }
+{
+    let mut starts = Vec::with_capacity(alloc, tallies.len())?;
+    let mut next: u32 = 0;
+    for x in 0..tallies.len() {
+        starts.push(next)?;
+        next += tallies[x].count;
+    }
+    Ok(starts)
+}
+
+/// Puts all that was noted where it stands, and makes of where each row begins where it ends.
+fn put_notes(log: &[Note], places: &mut Vec<u32>, flat: &mut Vec<u32>)
+    requires few { length log.now < 4294967296 }
+    requires rows { AreIn (length places.old.items) log.now }
+    requires starts { AreStarts (length places.old.items) log.now places.old.items }
+    requires long { length flat.old.items ≡ length log.now }
+    ensures ends { AreEnds (length places.old.items) log.now places.new.items }
+    ensures laid { AreLaid (length places.old.items) log.now flat.new.items }
+{
+    for k in 0..log.len() {
+        let note = log[k];
+        let at = places[note.row as usize];
+        flat[at as usize] = note.number;
+        places[note.row as usize] = at + 1;
+    }
+}
+
+/// The part of the list that stands there.
+fn part(flat: &[u32], from: usize, to: usize) -> &[u32]
+    requires order { from ≤ to }
+    requires end { to ≤ length flat.now }
+    ensures { result.now ≡ slice_range flat.now from to }
+{
+    &flat[from..to]
+}
+
+/// The rows, each in a place of its own. `log` is read by the clauses alone.
+fn cut_rows(alloc: Global, log: &[Note], ends: &[u32], flat: &[u32]) -> Result<Graph, OutOfMemory>
+    requires rows { AreIn (length ends.now) log.now }
+    requires ends { AreEnds (length ends.now) log.now ends.now }
+    requires laid { AreLaid (length ends.now) log.now flat.now }
+    ensures { IfOk result (λ g. g ≡ rows_of (length ends.now) log.now) }
+{
+    let mut rows = Graph::with_room(alloc, ends.len(), flat.len())?;
+    let mut from: usize = 0;
+    for x in 0..ends.len() {
+        let to = ends[x] as usize;
+        rows.push(part(flat, from, to))?;
+        from = to;
+    }
+    Ok(rows)
+}
+
+/// The rows of all that was noted.
+fn packed(alloc: Global, tallies: &[Tally], log: &[Note]) -> Result<Graph, OutOfMemory>
+    requires { AreTallies tallies.now log.now }
+    ensures { IfOk result (λ g. g ≡ rows_of (length tallies.now) log.now) }
+{
+    let mut places = starts(alloc, tallies, log)?;
+    let mut flat = vec![in alloc; 0u32; log.len()]?;
+    put_notes(log, &mut places, &mut flat);
+    cut_rows(alloc, log, places.as_slice(), flat.as_slice())
+}
+
+/// How many numbers row x has. `log` is read by the clauses alone.
+fn count_in(tallies: &[Tally], log: &[Note], x: u32) -> u32
+    requires tallies { AreTallies tallies.now log.now }
+    requires row { x < length tallies.now }
+    ensures { result ≡ length (row_of log.now x) }
+{
+    tallies[x as usize].count
+}
+
+/// No tallies of rows in which something was noted.
+fn no_tallies(alloc: Global, count: u32) -> Result<Vec<Tally>, OutOfMemory>
+    ensures long { IfOk result (λ tallies. length tallies.items ≡ count) }
+    ensures none { IfOk result (λ tallies. AreTallies tallies.items []) }
+{
+    let tallies = vec![in alloc; Tally { count: 0, last: 0 }; count as usize]?;
+    Ok(tallies)
+}
+
+impl Notes {
+    /// So many empty rows, with room for so many numbers.
+    pub fn empty(alloc: Global, count: u32, room: usize) -> Result<Notes, OutOfMemory>
+        ensures { IfOk result (λ notes. notes ≡ replicate count []) }
+    {
+        let tallies = no_tallies(alloc, count)?;
+        let log = Vec::with_capacity(alloc, room)?;
+        Ok(Notes { tallies, log })
+    }
+
+    /// How many numbers row x has.
+    pub fn count(&self, x: u32) -> u32
+        requires { x < length self.now }
+        ensures { result ≡ length (slice_index_or self.now x []) }
+    {
+        count_in(&self.tallies, &self.log, x)
+    }
+
+    /// Puts k behind row x, unless it is the last number of that row. There is room for 4,294,967,295 numbers at most: one more is
+    /// refused as want of memory, and so nothing is put.
+    pub fn note(&mut self, x: u32, k: u32) -> Result<(), OutOfMemory>
+        requires { x < length self.old }
+        ensures { OnOk result (self.new ≡ noted self.old x k) }
+    {
+        note_once(&mut self.tallies, &mut self.log, x, k)
+    }
+
+    /// The rows, one behind the other.
+    pub fn packed(&self, alloc: Global) -> Result<Graph, OutOfMemory>
+        ensures { IfOk result (λ g. g ≡ self.now) }
+    {
+        packed(alloc, &self.tallies, &self.log)
+    }
+}
