@@ -1,7 +1,8 @@
 //! For each node of a design the other nodes that read it, and those that it reads.
 //!
-//! The layers above may rely on this: a row lists each node once. The rows of `readers_of` and `sources_of` are in ascending order.
-//! Those of `sorted_rows` have the same nodes; in which order is no clause, and only the time that a search takes hangs on it.
+//! The layers above may rely on this: a row lists each node once. The rows of `packed_readers_of` and `sources_of` are in ascending
+//! order. Those of `sorted_rows` have the same nodes; in which order is no clause, and only the time that a search takes hangs on it.
+//! `Notes` are rows that grow in any order, for these and for the layers above.
 #![tactic(auto)]
 
 mod notes;

@@ -4,7 +4,6 @@ use Rattle.std.specs.Prelude.{slice_index}
 use Rattle.std.specs.List.{range_with_len}
 use Rattle.std.proofs.lemmas.Bool.{eq-eqb, eqb-true, cases_eq, cases_lt}
 use Rattle.std.proofs.lemmas.List.{length_push, get_or_append_left, get_or_push, get_or-set_same, get_or-set_other, take_more}
-use Rattle.std.proofs.lemmas.List.FromFn.{length-range_with_len}
 use Rattle.std.proofs.lemmas.List.Elements.{All-append, All-take, filter_passes}
 use Rattle.std.proofs.lemmas.Option.{slice_get_within, get_or_from_slice_get}
 use Rattle.node_reads.specs.Noting.{noted, related, Lists, ListsMarked}
@@ -78,9 +77,6 @@ module _ (n : Net) (parts : PlainParts) (voted : ℕ → ℕ → Bool) where
 
       more : (xs : List ℕ) → length (xs ++ p ∷ []) ≡ suc (length xs)
       more xs = omega (arith, length_push xs p)
-
-  pub rank_few : (x p : ℕ) → voter_rank n parts voted x p ≤ p
-  rank_few x p = omega (arith, passing_few (λ z. needs n parts voted z x) (range_with_len 0 p), length-range_with_len 0 p)
 
   -- ---- what a place tells
 

@@ -1,4 +1,4 @@
-use Rattle.std.proofs.Common.{◌≡◌, ◌+◌, ◌<◌, ℕ, List, sym, subst, ap, ◌∙◌, arith}
+use Rattle.std.proofs.Common.{◌≡◌, ◌+◌, ◌<◌, ℕ, List, length, sym, subst, ap, ◌∙◌, arith}
 use Rattle.std.specs.Prelude.{slice_index}
 use Rattle.node_reads.specs.Noting.{Lists, noted}
 use Rattle.triplicate.specs.Private.Noted.{is_in}
@@ -12,3 +12,9 @@ loop-y-preserved c =
     subst (λ (rows : List (List ℕ)). Lists (is_in c.args.parts.now) (c.loop-y.y + 1) c.args.parts.now.count rows)
     (sym (c.in_ok-note.ensures ∙ ap (λ p. noted c.loop-y.rows p c.loop-y.y) part))
     (member_noted c.args.parts.now c.loop-y.y c.args.parts.now.count c.loop-y.rows c.loop-y.invariant below)
+
+pub returns : goal.returns
+returns c =
+    let end : c.loop-y.y ≡ length c.args.n.now.net.nodes = omega (arith, c.loop-y-test.false, c.nodes_of-y-end.ensures.count) in
+    subst (λ (rows : List (List ℕ)). Lists (is_in c.args.parts.now) (length c.args.n.now.net.nodes) c.args.parts.now.count rows) (sym c.in_ok-packed.ensures)
+    (subst (λ (k : ℕ). Lists (is_in c.args.parts.now) k c.args.parts.now.count c.loop-y.rows) end c.loop-y.invariant)
