@@ -13,8 +13,9 @@ use Rattle.std.proofs.lemmas.List.Sorted.{length_permutation}
 use Rattle.flat_net.specs.Net.{Net}
 use Rattle.partitioner.specs.declared.counts.partitioning.Partitioning.{Partitioning}
 use Rattle.partitioner.specs.declared.costs.gains.Gains.{Gains}
+use Rattle.partitioner.specs.declared.costs.gains.Spot.{Spot}
 use Rattle.partitioner.specs.Below.{one_if}
-use Rattle.partitioner.specs.Private.Gaining.{AreBegun, AreGains, AreKept, IsCounted, IsMost, is_near, last_in, near_in}
+use Rattle.partitioner.specs.Private.Gaining.{AreBegun, AreGains, AreKept, IsCounted, IsMost, is_near, last_in, near_in, spot_at}
 use Rattle.partitioner.specs.Private.Loss.{is_fresh, is_kept, is_wanted, loss}
 use Rattle.node_reads.specs.Sources.{reads_other, other_readers, other_sources}
 use Rattle.partitioner.specs.Private.Tracking.{Tracks}
@@ -55,26 +56,33 @@ most_goes_on counts after most q is more = record { above = λ r. above_at r (ca
         let one : one_if (eqb q q) ≡ 1 = ap one_if (eq-eqb q q refl) in
         omega (arith, more q, one, h q)
 
--- one more in partition q, in this turn
-pub near_raised : (near last : List ℕ) (from turn q r now : ℕ) → q < length near → q < length last → from < turn → now ≡ cond (ltb from (get_or last q 0)) (get_or near q 0) 0
-    → cond (ltb from (get_or (set last q turn) r 0)) (get_or (set near q (now + 1)) r 0) 0 ≡ cond (ltb from (get_or last r 0)) (get_or near r 0) 0 + one_if (eqb q r)
-near_raised near last from turn q r now l l' begun is = go (cases_eq q r)
-  where
-    here : cond (ltb from (get_or (set last q turn) q 0)) (get_or (set near q (now + 1)) q 0) 0 ≡ now + 1
-    here =
-        ap (λ (k : ℕ). cond (ltb from k) (get_or (set near q (now + 1)) q 0) 0) (get_or-set_same last q turn 0 l')
-        ∙ (ap (λ (b : Bool). cond b (get_or (set near q (now + 1)) q 0) 0) (lt-ltb from turn begun) ∙ get_or-set_same near q (now + 1) 0 l)
+-- how many are near in a partition, where what was counted up to turn `from` is forgotten
+abbrev pub near_since : ℕ → Spot → ℕ
+near_since from spot = cond (ltb from spot.last) spot.near 0
 
-    go : (q ≡ r) ⊎ (q ≡ r → ⊥) → cond (ltb from (get_or (set last q turn) r 0)) (get_or (set near q (now + 1)) r 0) 0 ≡ cond (ltb from (get_or last r 0)) (get_or near r 0) 0 + one_if (eqb q r)
+-- one more in partition q, in this turn
+pub near_raised : (spots : List Spot) (from turn q r now : ℕ) → q < length spots → from < turn → now ≡ near_since from (spot_at spots q)
+    → near_since from (spot_at (set spots q (record { near = now + 1; last = turn })) r) ≡ near_since from (spot_at spots r) + one_if (eqb q r)
+near_raised spots from turn q r now l begun is = go (cases_eq q r)
+  where
+    raised : Spot
+    raised = record { near = now + 1; last = turn }
+
+    here : near_since from (spot_at (set spots q raised) q) ≡ now + 1
+    here =
+        ap (near_since from) (get_or-set_same spots q raised (record { near = 0; last = 0 }) l)
+        ∙ ap (λ (b : Bool). cond b (now + 1) 0) (lt-ltb from turn begun)
+
+    go : (q ≡ r) ⊎ (q ≡ r → ⊥) → near_since from (spot_at (set spots q raised) r) ≡ near_since from (spot_at spots r) + one_if (eqb q r)
     go (inl e) =
         let one : one_if (eqb q r) ≡ 1 = ap one_if (eq-eqb q r e) in
-        let at : cond (ltb from (get_or (set last q turn) r 0)) (get_or (set near q (now + 1)) r 0) 0 ≡ now + 1 = subst (λ (k : ℕ). cond (ltb from (get_or (set last q turn) k 0)) (get_or (set near q (now + 1)) k 0) 0 ≡ now + 1) e here in
-        let was : now ≡ cond (ltb from (get_or last r 0)) (get_or near r 0) 0 = subst (λ (k : ℕ). now ≡ cond (ltb from (get_or last k 0)) (get_or near k 0) 0) e is in
+        let at : near_since from (spot_at (set spots q raised) r) ≡ now + 1 = subst (λ (k : ℕ). near_since from (spot_at (set spots q raised) k) ≡ now + 1) e here in
+        let was : now ≡ near_since from (spot_at spots r) = subst (λ (k : ℕ). now ≡ near_since from (spot_at spots k)) e is in
         omega (arith, one, at, was)
     go (inr ne) =
         let none : one_if (eqb q r) ≡ 0 = ap one_if (ne_eqb q r ne) in
-        let at : cond (ltb from (get_or (set last q turn) r 0)) (get_or (set near q (now + 1)) r 0) 0 ≡ cond (ltb from (get_or last r 0)) (get_or near r 0) 0 =
-        ap (λ (k : ℕ). cond (ltb from k) (get_or (set near q (now + 1)) r 0) 0) (get_or-set_other last q r turn 0 (λ e. ne (sym e))) ∙ ap (λ (k : ℕ). cond (ltb from (get_or last r 0)) k 0) (get_or-set_other near q r (now + 1) 0 (λ e. ne (sym e))) in
+        let at : near_since from (spot_at (set spots q raised) r) ≡ near_since from (spot_at spots r) =
+        ap (near_since from) (get_or-set_other spots q r raised (record { near = 0; last = 0 }) (λ e. ne (sym e))) in
         omega (arith, none, at)
 
 plus_none : (a : ℕ) → a ≡ a + 0
@@ -199,8 +207,7 @@ pub record IsTurned (old new : Gains) (count : ℕ) (met : ℕ → Bool) : Type 
   pub counted : new.counted ≡ old.counted
   pub from : new.from ≡ old.from
   pub turn : new.turn ≡ old.turn
-  pub near_long : length new.near.items ≡ count
-  pub last_long : length new.last.items ≡ count
+  pub long : length new.spots.items ≡ count
   pub most : IsMost (near_in new) new.most
 
 -- a turn at its end
@@ -233,7 +240,6 @@ pub record Gained (n : Net) (p : Partitioning) (i : ℕ) (row : List ℕ) (gains
   pub kept : AreKept p.count gains
   pub counted : gains.counted ≡ j
   pub turn : gains.turn ≡ gains.from + 1 + j
-  pub few : gains.from ≤ 9223372036854775808
   pub near : (q : ℕ) → near_in gains q ≡ one_if (is_wanted n p.of.items i q) + count_by (is_near n p.of.items i q) (take j row)
   pub most : IsMost (near_in gains) gains.most
 
@@ -245,7 +251,7 @@ none_near from last near l = ap (λ (b : Bool). cond b near 0) (ltb_past from la
 
 -- nothing is near at first
 pub begun_none : (count : ℕ) (gains : Gains) → AreBegun count gains → (q : ℕ) → near_in gains q ≡ 0
-begun_none count gains is q = none_near gains.from (last_in gains q) (get_or gains.near.items q 0) (omega (arith, is.kept.past q, is.now))
+begun_none count gains is q = none_near gains.from (last_in gains q) (spot_at gains.spots.items q).near (omega (arith, is.kept.past q, is.now))
 
 -- what is near in a partition and what is missed there are all nodes that are counted, and one
 pub missed_in_all : (n : Net) (p : Partitioning) (i q : ℕ) (gains : Gains) → AreGains n p i gains
@@ -262,7 +268,6 @@ gained_first n p i row old new is kept counted from turn near most = record {
   kept = kept;
   counted = omega (arith, counted, is.none);
   turn = omega (arith, turn, from, is.now);
-  few = omega (arith, from, is.now, is.few);
   near = λ q. near q ∙ plus_none (one_if (is_wanted n p.of.items i q));
   most = most;
 }
@@ -276,7 +281,6 @@ gained_more n p i row old new j is l kept counted from turn near most = record {
   kept = kept;
   counted = omega (arith, counted, is.counted);
   turn = omega (arith, turn, from, is.turn);
-  few = omega (arith, from, is.few);
   near = λ q. omega (arith, near q, is.near q, sum_by_more (λ x. one_if (is_near n p.of.items i q x)) row j 0 l);
   most = most;
 }

@@ -1,8 +1,8 @@
 //! What a node gains in each partition: how many of the nodes that it reads are near there, and whether it is read there.
-ghost use Rattle.std.specs.Prelude.{◌≡◌, ◌<◌, ◌≤◌, ◌+◌, ◌-◌, ◌==◌, ◌&&◌, not, ℕ, Bool, [], length, take, slice_index, slice_index_or, count_by, if◌then◌else◌, IfOk};
+ghost use Rattle.std.specs.Prelude.{◌≡◌, ◌<◌, ◌≤◌, ◌+◌, ◌-◌, ◌==◌, ◌&&◌, not, nat_lt, ℕ, Bool, [], length, take, slice_index_or, count_by, if◌then◌else◌, IfOk};
 ghost use Rattle.flat_net.specs.Net.{Net};
 ghost use Rattle.partitioner.specs.Below.{one_if};
-ghost use Rattle.partitioner.specs.Private.Gaining.{AreBegun, AreGains, AreKept, IsCounted, IsMost, LoseAtLeast, is_near, last_in, near_in};
+ghost use Rattle.partitioner.specs.Private.Gaining.{AreBegun, AreGains, AreKept, IsCounted, IsMost, LoseAtLeast, is_near, last_in, near_in, spot_at};
 ghost use Rattle.partitioner.specs.Private.Loss.{is_fresh, is_wanted};
 ghost use Rattle.partitioner.specs.Private.Tracking.{Tracks};
 
@@ -12,48 +12,52 @@ use flat_net::{FlatNet, nodes_of};
 use std::alloc::Global;
 use tmr_base::OutOfMemory;
 
+/// In a partition, how many are near, and the turn in which something was counted last.
+#[derive(Clone, Copy, Drop)]
+pub struct Spot {
+    pub near: u32,
+    pub last: u32,
+}
+
 /// For one node and each partition, how many of the first `counted` nodes that the one reads are near:
 /// they stand there, or others read them there. Where others read the one itself, it counts as one more.
 /// `most` is the highest of these counts.
 ///
 /// Each of the nodes has a turn of its own, after one for the readers. A partition in which nothing was
-/// counted since turn `from` has no count, whatever stands in `near`: so nothing need be cleared before the
-/// next node.
+/// counted since turn `from` has no count, whatever its spot says is near: so nothing need be cleared before
+/// the next node.
 #[derive(Drop)]
 pub struct Gains {
     pub counted: u32,
     pub most: u32,
-    pub from: u64,
-    pub turn: u64,
-    pub near: Vec<u32>,
-    pub last: Vec<u64>,
+    pub from: u32,
+    pub turn: u32,
+    pub spots: Vec<Spot>,
 }
 
 /// No counts, of so many partitions.
 pub fn no_gains(alloc: Global, count: u32) -> Result<Gains, OutOfMemory>
     ensures { IfOk result (λ gains. AreKept count gains) }
 {
-    let near = vec![in alloc; 0u32; count as usize]?;
-    let last = vec![in alloc; 0u64; count as usize]?;
+    let spots = vec![in alloc; Spot { near: 0, last: 0 }; count as usize]?;
     Ok(Gains {
         counted: 0,
         most: 0,
         from: 0,
         turn: 0,
-        near,
-        last,
+        spots,
     })
 }
 
 /// Forgets in which turns something was counted.
 fn forget(gains: &mut Gains)
-    ensures near { gains.new.near.items ≡ gains.old.near.items }
-    ensures long { length gains.new.last.items ≡ length gains.old.last.items }
+    ensures near { (q : ℕ) → (spot_at gains.new.spots.items q).near ≡ (spot_at gains.old.spots.items q).near }
+    ensures long { length gains.new.spots.items ≡ length gains.old.spots.items }
     ensures last { (q : ℕ) → last_in gains.new q ≡ 0 }
     ensures turn { gains.new.turn ≡ 0 }
 {
-    for q in 0..gains.last.len() {
-        gains.last[q] = 0;
+    for q in 0..gains.spots.len() {
+        gains.spots[q].last = 0;
     }
     gains.turn = 0;
 }
@@ -64,7 +68,7 @@ pub fn begin(gains: &mut Gains, count: u32)
     ensures begun { AreBegun count gains.new }
     ensures near { (q : ℕ) → near_in gains.new q ≡ 0 }
 {
-    if gains.turn > 9_223_372_036_854_775_808 {
+    if gains.turn > 2_147_483_648 {
         forget(gains);
     }
     gains.from = gains.turn;
@@ -72,41 +76,44 @@ pub fn begin(gains: &mut Gains, count: u32)
     gains.most = 0;
 }
 
+/// How many are near in a partition, where what was counted up to turn `from` is forgotten.
+fn near_since(spot: Spot, from: u32) -> u32
+    ensures { result ≡ (if nat_lt from spot.last then spot.near else 0) }
+{
+    if from < spot.last { spot.near } else { 0 }
+}
+
 /// How many are counted in partition q.
 fn near_in(gains: &Gains, q: u32) -> u32
-    requires near_long { q < length gains.now.near.items }
-    requires last_long { q < length gains.now.last.items }
+    requires { q < length gains.now.spots.items }
     ensures { result ≡ near_in gains.now q }
 {
-    if gains.from < gains.last[q as usize] {
-        gains.near[q as usize]
-    } else {
-        0
-    }
+    near_since(gains.spots[q as usize], gains.from)
 }
 
 /// Counts one more in partition q, unless it was counted there in this turn.
 fn count_once(gains: &mut Gains, q: u32)
-    requires near_long { q < length gains.old.near.items }
-    requires last_long { q < length gains.old.last.items }
+    requires long { q < length gains.old.spots.items }
     requires turn { gains.old.from < gains.old.turn }
     requires few { near_in gains.old q < 4294967295 }
     requires most { IsMost (near_in gains.old) gains.old.most }
     ensures counted { gains.new.counted ≡ gains.old.counted }
     ensures from { gains.new.from ≡ gains.old.from }
     ensures turn { gains.new.turn ≡ gains.old.turn }
-    ensures near_long { length gains.new.near.items ≡ length gains.old.near.items }
-    ensures last_long { length gains.new.last.items ≡ length gains.old.last.items }
+    ensures long { length gains.new.spots.items ≡ length gains.old.spots.items }
     ensures near { (r : ℕ) → near_in gains.new r ≡ near_in gains.old r + one_if (q == r && not (last_in gains.old r == gains.old.turn)) }
     ensures last { (r : ℕ) → last_in gains.new r ≡ (if q == r then gains.old.turn else last_in gains.old r) }
     ensures most { IsMost (near_in gains.new) gains.new.most }
 {
-    if gains.last[q as usize] == gains.turn {
+    let spot = gains.spots[q as usize];
+    if spot.last == gains.turn {
         return;
     }
-    let near = near_in(gains, q) + 1;
-    gains.near[q as usize] = near;
-    gains.last[q as usize] = gains.turn;
+    let near = near_since(spot, gains.from) + 1;
+    gains.spots[q as usize] = Spot {
+        near,
+        last: gains.turn,
+    };
     gains.most = gains.most.max(near);
 }
 
@@ -116,8 +123,7 @@ fn count_source(n: &FlatNet, p: &Partitioning, gains: &mut Gains, i: u32, x: u32
     requires node { i < length n.now.net.nodes }
     requires source { x < length n.now.net.nodes }
     requires readers { readers.now ≡ slice_index_or p.now.readers x [] }
-    requires near_long { length gains.old.near.items ≡ p.now.count }
-    requires last_long { length gains.old.last.items ≡ p.now.count }
+    requires long { length gains.old.spots.items ≡ p.now.count }
     requires begun { gains.old.from < gains.old.turn }
     requires turn { (q : ℕ) → last_in gains.old q < gains.old.turn }
     requires few { (q : ℕ) → near_in gains.old q < 4294967294 }
@@ -156,7 +162,7 @@ fn count_readers(n: &FlatNet, p: &Partitioning, gains: &mut Gains, i: u32)
 }
 
 /// Counts where node i is read, and then the nodes that it reads, from the first to one that has over eight
-/// times more readers than node i reads nodes.
+/// times more readers than node i reads nodes, or until turns run out.
 pub fn count_gains(n: &FlatNet, p: &Partitioning, gains: &mut Gains, i: u32)
     requires tracks { Tracks n.now.net p.now }
     requires node { i < length n.now.net.nodes }
@@ -169,7 +175,7 @@ pub fn count_gains(n: &FlatNet, p: &Partitioning, gains: &mut Gains, i: u32)
     let row = p.sources.row(i);
     for x in row {
         let readers = p.readers.row(*x);
-        if readers.len() / 8 > row.len() {
+        if readers.len() / 8 > row.len() || gains.turn == u32::MAX {
             return;
         }
         gains.turn += 1;

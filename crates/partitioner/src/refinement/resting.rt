@@ -14,9 +14,9 @@ use tmr_base::OutOfMemory;
 /// Times are those of the clock, which each move of a node puts forward. 0 is never.
 #[derive(Drop)]
 pub struct Rest {
-    pub clock: u64,
-    pub changed: Vec<u64>,
-    pub rested: Vec<u64>,
+    pub clock: u32,
+    pub changed: Vec<u32>,
+    pub rested: Vec<u32>,
 }
 
 /// No node rests.
@@ -24,8 +24,8 @@ pub fn no_rest(alloc: Global, n: &FlatNet) -> Result<Rest, OutOfMemory>
     ensures { IfOk result (λ rest. (of : List ℕ) → Rests n.now.net of rest) }
 {
     let nodes = nodes_of(n);
-    let changed = vec![in alloc; 0u64; nodes as usize]?;
-    let rested = vec![in alloc; 0u64; nodes as usize]?;
+    let changed = vec![in alloc; 0u32; nodes as usize]?;
+    let rested = vec![in alloc; 0u32; nodes as usize]?;
     Ok(Rest {
         clock: 1,
         changed,
@@ -64,7 +64,7 @@ pub fn note_rest(rest: &mut Rest, i: u32)
 }
 
 /// Makes all these times 0.
-fn clear(times: &mut Vec<u64>)
+fn clear(times: &mut Vec<u32>)
     ensures long { length times.new.items ≡ length times.old.items }
     ensures never { (j : ℕ) → slice_index times.new.items j ≡ 0 }
 {
@@ -81,7 +81,7 @@ fn advance(rest: &mut Rest)
     ensures later { (j : ℕ) → rested_at rest.new j < rest.new.clock }
     ensures kept { (n : Net) (j : ℕ) → IsResting n rest.new j → IsResting n rest.old j }
 {
-    if rest.clock > 9_223_372_036_854_775_808 {
+    if rest.clock > 2_147_483_648 {
         clear(&mut rest.changed);
         clear(&mut rest.rested);
         rest.clock = 0;
@@ -90,7 +90,7 @@ fn advance(rest: &mut Rest)
 }
 
 /// Sets the times of the nodes of a row.
-fn set_times(times: &mut Vec<u64>, row: &[u32], now: u64)
+fn set_times(times: &mut Vec<u32>, row: &[u32], now: u32)
     requires { All (λ x. x < length times.old.items) row.now }
     ensures long { length times.new.items ≡ length times.old.items }
     ensures row { All (λ x. slice_index times.new.items x ≡ now) row.now }

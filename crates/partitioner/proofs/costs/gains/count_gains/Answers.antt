@@ -25,8 +25,8 @@ overflow_add-gains-in-loop-x c =
 pub loop-x-preserved : goal.loop-x-preserved
 loop-x-preserved c =
     gained_more c.args.n.now.net c.args.p.now c.args.i c.row-row.result.now c.loop-x.gains
-    (record { counted = c.count_source.new.gains.counted + 1; most = c.count_source.new.gains.most; from = c.count_source.new.gains.from; turn = c.count_source.new.gains.turn; near = c.count_source.new.gains.near; last = c.count_source.new.gains.last }) c.loop-x.x-index
-    c.loop-x.invariant c.loop-x-test.true (record { near_long = c.count_source.ensures.kept.near_long; last_long = c.count_source.ensures.kept.last_long; past = c.count_source.ensures.kept.past })
+    (record { counted = c.count_source.new.gains.counted + 1; most = c.count_source.new.gains.most; from = c.count_source.new.gains.from; turn = c.count_source.new.gains.turn; spots = c.count_source.new.gains.spots }) c.loop-x.x-index
+    c.loop-x.invariant c.loop-x-test.true (record { long = c.count_source.ensures.kept.long; past = c.count_source.ensures.kept.past })
     (ap (λ (k : ℕ). k + 1) c.count_source.ensures.counted) c.count_source.ensures.from c.count_source.ensures.turn c.count_source.ensures.near c.count_source.ensures.most
 
 pub loop-x-init : goal.loop-x-init

@@ -32,8 +32,7 @@ loop-y-preserved c =
       counted = new.counted ∙ is.counted;
       from = new.from ∙ is.from;
       turn = new.turn ∙ is.turn;
-      near_long = new.near_long ∙ is.near_long;
-      last_long = new.last_long ∙ is.last_long;
+      long = new.long ∙ is.long;
       most = new.most;
     }
 

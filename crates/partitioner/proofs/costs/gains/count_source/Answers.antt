@@ -33,8 +33,7 @@ loop-y-preserved c =
             counted = new.counted ∙ is.counted;
             from = new.from ∙ is.from;
             turn = new.turn ∙ is.turn;
-            near_long = new.near_long ∙ is.near_long;
-            last_long = new.last_long ∙ is.last_long;
+            long = new.long ∙ is.long;
             most = new.most;
           })
       | else-y-i w ↦
@@ -43,8 +42,7 @@ loop-y-preserved c =
             counted = is.counted;
             from = is.from;
             turn = is.turn;
-            near_long = is.near_long;
-            last_long = is.last_long;
+            long = is.long;
             most = is.most;
           })
     ]
