@@ -225,8 +225,7 @@ row_split log k x = ap (λ (l : List Note). row_of l x) (sym (take-append-drop k
 pub row_longer : (log : List Note) (k : ℕ) (note : Note) → k < length log → note ≡ get_or log k note → length (row_of (take k log) note.row) < length (row_of log note.row)
 row_longer log k note l e =
     let more : row_of (take (k + 1) log) note.row ≡ row_of (take k log) note.row ++ note.number ∷ [] = taken_more log k note note.row l e ∙ ap (λ (r : List ℕ). row_of (take k log) note.row ++ r) (own_here note note.row refl) in
-    omega
-    (
+    omega (
       arith,
       ap length more,
       length_push (row_of (take k log) note.row) note.number,

@@ -63,7 +63,12 @@ fn count_note(tallies: &mut Vec<Tally>, x: u32, k: u32)
 }
 
 /// Puts k behind row x.
-fn add_note(tallies: &mut Vec<Tally>, log: &mut Vec<Note>, x: u32, k: u32) -> Result<(), OutOfMemory>
+fn add_note(
+    tallies: &mut Vec<Tally>,
+    log: &mut Vec<Note>,
+    x: u32,
+    k: u32,
+) -> Result<(), OutOfMemory>
     requires tallies { AreTallies tallies.old.items log.old.items }
     requires row { x < length tallies.old.items }
     ensures tallies { AreTallies tallies.new.items log.new.items }
@@ -79,7 +84,12 @@ fn add_note(tallies: &mut Vec<Tally>, log: &mut Vec<Note>, x: u32, k: u32) -> Re
 }
 
 /// Puts k behind row x, unless it is the last number of that row.
-fn note_once(tallies: &mut Vec<Tally>, log: &mut Vec<Note>, x: u32, k: u32) -> Result<(), OutOfMemory>
+fn note_once(
+    tallies: &mut Vec<Tally>,
+    log: &mut Vec<Note>,
+    x: u32,
+    k: u32,
+) -> Result<(), OutOfMemory>
     requires tallies { AreTallies tallies.old.items log.old.items }
     requires row { x < length tallies.old.items }
     ensures tallies { AreTallies tallies.new.items log.new.items }

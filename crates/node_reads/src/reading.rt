@@ -5,8 +5,8 @@ ghost use Rattle.flat_net.specs.Net.{Net, node_of, pins_at};
 ghost use Rattle.node_reads.specs.Noting.{ends_in, noted, Lists, ListsMarked};
 ghost use Rattle.node_reads.specs.Sources.{reads_other, is_source, marked_by_pins, AreReaders, AreSources};
 
-use flat_net::{FlatNet, nodes_of};
 use crate::notes::Notes;
+use flat_net::{FlatNet, nodes_of};
 use graph::Graph;
 use std::alloc::Global;
 use tmr_base::{NetId, OutOfMemory};

@@ -14,7 +14,7 @@ returns-clause-tallies c =
     let few : length c.args.log.now.items + 1 < 4294967296 = omega (arith, c.if-len-ge4294967295.false, c.len.ensures) in
     subst (λ (tallies : List Tally). AreTallies tallies c.push.new.self.items) (sym c.count_note.ensures)
     (subst (AreTallies _) (sym c.in_ok-push.ensures.items)
-      (tallies_pushed c.args.tallies.now.items c.args.log.now.items (record { row = c.args.x; number = c.args.k }) c.requires.tallies c.requires.row few))
+    (tallies_pushed c.args.tallies.now.items c.args.log.now.items (record { row = c.args.x; number = c.args.k }) c.requires.tallies c.requires.row few))
 
 pub returns-clause-rows : goal.returns-clause-rows
 returns-clause-rows c =

@@ -20,6 +20,6 @@ loop-x-preserved c =
     let row : c.part.result.now ≡ row_of c.args.log.now c.loop-x.x = c.part.ensures ∙ row_cut (length c.args.ends.now) c.args.log.now c.args.flat.now c.loop-x.x c.loop-x.from (slice_index c.args.ends.now c.loop-x.x) c.requires.rows c.requires.laid c.loop-x-test.true c.loop-x.invariant.from (c.requires.ends.each c.loop-x.x c.loop-x-test.true) in
     record {
       rows = c.in_ok-push.ensures
-      ∙ (ap (λ (r : List ℕ). c.loop-x.rows ++ r ∷ []) row ∙ (ap (λ (rs : List (List ℕ)). rs ++ row_of c.args.log.now c.loop-x.x ∷ []) c.loop-x.invariant.rows ∙ sym (rows_more c.args.log.now c.loop-x.x)));
+          ∙ (ap (λ (r : List ℕ). c.loop-x.rows ++ r ∷ []) row ∙ (ap (λ (rs : List (List ℕ)). rs ++ row_of c.args.log.now c.loop-x.x ∷ []) c.loop-x.invariant.rows ∙ sym (rows_more c.args.log.now c.loop-x.x)));
       from = c.requires.ends.each c.loop-x.x c.loop-x-test.true ∙ ap (λ (k : ℕ). start_in c.args.log.now k) more;
     }

@@ -17,8 +17,7 @@ pub overflow_add-at : goal.overflow_add-at
 overflow_add-at c =
     let row = c.requires.rows c.loop-k.k no_note c.loop-k-test.true in
     let at : c.index-at.result.now ≡ slice_index c.loop-k.places.items (get_or c.args.log.now c.loop-k.k no_note).row = c.index-at.ensures ∙ get_or_default c.loop-k.places.items (get_or c.args.log.now c.loop-k.k no_note).row c.index-at.result.now 0 (omega (arith, row, c.loop-k.invariant.places_long)) in
-    omega
-    (
+    omega (
       arith,
       at_within (length c.args.places.now.items) c.args.log.now c.loop-k.k c.loop-k.places.items c.loop-k.flat.items c.index-at.result.now c.loop-k.invariant c.requires.rows c.loop-k-test.true at,
       c.loop-k.invariant.flat_long,

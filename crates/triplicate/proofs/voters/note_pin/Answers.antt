@@ -26,7 +26,7 @@ returns-clause-places c =
     let pin : c.pin-pin.result.0 ≡ slice_index (node_pins c.args.n.now.net c.args.y) c.args.j = subst (λ (a : ℕ). c.pin-pin.result.0 ≡ slice_index (pins_at (node_of c.args.n.now.net (a + c.args.y))) c.args.j) c.input_count-inputs.ensures.count c.pin-pin.ensures.value in
     let noting : IsNoting c.args.n.now.net c.args.parts.now (pin_is_voted c.args.n.now.net c.args.parts.now c.args.votes.now) c.of-part.result c.args.rows.now = subst (λ (p : ℕ). IsNoting c.args.n.now.net c.args.parts.now (pin_is_voted c.args.n.now.net c.args.parts.now c.args.votes.now) p c.args.rows.now) (sym c.of-part.ensures.value) c.requires.noting in
     let place : c.count.result ≡ suc (voter_rank c.args.n.now.net c.args.parts.now (pin_is_voted c.args.n.now.net c.args.parts.now c.args.votes.now) c.pin-pin.result.0 c.of-part.result) = c.count.ensures
-        ∙ (ap (λ (rs : List (List ℕ)). length (get_or rs c.pin-pin.result.0 [])) c.in_ok-note.ensures ∙ noted_place c.args.n.now.net c.args.parts.now (pin_is_voted c.args.n.now.net c.args.parts.now c.args.votes.now) c.of-part.result c.pin-pin.result.0 c.args.rows.now noting c.pin-pin.ensures.range) in
+    ∙ (ap (λ (rs : List (List ℕ)). length (get_or rs c.pin-pin.result.0 [])) c.in_ok-note.ensures ∙ noted_place c.args.n.now.net c.args.parts.now (pin_is_voted c.args.n.now.net c.args.parts.now c.args.votes.now) c.of-part.result c.pin-pin.result.0 c.args.rows.now noting c.pin-pin.ensures.range) in
     ap (λ (k : ℕ). set c.args.places.now.items c.args.at k) (place ∙ tap_is c.args.n.now.net c.args.parts.now (pin_is_voted c.args.n.now.net c.args.parts.now c.args.votes.now) c.args.y c.args.j c.pin-pin.result.0 c.of-part.result v pin c.of-part.ensures.value)
 
 pub returns-clause-noting : goal.returns-clause-noting
