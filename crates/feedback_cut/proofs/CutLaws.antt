@@ -6,7 +6,7 @@ use Rattle.tmr_base.specs.Parts.{PlainParts}
 use Rattle.flat_net.specs.Net.{Net, IsValid}
 use Rattle.graph.specs.Rows.{row}
 use Rattle.feedback_cut.specs.Inner.{ReadsInside, inner_rows}
-use Rattle.feedback_cut.specs.Cut.{is_cut, ReadsUncut, LeadsUncut, CutMeets}
+use Rattle.feedback_cut.specs.Cut.{is_cut, ReadsUncut, LeadsUncut, CutMeets, OrdersUncut}
 use Rattle.graph.specs.Search.{Kept, IsSearched}
 use Rattle.graph.proofs.Places.{leads_map}
 use Rattle.graph.proofs.Decisions.{no_absurd}
@@ -37,10 +37,12 @@ module _ (n : Net) (parts : PlainParts) (cut : List (List Bool)) (valid : IsVali
 -- the rows of the search are a cut
 pub cut_meets : (n : Net) (parts : PlainParts) (order : List ℕ) (cut : List (List Bool)) → IsValid n → IsSearched (inner_rows n parts) order cut → CutMeets n parts cut
 cut_meets n parts order cut valid s = record {
-  nodes = s.vertices ∙ inner_long n parts;
-  pins = λ y l. s.reads y ∙ inner_pins n parts y l;
-  inside = λ y j t. (get_or (row (inner_rows n parts) y) j 0, read_from n parts y j (omega (arith, s.reads y, cut_within cut y j t)) (s.inside y j t));
-  open_ended = λ x y l closes. loops x y l (kept_of_uncut n parts cut valid s.reads y x closes) closes;
+  loops = record {
+    nodes = s.vertices ∙ inner_long n parts;
+    pins = λ y l. s.reads y ∙ inner_pins n parts y l;
+    inside = λ y j t. (get_or (row (inner_rows n parts) y) j 0, read_from n parts y j (omega (arith, s.reads y, cut_within cut y j t)) (s.inside y j t));
+    open_ended = λ x y l closes. loops x y l (kept_of_uncut n parts cut valid s.reads y x closes) closes;
+  };
   needed = λ y j x t r. needed y j x t (read_to n parts valid y j x r).2;
 }
   where
@@ -51,3 +53,13 @@ cut_meets n parts order cut valid s = record {
 
     needed : (y j x : ℕ) → is_cut cut y j ≡ true → get_or (row (inner_rows n parts) y) j 0 ≡ x → LeadsUncut n parts cut y x
     needed y j x t e = subst (LeadsUncut n parts cut y) e (leads_map (Kept (inner_rows n parts) cut) (ReadsUncut n parts cut) (uncut_of_kept n parts cut valid s.reads) y (get_or (row (inner_rows n parts) y) j 0) (s.needed y j t))
+
+-- and their order is one of all nodes
+pub orders_uncut : (n : Net) (parts : PlainParts) (order : List ℕ) (cut : List (List Bool)) → IsValid n → IsSearched (inner_rows n parts) order cut → OrdersUncut n parts cut order
+orders_uncut n parts order cut valid s = record {
+  within = λ k l. omega (arith, inner_long n parts, s.within k l);
+  complete = λ x l. s.complete x (omega (arith, inner_long n parts, l));
+  once = s.once;
+  few = omega (arith, inner_long n parts, s.few);
+  after = λ k x l u. s.after k x l (kept_of_uncut n parts cut valid s.reads x (get_or order k 0) u);
+}

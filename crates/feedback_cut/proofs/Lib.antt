@@ -4,3 +4,5 @@ pub mod GatherLaws
 pub mod GroupLaws
 pub mod LoopLaws
 pub mod ComponentLaws
+pub mod TableLoops
+pub mod SelfLaws

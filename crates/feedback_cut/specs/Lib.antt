@@ -1,4 +1,5 @@
 pub mod Inner
-pub mod Cut
+pub mod Registers
 pub mod Components
+pub mod Cut
 pub mod Private

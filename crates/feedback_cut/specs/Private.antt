@@ -1,3 +1,4 @@
 pub mod Loops
 pub mod Gathering
 pub mod Numbering
+pub mod SelfReads

@@ -1,11 +1,12 @@
 //! Cut pins.
 ghost use Rattle.std.specs.Prelude.{◌≡◌, ◌<◌, length, IfOk};
 ghost use Rattle.graph.specs.Rows.{row};
-ghost use Rattle.graph.specs.Search.{IsSearched};
-ghost use Rattle.feedback_cut.specs.Cut.{is_cut, CutMeets};
+ghost use Rattle.feedback_cut.specs.Cut.{is_cut, CutMeets, CutsRegisters, OrdersUncut};
 ghost use Rattle.feedback_cut.specs.Inner.{inner_rows};
 
 use crate::inner::inner_reads;
+use crate::loop_groups::components;
+use crate::self_reads::with_self_reads;
 use flat_net::{FlatNet, nodes_of};
 use graph::{CutReads, Graph, search};
 use std::alloc::Global;
@@ -54,7 +55,7 @@ pub fn cut_in_order(alloc: Global, n: &FlatNet, parts: &Parts) -> Result<Ordered
     requires { length parts.now.of ≡ length n.now.net.nodes }
     ensures cut { IfOk result (λ found. CutMeets n.now.net parts.now found.cut) }
     ensures graph { IfOk result (λ found. found.graph ≡ inner_rows n.now.net parts.now) }
-    ensures order { IfOk result (λ found. IsSearched (inner_rows n.now.net parts.now) found.order.items found.cut) }
+    ensures order { IfOk result (λ found. OrdersUncut n.now.net parts.now found.cut found.order.items) }
 {
     let count = nodes_of(n);
     let graph = inner_reads(alloc, n, parts)?;
@@ -75,4 +76,29 @@ pub fn cut(alloc: Global, n: &FlatNet, parts: &Parts) -> Result<CutPins, OutOfMe
 {
     let found = cut_in_order(alloc, n, parts)?;
     Ok(found.cut)
+}
+
+/// The cut at registers: a pin is cut exactly where it is that of a register and stands on a loop inside its
+/// partition.
+///
+/// The search is the same, over reads in which each such register reads itself in that place. These are all
+/// that is left to be cut, since no loop goes through tables alone.
+pub fn cut_registers(alloc: Global, n: &FlatNet, parts: &Parts) -> Result<OrderedCut, OutOfMemory>
+    requires { length parts.now.of ≡ length n.now.net.nodes }
+    ensures cut { IfOk result (λ found. CutsRegisters n.now.net parts.now found.cut) }
+    ensures graph { IfOk result (λ found. found.graph ≡ inner_rows n.now.net parts.now) }
+    ensures order { IfOk result (λ found. OrdersUncut n.now.net parts.now found.cut found.order.items) }
+{
+    let count = nodes_of(n);
+    let graph = inner_reads(alloc, n, parts)?;
+    let groups = components(alloc, n, parts)?;
+    let selves = with_self_reads(alloc, n, &groups, &graph)?;
+    let searched = search(alloc, &selves, count)?;
+    Ok(OrderedCut {
+        graph,
+        order: searched.order,
+        cut: CutPins {
+            reads: searched.cut,
+        },
+    })
 }

@@ -21,6 +21,9 @@ use Rattle.blif_writer.proofs.Growth.{few_digits}
 use Rattle.blif_writer.proofs.NodeLines.{name_is}
 use Rattle.partitioner.specs.Sizes.{plain_parts}
 use Rattle.partitioner.specs.Refining.{moves, refined}
+use Rattle.triplicate.specs.declared.form.Form.{Form}
+use Rattle.triplicate.specs.declared.form.Form.TheVariants.{Plain, Lean}
+use Rattle.triplicate.specs.Choices.{ArePartsOf}
 use Rattle.tmr_base.specs.Parts.{PlainParts}
 use Rattle.triplicate.specs.Form.{IsTripled, parts_of, is_voted}
 use Rattle.hardened_size.proofs.Sums.{sum_none, sum_of_same, sum_times, sum_in_row, sum_by_number}
@@ -45,8 +48,13 @@ refined_keeps_count n size parts (suc i) = moves_keep_count n size (refined n si
 rounded_up : (m size : ℕ) → 0 < size → div_ceil m size ≤ m
 rounded_up m size pos = grind (arith)
 
-few_parts : (n : Net) (k : PlainCert) (size : ℕ) → 0 < size → parts_of k ≡ refined n size (plain_parts n size) 8 → length k.depth ≤ length n.nodes
-few_parts n k size pos e = omega (arith, ap (λ (parts : PlainParts). parts.count) e, refined_keeps_count n size (plain_parts n size) 8, rounded_up (length n.nodes) size pos)
+-- neither form has more partitions than the size asks for
+parts_count : (kind : Form) (n : Net) (size : ℕ) (parts : PlainParts) → ArePartsOf kind n size parts → parts.count ≤ div_ceil (length n.nodes) size
+parts_count Plain n size parts e = omega (arith, ap (λ (p : PlainParts). p.count) e ∙ refined_keeps_count n size (plain_parts n size) 8)
+parts_count Lean n size parts e = omega (arith, ap (λ (p : PlainParts). p.count) e.exact ∙ refined_keeps_count n size e.start 8, e.keeps.count)
+
+few_parts : (kind : Form) (n : Net) (k : PlainCert) (size : ℕ) → 0 < size → ArePartsOf kind n size (parts_of k) → length k.depth ≤ length n.nodes
+few_parts kind n k size pos e = omega (arith, parts_count kind n size (parts_of k) e, rounded_up (length n.nodes) size pos)
 
 -- ---- lines
 
@@ -120,9 +128,9 @@ module _ (n h : Net) (k : PlainCert) (valid : IsValid n) (cert : IsCert k) (is :
       go (inl e) = omega (arith, e)
       go (inr e) = omega (arith, e)
 
-  pub cert_long : (size : ℕ) → 0 < size → parts_of k ≡ refined n size (plain_parts n size) 8 → cert_length n h k ≤ 128 * flat_length n
+  pub cert_long : (kind : Form) (size : ℕ) → 0 < size → ArePartsOf kind n size (parts_of k) → cert_length n h k ≤ 128 * flat_length n
   unfolding flat_length
-  cert_long size pos parts =
+  cert_long kind size pos parts =
       let b : ℕ → ℕ = λ x. 18 * name_length n x in
       let none : ℕ → ℕ = λ x. 0 in
       let nodes : sum_by (line_length n h k) (range_with_len 0 (length k.part)) ≤ sum_by (λ node. 32 * node_length n node) n.nodes = subst (λ (m : ℕ). sum_by (line_length n h k) (range_with_len 0 m) ≤ sum_by (λ node. 32 * node_length n node) n.nodes) (sym is.fits.original_nodes) (sum_by_number (λ node. 32 * node_length n node) (line_length n h k) 0 n.nodes node_short) in
@@ -133,7 +141,7 @@ module _ (n h : Net) (k : PlainCert) (valid : IsValid n) (cert : IsCert k) (is :
         version_short,
         few_digits (length k.depth) (omega (arith, cert.few_parts)),
         parts_short,
-        few_parts n k size pos parts,
+        few_parts kind n k size pos parts,
         nodes_some n valid,
         nodes,
         sum_times 32 (node_length n) n.nodes,

@@ -14,7 +14,7 @@ texts_are_short n valid h k is =
     let form = is.form in
     record {
       design = λ f g. omega (arith, text_sum h g is.valid, text_sum n f valid, design_long n h is.marks is.hardened_marks k valid is.valid is.certificate form.tripled form.corresponds);
-      certificate = λ f. omega (arith, text_length n h k is.certificate, text_sum n f valid, cert_long n h k valid is.certificate form.tripled is.size is.some form.parts);
+      certificate = λ f. omega (arith, text_length n h k is.certificate, text_sum n f valid, cert_long n h k valid is.certificate form.tripled is.kind is.size is.some form.parts);
     }
 
 pub texts_keep_limits : (n : Net) → IsValid n → HardenedTextsKeepLimits n

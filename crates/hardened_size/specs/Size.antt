@@ -6,6 +6,7 @@ use Rattle.certificate.specs.Text.{cert_text}
 use Rattle.blif_writer.specs.Text.{free_text}
 use Rattle.blif_text.specs.Models.{PlainModel}
 use Rattle.hierarchy.specs.Flatten.{IsFreeFlat}
+use Rattle.triplicate.specs.declared.form.Form.{Form}
 use Rattle.triplicate.specs.Form.{HasForm}
 
 -- the flat text of h and the text of certificate k each have at most 128 times the bytes of the flat text of n, whatever
@@ -19,18 +20,19 @@ pub record KeepLimits (n h : Net) (k : PlainCert) : Type 0 where
   pub design : (g : List Bool) → length (free_text h g) ≤ 1073741824
   pub certificate : length (cert_text n h k) ≤ 1073741824
 
--- h and k are a hardened form of n: of either version, for some size of partitions and some choice of pins that are voted
+-- h and k are a hardened form of n: plain or lean, of either version, for some size of partitions and some choice of pins that are voted
 -- besides those that have to be
 pub record IsHardenedFrom (n h : Net) (k : PlainCert) : Type 0 where
   pub marks : List Bool
   pub hardened_marks : List Bool
+  pub kind : Form
   pub size : ℕ
   pub inputs : Bool
   pub extra : ℕ → ℕ → Bool
   pub some : 0 < size
   pub valid : IsValid h
   pub certificate : IsCert k
-  pub form : HasForm n marks size h hardened_marks k inputs extra
+  pub form : HasForm kind n marks size h hardened_marks k inputs extra
 
 -- the texts of each hardened form are short
 abbrev pub HardenedTextsAreShort : Net → Type 0

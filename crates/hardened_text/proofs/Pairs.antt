@@ -13,6 +13,7 @@ use Rattle.certificate.specs.Starts.{counted, spread_start}
 use Rattle.certificate.specs.Text.{cert_text}
 use Rattle.certificate.proofs.RoundTrip.{fold_of_text_again}
 use Rattle.certificate.proofs.Same.{same_reading}
+use Rattle.triplicate.specs.declared.form.Form.{Form}
 use Rattle.triplicate.specs.Blocks.{hardened_roles}
 use Rattle.triplicate.specs.declared.planning.Plan.{Plan}
 use Rattle.triplicate.specs.Planned.{IsPlan, voted_in, cert_in, pair_in}
@@ -38,23 +39,23 @@ get_or_alike [] k d e lt = absurd (omega (arith, lt))
 get_or_alike (x ∷ xs) zero d e lt = refl
 get_or_alike (x ∷ xs) (suc k) d e lt = get_or_alike xs k d e (omega (arith, lt))
 
-labels_small : (n : Net) (size : ℕ) (inputs : Bool) (most : ℕ) (p : Plan) → most < 2 ^ 32 → IsPlan n size inputs most p → All (λ l. l < 2 ^ 32) p.extra.table.labels
-labels_small n size inputs most p small is = λ k d lt.
+labels_small : (kind : Form) (n : Net) (size : ℕ) (inputs : Bool) (most : ℕ) (p : Plan) → most < 2 ^ 32 → IsPlan kind n size inputs most p → All (λ l. l < 2 ^ 32) p.extra.table.labels
+labels_small kind n size inputs most p small is = λ k d lt.
     let low : k < length n.nodes = omega (arith, lt, is.bound.depths.nodes) in
     omega (arith, small, is.bound.bounded k low, get_or_alike p.extra.table.labels k d 0 lt)
 
-pub few_nodes : (n : Net) (size : ℕ) (inputs : Bool) (most : ℕ) (p : Plan) (nets ins count : ℕ) → IsPlan n size inputs most p → nets ≡ 3 * length n.inputs + length (hardened_roles n p.parts (voted_in n p)) → ins ≡ length n.inputs → count ≡ length n.nodes → 3 * count ≤ nets - 3 * ins
-few_nodes n size inputs most p nets ins count is e f g = omega (arith, e, f, g, roles_counted n p.parts (voted_in n p))
+pub few_nodes : (kind : Form) (n : Net) (size : ℕ) (inputs : Bool) (most : ℕ) (p : Plan) (nets ins count : ℕ) → IsPlan kind n size inputs most p → nets ≡ 3 * length n.inputs + length (hardened_roles n p.parts (voted_in n p)) → ins ≡ length n.inputs → count ≡ length n.nodes → 3 * count ≤ nets - 3 * ins
+few_nodes kind n size inputs most p nets ins count is e f g = omega (arith, e, f, g, roles_counted n p.parts (voted_in n p))
 
 -- all that is answered is told of one pair
-pub texts_are : (n : FreeDesign) (d : Design) (size version most : ℕ) (p : Plan) (r : HardenedTexts) (nets ins count : ℕ) → (version ≡ 1) ⊎ (version ≡ 2) → most < 2 ^ 32 → d ≡ n.design → AreMarks n.design.net n.free → IsDesign d → IsPlan d.net size (nat_eq version 2) most p
+pub texts_are : (kind : Form) (n : FreeDesign) (d : Design) (size version most : ℕ) (p : Plan) (r : HardenedTexts) (nets ins count : ℕ) → (version ≡ 1) ⊎ (version ≡ 2) → most < 2 ^ 32 → d ≡ n.design → AreMarks n.design.net n.free → IsDesign d → IsPlan kind d.net size (nat_eq version 2) most p
     → nets ≡ 3 * length d.net.inputs + length (hardened_roles d.net p.parts (voted_in d.net p)) → ins ≡ length d.net.inputs → count ≡ length d.net.nodes
     → r.design.items ≡ free_text (hardened_net n.design.net p.parts (voted_in n.design.net p)) (spread_start (cert_in n.design.net p) (counted (cert_in n.design.net p) n.free)) → r.certificate.items ≡ cert_text d.net (hardened_net d.net p.parts (voted_in d.net p)) (cert_in d.net p)
     → r.depths.items ≡ p.extra.table.depths → All (λ x. x < 2 ^ 32) p.extra.table.depths → r.nodes ≡ nets - 3 * ins → r.partitions ≡ p.parts.count → r.cost ≡ p.cost → r.plain ≡ p.plain → r.minimal ≡ p.minimal → r.voters ≡ nets - 3 * ins - 3 * count
-    → AreTexts n size version most r
-texts_are n d size version most p r nets ins count known small same marks design planned en ei ec ed ek eds small_depths er ep ecost eplain eminimal ev = record {
+    → AreTexts kind n size version most r
+texts_are kind n d size version most p r nets ins count known small same marks design planned en ei ec ed ek eds small_depths er ep ecost eplain eminimal ev = record {
   pair = pair_in n p;
-  bounded = planned_is n size version most p known is;
+  bounded = planned_is kind n size version most p known is;
   valid = valid;
   certified = certified;
   fits = cert_fits n.design.net p.parts (voted_in n.design.net p) (labeling p.inputs p.extra.table) is.given;
@@ -72,8 +73,8 @@ texts_are n d size version most p r nets ins count known small same marks design
   voters = omega (arith, ev, total, inputs, nodes, roles_counted n.design.net p.parts (voted_in n.design.net p));
 }
   where
-    is : IsPlan n.design.net size (nat_eq version 2) most p
-    is = subst (λ (e : Design). IsPlan e.net size (nat_eq version 2) most p) same planned
+    is : IsPlan kind n.design.net size (nat_eq version 2) most p
+    is = subst (λ (e : Design). IsPlan kind e.net size (nat_eq version 2) most p) same planned
 
     ordered : IsDesign n.design
     ordered = subst IsDesign same design
@@ -89,7 +90,7 @@ texts_are n d size version most p r nets ins count known small same marks design
         (is_order n.design.net p.parts (voted_in n.design.net p) (labeling p.inputs p.extra.table) is.given n.design.order ordered.order)
 
     certified : IsCert (cert_in n.design.net p)
-    certified = is_cert n.design.net p.parts (voted_in n.design.net p) (labeling p.inputs p.extra.table) is.given (labels_small n.design.net size (nat_eq version 2) most p small is) small_depths
+    certified = is_cert n.design.net p.parts (voted_in n.design.net p) (labeling p.inputs p.extra.table) is.given (labels_small kind n.design.net size (nat_eq version 2) most p small is) small_depths
 
     own_marks : AreMarks (hardened_net n.design.net p.parts (voted_in n.design.net p)) (spread_start (cert_in n.design.net p) (counted (cert_in n.design.net p) n.free))
     own_marks = marks_are_marks n.design.net p.parts (voted_in n.design.net p) (labeling p.inputs p.extra.table) is.given (counted (cert_in n.design.net p) n.free) (counted_marks n.design.net n.free (cert_in n.design.net p) marks.registers)

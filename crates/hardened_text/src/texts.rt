@@ -8,7 +8,7 @@ use crate::design::design_text;
 use flat_net::{FreeNet, nodes_of};
 use std::alloc::Global;
 use tmr_base::OutOfMemory;
-use triplicate::make_plan;
+use triplicate::{Form, make_plan};
 
 /// The texts of a hardened form, and what is told of it.
 #[derive(Drop)]
@@ -33,12 +33,13 @@ pub struct HardenedTexts {
     pub voters: u32,
 }
 
-/// The texts of the design made threefold and of its certificate, of this version. `size` is the size of partitions; no
+/// The texts of the design made threefold in this form and of its certificate, of this version. `size` is the size of partitions; no
 /// depth is above `most`, and a bound above the number of nodes adds no voters. Both are those of one pair in the
 /// hardened form, of which the numbers tell too. The one refusal is want of memory.
 pub fn harden_texts(
     alloc: Global,
     n: &FreeNet,
+    form: Form,
     size: u32,
     version: u8,
     most: u32,
@@ -47,11 +48,11 @@ pub fn harden_texts(
     requires version { (version ≡ 1) ⊎ (version ≡ 2) }
     requires most { 0 < most }
     requires few { net_count n.now.design.net + pin_total n.now.design.net ≤ 16777216 }
-    ensures { IfOk result (λ t. AreTexts n.now size version most t) }
+    ensures { IfOk result (λ t. AreTexts form n.now size version most t) }
 {
     let net = n.net();
     let count = nodes_of(net);
-    let plan = make_plan(alloc, net, size, version == 2, most)?;
+    let plan = make_plan(alloc, net, form, size, version == 2, most)?;
     let design = design_text(alloc, n, &plan)?;
     let certificate = certificate_text(alloc, net, &plan)?;
     let depths = plan.depths(alloc)?;

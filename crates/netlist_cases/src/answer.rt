@@ -35,6 +35,7 @@ fn design_answer(alloc: Global, texts: &Texts, verb: &str, rest: &str) -> Result
         }
         "parts" | "loops" | "depths" | "bound" => cuts::answer(alloc, texts, verb, rest),
         "partition" => partitions::answer(alloc, texts, rest),
+        "clusters" => partitions::cluster_answer(alloc, texts, rest),
         "cert" | "certheads" | "check" | "least" => {
             certificates::answer(alloc, texts, verb, rest)
         }

@@ -2,7 +2,7 @@
 
 ghost use Rattle.std.specs.Prelude.{◌≡◌, ◌<◌, length, IfOk};
 ghost use Rattle.feedback_cut.specs.Components.{AreComponents};
-ghost use Rattle.feedback_cut.specs.Cut.{CutMeets};
+ghost use Rattle.feedback_cut.specs.Cut.{CutsLoops};
 ghost use Rattle.graph.specs.Rows.{row};
 
 use crate::designs::{design_of, node_id};
@@ -68,7 +68,7 @@ fn groups_of(alloc: Global, n: &FlatNet, parts: &Parts) -> Result<LoopGroups, St
 /// The pins that are cut.
 fn cut_pins(alloc: Global, n: &FlatNet, parts: &Parts) -> Result<CutPins, Stop>
     requires { length parts.now.of ≡ length n.now.net.nodes }
-    ensures { IfOk result (λ pins. CutMeets n.now.net parts.now pins) }
+    ensures { IfOk result (λ pins. CutsLoops n.now.net parts.now pins) }
 {
     Ok(cut(alloc, n, parts)?)
 }
@@ -125,7 +125,7 @@ fn put_loops(
     parts: &Parts,
 ) -> Result<(), AllocError>
     requires groups { AreComponents n.now.net parts.now groups.now }
-    requires pins { CutMeets n.now.net parts.now pins.now }
+    requires pins { CutsLoops n.now.net parts.now pins.now }
 {
     for i in 0..n.node_count() {
         put_component(text, groups, numbers, groups.of(i))?;
@@ -143,7 +143,7 @@ fn loops_of(
     parts: &Parts,
 ) -> Result<String, AllocError>
     requires groups { AreComponents n.now.net parts.now groups.now }
-    requires pins { CutMeets n.now.net parts.now pins.now }
+    requires pins { CutsLoops n.now.net parts.now pins.now }
 {
     let numbers = numbers_of(alloc, groups, n.node_count())?;
     let mut text = format!(in alloc; "{}:", groups.count())?;

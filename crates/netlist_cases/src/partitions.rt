@@ -7,6 +7,7 @@ use crate::designs::design_of;
 use crate::keeping::Texts;
 use crate::stop::{Stop, bad_case};
 use crate::words::{first_word, number};
+use clustering::clusters;
 use flat_net::FlatNet;
 use partitioner::{cost, is_minimal, plain, refine};
 use std::alloc::{AllocError, Global};
@@ -129,4 +130,47 @@ pub fn answer(alloc: Global, texts: &Texts, rest: &str) -> Result<String, Stop> 
     let (passes, net) = first_word(rest);
     let bytes = texts.bytes_of(net)?;
     answer_of(alloc, bytes.as_slice(), sizes, passes)
+}
+
+/// Partitions made of clusters.
+fn clustered(alloc: Global, n: &FlatNet, size: u32) -> Result<Parts, Stop>
+    requires { 0 < size }
+    ensures { IfOk result (λ parts. KeepsSize n.now.net size parts) }
+{
+    Ok(clusters(alloc, n, size)?)
+}
+
+fn put_clustered(alloc: Global, text: &mut String, n: &FlatNet, size: u32) -> Result<(), Stop>
+    requires { 0 < size }
+{
+    let parts = clustered(alloc, n, size)?;
+    write!(text, "size {size}: ")?;
+    put_judged(alloc, text, n, &parts, size)?;
+    text.push('\n')?;
+    Ok(())
+}
+
+/// Puts the line of a size.
+fn put_clusters(alloc: Global, text: &mut String, n: &FlatNet, size: &str) -> Result<(), Stop> {
+    let size = number(alloc, size)?;
+    if size == 0 {
+        return Err(bad_case(alloc));
+    }
+    put_clustered(alloc, text, n, size)
+}
+
+fn cluster_lines(alloc: Global, n: &FlatNet, sizes: &str) -> Result<String, Stop> {
+    let mut text = String::new(alloc);
+    for size in sizes.split(',') {
+        put_clusters(alloc, &mut text, n, size)?;
+    }
+    Ok(text)
+}
+
+/// `SIZE,.. TEXT`: a line for each size, of partitions made of clusters.
+pub fn cluster_answer(alloc: Global, texts: &Texts, rest: &str) -> Result<String, Stop> {
+    let (sizes, net) = first_word(rest);
+    let bytes = texts.bytes_of(net)?;
+    let n = design_of(alloc, bytes.as_slice())?;
+    cluster_lines(alloc, &n, sizes)
 }

@@ -63,7 +63,7 @@ plain_in_range size n pos k d l =
 pub plain_keeps_size : (n : Net) (size : ℕ) → 0 < size → KeepsSize n size (plain_parts n size)
 unfolding HeldFew
 plain_keeps_size n size pos = record {
-  count = refl;
+  count = omega arith;
   each = length-map-range_with_len (λ i. i / size) 0 (length n.nodes);
   held_few = λ p l. omega (arith, (held_plain size p (length n.nodes) pos).0);
 }

@@ -13,9 +13,9 @@ capacity size = size + size / 4
 abbrev pub held : List ℕ → ℕ → ℕ
 held of p = count_by (λ q. q == p) of
 
--- there are as many partitions as the size asks for, rounded up, and none holds too many nodes
+-- there are at most as many partitions as the size asks for, rounded up, and none holds too many nodes
 pub record KeepsSize (n : Net) (size : ℕ) (parts : PlainParts) : Type 0 where
-  pub count : parts.count ≡ div_ceil (length n.nodes) size
+  pub count : parts.count ≤ div_ceil (length n.nodes) size
   pub each : length parts.of ≡ length n.nodes
   pub held_few : (p : ℕ) → p < parts.count → held parts.of p ≤ capacity size
 

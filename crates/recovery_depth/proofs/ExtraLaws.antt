@@ -9,7 +9,7 @@ use Rattle.tmr_base.specs.Parts.{PlainParts}
 use Rattle.flat_net.specs.Net.{Net, Node, Table, Register, node_of, pins_at, IsValid}
 use Rattle.graph.specs.Rows.{row, Follows}
 use Rattle.feedback_cut.specs.Inner.{node_pins, ReadsInside, inner_rows}
-use Rattle.feedback_cut.specs.Cut.{is_cut, ReadsUnvoted, CutMeets}
+use Rattle.feedback_cut.specs.Cut.{is_cut, ReadsUnvoted, CutsLoops}
 use Rattle.feedback_cut.proofs.InnerLaws.{inner_long, inner_pins}
 use Rattle.graph.proofs.Decisions.{no_absurd}
 use Rattle.recovery_depth.specs.Walks.{IsReach, is_marked}
@@ -42,7 +42,7 @@ one_pin n y e = go (node_of n (length n.inputs + y)) refl
     go (Some (Table name cover pins)) d = absurd (no_absurd (sym (sym (ap is_some_register d) ∙ e)))
     go (Some (Register name init pin)) d = ap (λ o. length (pins_at o)) d
 
-module _ (n : Net) (parts : PlainParts) (cut : List (List Bool)) (valid : IsValid n) (meets : CutMeets n parts cut) (bits : List Bool) (bits_are : bits ≡ map (is_register_at n) (range_with_len 0 (length n.nodes))) (marks : List Bool) (labels order : List ℕ) (most : ℕ) (positive : 0 < most) (o : IsOrdered (uncut_rows (inner_rows n parts) cut) order) (s : AreSettled (uncut_rows (inner_rows n parts) cut) bits marks labels most) where
+module _ (n : Net) (parts : PlainParts) (cut : List (List Bool)) (valid : IsValid n) (meets : CutsLoops n parts cut) (bits : List Bool) (bits_are : bits ≡ map (is_register_at n) (range_with_len 0 (length n.nodes))) (marks : List Bool) (labels order : List ℕ) (most : ℕ) (positive : 0 < most) (o : IsOrdered (uncut_rows (inner_rows n parts) cut) order) (s : AreSettled (uncut_rows (inner_rows n parts) cut) bits marks labels most) where
   abbrev rest : List (List ℕ)
   rest = uncut_rows (inner_rows n parts) cut
 

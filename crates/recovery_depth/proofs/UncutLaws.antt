@@ -11,8 +11,8 @@ use Rattle.flat_net.proofs.Slots.{slot_there, slot_within}
 use Rattle.flat_net.proofs.Ranges.{pins_few}
 use Rattle.graph.specs.Rows.{row}
 use Rattle.feedback_cut.specs.Inner.{ReadsInside, inner_rows}
-use Rattle.feedback_cut.specs.Cut.{is_cut, ReadsUncut, CutMeets}
-use Rattle.graph.specs.Search.{Kept, IsSearched}
+use Rattle.feedback_cut.specs.Cut.{is_cut, ReadsUncut, CutsLoops, OrdersUncut}
+use Rattle.graph.specs.Search.{Kept}
 use Rattle.graph.proofs.Places.{leads_map}
 use Rattle.feedback_cut.proofs.InnerLaws.{inner_long, inner_pins, read_from, read_to}
 use Rattle.feedback_cut.proofs.CutLaws.{uncut_of_kept, kept_of_uncut}
@@ -107,16 +107,6 @@ module _ (rows : List (List ℕ)) (cut : List (List Bool)) where
       some (inl z) = inl z
       some (inr (i, l, v)) = inr (i, omega (arith, long, all, l), ap (λ (e : ℕ). get_or labels e 0) (at i (omega (arith, all, l))) ∙ v)
 
-  -- an order in which the search was done with the vertices is one of what is left
-  pub uncut_ordered : (order : List ℕ) → IsSearched rows order cut → IsOrdered (uncut_rows rows cut) order
-  uncut_ordered order s = record {
-    within = λ k l. omega (arith, uncut_long, s.within k l);
-    complete = λ x l. s.complete x (omega (arith, uncut_long, l));
-    once = s.once;
-    few = omega (arith, uncut_long, s.few);
-    after = λ k x h f. s.after k x h (kept_of_follows s.reads x (get_or order k 0) f);
-  }
-
 -- past all nodes there is no register
 past : (n : Net) (x : ℕ) → length n.nodes ≤ x → is_register_at n x ≡ false
 past n x l = go (node_of n (length n.inputs + x)) refl
@@ -125,7 +115,7 @@ past n x l = go (node_of n (length n.inputs + x)) refl
     go None e = refl
     go (Some node) e = absurd (let w = slot_within (length n.inputs) n.nodes (length n.inputs + x) node e in omega (arith, w.1, l))
 
-module _ (n : Net) (parts : PlainParts) (cut : List (List Bool)) (valid : IsValid n) (meets : CutMeets n parts cut) where
+module _ (n : Net) (parts : PlainParts) (cut : List (List Bool)) (valid : IsValid n) (meets : CutsLoops n parts cut) where
   pub shape : (y : ℕ) → length (row cut y) ≡ length (row (inner_rows n parts) y)
   shape y = go (cases_lt y (length n.nodes))
     where
@@ -144,6 +134,16 @@ module _ (n : Net) (parts : PlainParts) (cut : List (List Bool)) (valid : IsVali
 
   pub rest_long : length (uncut_rows (inner_rows n parts) cut) ≡ length n.nodes
   rest_long = uncut_long (inner_rows n parts) cut ∙ inner_long n parts
+
+  -- an order of the nodes by their uncut reads is one of the rows
+  pub uncut_ordered : (order : List ℕ) → OrdersUncut n parts cut order → IsOrdered (uncut_rows (inner_rows n parts) cut) order
+  uncut_ordered order o = record {
+    within = λ k l. omega (arith, rest_long, o.within k l);
+    complete = λ x l. o.complete x (omega (arith, rest_long, l));
+    once = o.once;
+    few = omega (arith, rest_long, o.few);
+    after = λ k x l f. o.after k x l (uncut_of_follows x (get_or order k 0) f);
+  }
 
   -- the bits of registers
   pub register_bit : (bits : List Bool) → bits ≡ map (is_register_at n) (range_with_len 0 (length n.nodes)) → (x : ℕ) → is_register_at n x ≡ is_marked bits x

@@ -1,17 +1,11 @@
 -- Labels of nodes and depths of partitions. Nodes are counted from 0, in their order.
-use Rattle.std.specs.Prelude.{◌≡◌, ℕ, ◌+◌, ◌<◌, ◌≤◌, ◌⊎◌, Bool, false, List, [], ◌∷◌, length, slice_index, cond, Option, Some, None}
+use Rattle.std.specs.Prelude.{◌≡◌, ℕ, ◌<◌, ◌≤◌, ◌⊎◌, Bool, false, List, [], ◌∷◌, length, slice_index, cond}
 use Rattle.tmr_base.specs.Parts.{PlainParts}
-use Rattle.flat_net.specs.Net.{Net, Node, node_of, is_register}
+use Rattle.flat_net.specs.Net.{Net}
 use Rattle.feedback_cut.specs.Cut.{ReadsUnvoted}
+-- `is_register_at n x` says that node x is a register
+pub use Rattle.feedback_cut.specs.Registers.{is_some_register, is_register_at}
 use Rattle.recovery_depth.specs.Walks.{IsReach}
-
-abbrev pub is_some_register : Option Node → Bool
-is_some_register None = false
-is_some_register (Some node) = is_register node
-
--- node x is a register
-abbrev pub is_register_at : Net → ℕ → Bool
-is_register_at n x = is_some_register (node_of n (length n.inputs + x))
 
 -- node x, if it is a register, else nothing
 abbrev pub own_register : Net → ℕ → List ℕ

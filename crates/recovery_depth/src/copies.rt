@@ -9,8 +9,8 @@ ghost use Rattle.recovery_depth.specs.Private.Ranks.{rank_at, ranks_of};
 ghost use Rattle.recovery_depth.specs.Private.Tops.{place_at, places_of, original_at, originals_of};
 
 use crate::ranks::Ranks;
-use crate::register_nodes::is_register;
 use certificate::{Certificate, Role};
+use feedback_cut::is_register;
 use flat_net::{FlatNet, nodes_of};
 use graph::Graph;
 use std::alloc::Global;

@@ -1,6 +1,6 @@
 //! Labels of nodes and depths of partitions.
 ghost use Rattle.std.specs.Prelude.{◌≡◌, ◌<◌, length, slice_index, IfOk};
-ghost use Rattle.feedback_cut.specs.Cut.{is_cut, CutMeets};
+ghost use Rattle.feedback_cut.specs.Cut.{is_cut, CutsLoops};
 ghost use Rattle.recovery_depth.specs.Depths.{AreDepths};
 
 use crate::greatest::greatest_labels;
@@ -62,7 +62,7 @@ pub fn depths(
     cut: &CutPins,
 ) -> Result<DepthTable, OutOfMemory>
     requires parts { length parts.now.of ≡ length n.now.net.nodes }
-    requires cut { CutMeets n.now.net parts.now cut.now }
+    requires cut { CutsLoops n.now.net parts.now cut.now }
     ensures { IfOk result (λ table. AreDepths n.now.net parts.now (is_cut cut.now) table) }
 {
     let count = nodes_of(n);

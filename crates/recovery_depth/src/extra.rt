@@ -1,7 +1,6 @@
 //! Pins that are voted beside those of a cut, so that no label is above a bound.
 ghost use Rattle.std.specs.Prelude.{◌≡◌, ◌<◌, ℕ, false, length, slice_index, IfOk};
-ghost use Rattle.graph.specs.Search.{IsSearched};
-ghost use Rattle.feedback_cut.specs.Cut.{CutMeets};
+ghost use Rattle.feedback_cut.specs.Cut.{CutsLoops, OrdersUncut};
 ghost use Rattle.feedback_cut.specs.Inner.{inner_rows};
 ghost use Rattle.recovery_depth.specs.Private.Uncut.{uncut_rows};
 ghost use Rattle.recovery_depth.specs.Private.Vertices.{IsOrdered};
@@ -74,7 +73,7 @@ fn bound_over(
     most: u32,
 ) -> Result<Extra, OutOfMemory>
     requires parts { length parts.now.of ≡ length n.now.net.nodes }
-    requires cut { CutMeets n.now.net parts.now cut.now }
+    requires cut { CutsLoops n.now.net parts.now cut.now }
     requires graph { graph.now ≡ inner_rows n.now.net parts.now }
     requires order { IsOrdered (uncut_rows (inner_rows n.now.net parts.now) cut.now) order.now }
     requires most { 0 < most }
@@ -104,7 +103,7 @@ pub fn bound(
     most: u32,
 ) -> Result<Extra, OutOfMemory>
     requires parts { length parts.now.of ≡ length n.now.net.nodes }
-    requires cut { CutMeets n.now.net parts.now cut.now }
+    requires cut { CutsLoops n.now.net parts.now cut.now }
     requires most { 0 < most }
     ensures marks { IfOk result (λ extra. length extra.marks ≡ length n.now.net.nodes) }
     ensures extra { IfOk result (λ extra. AreExtra n.now.net parts.now cut.now most extra) }
@@ -128,14 +127,15 @@ pub fn bound_in_order(
     most: u32,
 ) -> Result<Extra, OutOfMemory>
     requires parts { length parts.now.of ≡ length n.now.net.nodes }
-    requires cut { CutMeets n.now.net parts.now found.now.cut }
+    requires cut { CutsLoops n.now.net parts.now found.now.cut }
     requires graph { found.now.graph ≡ inner_rows n.now.net parts.now }
-    requires order { IsSearched (inner_rows n.now.net parts.now) found.now.order.items found.now.cut }
+    requires order { OrdersUncut n.now.net parts.now found.now.cut found.now.order.items }
     requires most { 0 < most }
     ensures marks { IfOk result (λ extra. length extra.marks ≡ length n.now.net.nodes) }
     ensures extra { IfOk result (λ extra. AreExtra n.now.net parts.now found.now.cut most extra) }
     ensures none { IfOk result (λ extra. length n.now.net.nodes < most → (y j : ℕ) → is_extra extra.marks y j ≡ false) }
 {
+    let _nodes = nodes_of(n);
     let extra = bound_over(
         alloc,
         n,

@@ -3,18 +3,10 @@ ghost use Rattle.std.specs.Prelude.{◌≡◌, ◌<◌, length, map, IfOk, IsTru
 ghost use Rattle.std.specs.List.{range_with_len};
 ghost use Rattle.recovery_depth.specs.Depths.{is_register_at};
 
-use flat_net::{FlatNet, Kind, nodes_of};
+use feedback_cut::is_register;
+use flat_net::{FlatNet, nodes_of};
 use std::alloc::Global;
-use tmr_base::{NetId, OutOfMemory};
-
-/// Node x is a register.
-pub fn is_register(n: &FlatNet, x: u32) -> bool
-    requires { x < length n.now.net.nodes }
-    ensures { result ≡ is_register_at n.now.net x }
-{
-    let _nodes = nodes_of(n);
-    n.kind(NetId(n.input_count() + x)) == Kind::Register
-}
+use tmr_base::OutOfMemory;
 
 /// For each node whether it is a register.
 pub fn registers(alloc: Global, n: &FlatNet) -> Result<Vec<bool>, OutOfMemory>

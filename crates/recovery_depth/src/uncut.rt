@@ -3,7 +3,7 @@ ghost use Rattle.std.specs.Prelude.{◌≡◌, ◌<◌, ℕ, length, map, IfOk, 
 ghost use Rattle.std.specs.List.{range_with_len};
 ghost use Rattle.graph.specs.Rows.{row};
 ghost use Rattle.feedback_cut.specs.Inner.{inner_rows};
-ghost use Rattle.feedback_cut.specs.Cut.{CutMeets};
+ghost use Rattle.feedback_cut.specs.Cut.{CutsLoops};
 ghost use Rattle.recovery_depth.specs.Private.Vertices.{HasNoLoop};
 ghost use Rattle.recovery_depth.specs.Private.Uncut.{uncut_entry, uncut_row, uncut_rows};
 
@@ -77,7 +77,7 @@ pub fn uncut_in(
     graph: &Graph,
 ) -> Result<Graph, OutOfMemory>
     requires parts { length parts.now.of ≡ length n.now.net.nodes }
-    requires cut { CutMeets n.now.net parts.now cut.now }
+    requires cut { CutsLoops n.now.net parts.now cut.now }
     requires graph { graph.now ≡ inner_rows n.now.net parts.now }
     ensures rows { IfOk result (λ rest. rest ≡ uncut_rows (inner_rows n.now.net parts.now) cut.now) }
     ensures nodes { IfOk result (λ rest. length rest ≡ length n.now.net.nodes) }
@@ -95,7 +95,7 @@ pub fn uncut_inner(
     cut: &CutPins,
 ) -> Result<Graph, OutOfMemory>
     requires parts { length parts.now.of ≡ length n.now.net.nodes }
-    requires cut { CutMeets n.now.net parts.now cut.now }
+    requires cut { CutsLoops n.now.net parts.now cut.now }
     ensures rows { IfOk result (λ rest. rest ≡ uncut_rows (inner_rows n.now.net parts.now) cut.now) }
     ensures nodes { IfOk result (λ rest. length rest ≡ length n.now.net.nodes) }
     ensures open_ended { IfOk result (λ rest. HasNoLoop rest) }

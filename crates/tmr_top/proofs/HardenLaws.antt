@@ -14,6 +14,7 @@ use Rattle.certificate.specs.Text.{cert_text}
 use Rattle.partitioner.specs.Cost.{cost}
 use Rattle.partitioner.specs.Sizes.{plain_parts}
 use Rattle.partitioner.specs.Refining.{IsMinimal}
+use Rattle.triplicate.specs.declared.form.Form.{Form}
 use Rattle.triplicate.specs.Form.{BoundedForm, parts_of}
 use Rattle.triplicate.specs.Result.{is_voter_role}
 use Rattle.tmr_outside.specs.Contents.{Contents}
@@ -28,7 +29,7 @@ use Rattle.tmr_top.specs.Texts.{greatest, refused_line}
 use Rattle.tmr_top.specs.Works.{IsWork}
 use Rattle.tmr_top.proofs.PairLaws.{outcome_work}
 
-pub hardened_work : (held : Contents) (w : Hardening) (n h : Net) (f g : List Bool) (k : PlainCert) (minimal : Bool) (d e : List ℕ) (r : Work) → HoldsDesign held (original_file w.original) n f → BoundedForm n f w.size w.version w.most h g k → (IsTrue minimal ↔ IsMinimal n w.size (parts_of k)) → d ≡ free_text h g → length d ≤ 1073741824 → IsFreeNetOf d 1073741824 h g → e ≡ cert_text n h k → length e ≤ 1073741824 → cert_of_text n h e ≡ Ok k → r.verdict ≡ Done → texts_in r.saves.items ≡ d ∷ e ∷ [] → r.text.items ≡ hardened_lines (form_numbers n w.size h k minimal) k.version (count_by (λ bit. bit) f) → IsWork (Harden w) held r
+pub hardened_work : (held : Contents) (w : Hardening) (n h : Net) (f g : List Bool) (k : PlainCert) (minimal : Bool) (d e : List ℕ) (r : Work) → HoldsDesign held (original_file w.original) n f → BoundedForm w.form n f w.size w.version w.most h g k → (IsTrue minimal ↔ IsMinimal n w.size (parts_of k)) → d ≡ free_text h g → length d ≤ 1073741824 → IsFreeNetOf d 1073741824 h g → e ≡ cert_text n h k → length e ≤ 1073741824 → cert_of_text n h e ≡ Ok k → r.verdict ≡ Done → texts_in r.saves.items ≡ d ∷ e ∷ [] → r.text.items ≡ hardened_lines (form_numbers n w.size h k minimal) k.version (count_by (λ bit. bit) f) → IsWork (Harden w) held r
 hardened_work held w n h f g k minimal d e r holds form is_minimal d_is d_short d_read e_is e_short e_read done saves says =
     outcome_work (Harden w) held r Done done
     (record {
@@ -71,9 +72,9 @@ known_version (suc (suc zero)) low high = inr refl
 known_version (suc (suc (suc v))) low high = absurd (omega (arith, high))
 
 -- the texts of a hardened form keep the limits of their files, where the original was flattened within its own
-pub limits_kept : (n h : Net) (f g : List Bool) (size version most : ℕ) (k : PlainCert) → IsValid n → IsValid h → IsCert k → 0 < size → BoundedForm n f size version most h g k → IsFlatWithin 8388608 n f → FlatTextKeepsLimit n → HardenedTextsKeepLimits n → KeepLimits n h k
-limits_kept n h f g size version most k valid hardened_valid certificate some form within original law =
-    law h k f (record { marks = counted k f; hardened_marks = counted k g; size = size; inputs = nat_eq version 2; extra = is_extra form.extra.marks; some = some; valid = hardened_valid; certificate = certificate; form = form.form })
+pub limits_kept : (kind : Form) (n h : Net) (f g : List Bool) (size version most : ℕ) (k : PlainCert) → IsValid n → IsValid h → IsCert k → 0 < size → BoundedForm kind n f size version most h g k → IsFlatWithin 8388608 n f → FlatTextKeepsLimit n → HardenedTextsKeepLimits n → KeepLimits n h k
+limits_kept kind n h f g size version most k valid hardened_valid certificate some form within original law =
+    law h k f (record { marks = counted k f; hardened_marks = counted k g; kind = kind; size = size; inputs = nat_eq version 2; extra = is_extra form.extra.marks; some = some; valid = hardened_valid; certificate = certificate; form = form.form })
     (original within.library 8388608 f within.flat)
 
 pub ruleset texts = (unhardened_work)

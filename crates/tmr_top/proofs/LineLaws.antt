@@ -4,13 +4,15 @@ use Rattle.std.specs.Prelude.{codes, not}
 use Rattle.std.specs.Option.{option_and_then, option_map}
 use Rattle.std.specs.Str.{bytes_eq}
 use Rattle.flat_net.proofs.Names.{eq_true}
+use Rattle.triplicate.specs.declared.form.Form.{Form}
+use Rattle.triplicate.specs.declared.form.Form.TheVariants.{Plain}
 use Rattle.tmr_top.specs.Words.{Words, has_no_options, words_of}
 use Rattle.tmr_top.specs.Trials.{Trial, trial_of}
-use Rattle.tmr_top.specs.Line.{Command, Pair, Hardening, Flattening, Guarding, Graphing, GraphReading, Validate, Harden, Flatten, Report, Guard, CheckGuard, WriteGraph, ReadGraph, TryOut, is_file, said, positive_number, version_number, pair_of, over_pair, over_trial, flattening_of, guarding_of, over_guarding, graphing_of, graph_reading_of, replay_over, replaying_of, waving_of, hardening_with, hardening_of, of_words, of_plain, line_of}
+use Rattle.tmr_top.specs.Line.{Command, Pair, Hardening, Flattening, Guarding, Graphing, GraphReading, Validate, Harden, Flatten, Report, Guard, CheckGuard, WriteGraph, ReadGraph, TryOut, is_file, said, positive_number, version_number, form_named, pair_of, over_pair, over_trial, flattening_of, guarding_of, over_guarding, graphing_of, graph_reading_of, replay_over, replaying_of, waving_of, hardening_with, hardening_as, hardening_of, of_words, of_plain, line_of}
 
-pub all_said : (words : Words) (size version most : ℕ) → said positive_number 64 words.sizes ≡ Some size → said version_number 1 words.versions ≡ Some version → said positive_number 4294967295 words.depths ≡ Some most → hardening_of words ≡ hardening_with size version most words.plain
-unfolding hardening_of
-all_said words size version most one two three = rw (one, two, three) refl
+pub all_said : (form : Form) (words : Words) (size version most : ℕ) → said positive_number 64 words.sizes ≡ Some size → said version_number 1 words.versions ≡ Some version → said positive_number 4294967295 words.depths ≡ Some most → hardening_as form words ≡ hardening_with form size version most words.plain
+unfolding hardening_as
+all_said form words size version most one two three = rw (one, two, three) refl
 
 -- ---- the two names of a hardening differ
 
@@ -121,38 +123,46 @@ not_same : (b : Bool) → not b ≡ true → b ≡ true → ⊥
 not_same true e f = absurd cc
 not_same false e f = absurd cc
 
-made_has : (size version most : ℕ) (a b c : List ℕ) (test : Bool) → (test ≡ true → b ≢ c) → HasTwoNames (cond test (Some (Harden (record { original = a; hardened = b; certificate = c; size = size; version = version; most = most }))) None)
-made_has size version most a b c false differ w is = absurd cc
-made_has size version most a b c true differ w is = λ same.
+made_has : (form : Form) (size version most : ℕ) (a b c : List ℕ) (test : Bool) → (test ≡ true → b ≢ c) → HasTwoNames (cond test (Some (Harden (record { original = a; hardened = b; certificate = c; form = form; size = size; version = version; most = most }))) None)
+made_has form size version most a b c false differ w is = absurd cc
+made_has form size version most a b c true differ w is = λ same.
     let one : b ≡ w.hardened = cc in
     let two : c ≡ w.certificate = cc in
     differ refl (one ∙ (same ∙ sym two))
 
-with_has : (size version most : ℕ) (words : List (List ℕ)) → HasTwoNames (hardening_with size version most words)
+with_has : (form : Form) (size version most : ℕ) (words : List (List ℕ)) → HasTwoNames (hardening_with form size version most words)
 unfolding hardening_with
-with_has size version most [] = none_has
-with_has size version most (a ∷ []) = none_has
-with_has size version most (a ∷ b ∷ []) = none_has
-with_has size version most (a ∷ b ∷ c ∷ []) =
-    made_has size version most a b c (is_file a && is_file b && is_file c && not (bytes_eq b c))
+with_has form size version most [] = none_has
+with_has form size version most (a ∷ []) = none_has
+with_has form size version most (a ∷ b ∷ []) = none_has
+with_has form size version most (a ∷ b ∷ c ∷ []) =
+    made_has form size version most a b c (is_file a && is_file b && is_file c && not (bytes_eq b c))
     (λ test same. not_same (bytes_eq b c) (last_of (is_file a && is_file b && is_file c) (not (bytes_eq b c)) test) (eq_true b c same))
-with_has size version most (a ∷ b ∷ c ∷ d ∷ words) = none_has
+with_has form size version most (a ∷ b ∷ c ∷ d ∷ words) = none_has
 
-hardening_has : (words : Words) → HasTwoNames (hardening_of words)
-unfolding hardening_of
-hardening_has words = by_size (said positive_number 64 words.sizes)
+form_has : (form : Form) (words : Words) → HasTwoNames (hardening_as form words)
+unfolding hardening_as
+form_has form words = by_size (said positive_number 64 words.sizes)
   where
-    by_most : (size version : ℕ) (o : Option ℕ) → HasTwoNames (option_and_then (λ most. hardening_with size version most words.plain) o)
+    by_most : (size version : ℕ) (o : Option ℕ) → HasTwoNames (option_and_then (λ most. hardening_with form size version most words.plain) o)
     by_most size version None = none_has
-    by_most size version (Some most) = with_has size version most words.plain
+    by_most size version (Some most) = with_has form size version most words.plain
 
-    by_version : (size : ℕ) (o : Option ℕ) → HasTwoNames (option_and_then (λ version. option_and_then (λ most. hardening_with size version most words.plain) (said positive_number 4294967295 words.depths)) o)
+    by_version : (size : ℕ) (o : Option ℕ) → HasTwoNames (option_and_then (λ version. option_and_then (λ most. hardening_with form size version most words.plain) (said positive_number 4294967295 words.depths)) o)
     by_version size None = none_has
     by_version size (Some version) = by_most size version (said positive_number 4294967295 words.depths)
 
-    by_size : (o : Option ℕ) → HasTwoNames (option_and_then (λ size. option_and_then (λ version. option_and_then (λ most. hardening_with size version most words.plain) (said positive_number 4294967295 words.depths)) (said version_number 1 words.versions)) o)
+    by_size : (o : Option ℕ) → HasTwoNames (option_and_then (λ size. option_and_then (λ version. option_and_then (λ most. hardening_with form size version most words.plain) (said positive_number 4294967295 words.depths)) (said version_number 1 words.versions)) o)
     by_size None = none_has
     by_size (Some size) = by_version size (said version_number 1 words.versions)
+
+hardening_has : (words : Words) → HasTwoNames (hardening_of words)
+unfolding hardening_of
+hardening_has words = by_form (said form_named Plain words.forms)
+  where
+    by_form : (o : Option Form) → HasTwoNames (option_and_then (λ form. hardening_as form words) o)
+    by_form None = none_has
+    by_form (Some form) = form_has form words
 
 hardened_has : (words : Option Words) → HasTwoNames (of_words hardening_of words)
 hardened_has None = none_has

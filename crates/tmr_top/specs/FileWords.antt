@@ -30,6 +30,7 @@ hardening_in words = record {
   original = words.original.now;
   hardened = words.hardened.now;
   certificate = words.certificate.now;
+  form = words.form;
   size = words.size;
   version = words.version;
   most = words.most;

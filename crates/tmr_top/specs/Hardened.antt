@@ -33,7 +33,7 @@ pub record IsHardened (w : Hardening) (held : Contents) (saved : List (List ℕ)
   pub hardened : Net
   pub marks : List Bool
   pub certificate : PlainCert
-  pub form : BoundedForm original free w.size w.version w.most hardened marks certificate
+  pub form : BoundedForm w.form original free w.size w.version w.most hardened marks certificate
   pub saves : saved ≡ free_text hardened marks ∷ cert_text original hardened certificate ∷ []
   pub read : AreRead (free_text hardened marks) (cert_text original hardened certificate) original hardened marks certificate
   pub minimal : Bool

@@ -23,7 +23,7 @@ pub record LeavesHardened (w : Hardening) (held now : Contents) : Type 0 where
   pub hardened : Net
   pub marks : List Bool
   pub certificate : PlainCert
-  pub form : BoundedForm original free w.size w.version w.most hardened marks certificate
+  pub form : BoundedForm w.form original free w.size w.version w.most hardened marks certificate
   pub hardened_read : HoldsDesign now (hardened_file w.hardened) hardened marks
   pub certificate_read : HoldsCertificate now (certificate_file w.certificate) original hardened certificate
   pub validates : w.original ≢ w.hardened → w.original ≢ w.certificate → Succeeds (Validate (pair_of w)) now

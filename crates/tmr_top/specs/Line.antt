@@ -4,6 +4,8 @@ use Rattle.std.specs.Option.{option_and_then, option_map}
 use Rattle.std.specs.Str.{bytes_eq}
 use Rattle.std.specs.declared.alloc.Global.{Global}
 use Rattle.tmr_base.specs.Numbers.{number_of}
+use Rattle.triplicate.specs.declared.form.Form.{Form}
+use Rattle.triplicate.specs.declared.form.Form.TheVariants.{Plain, Lean}
 use Rattle.tmr_top.specs.Words.{texts, Words, has_no_options, words_of}
 use Rattle.tmr_top.specs.Trials.{Trial, trial_of}
 
@@ -13,11 +15,12 @@ pub record Pair : Type 0 where
   pub hardened : List ℕ
   pub certificate : List ℕ
 
--- the three files of `harden ORIG HARD CERT`, the size of partitions, the version of the certificate, and the most that a depth may be
+-- the three files of `harden ORIG HARD CERT`, the form, the size of partitions, the version of the certificate, and the most that a depth may be
 pub record Hardening : Type 0 where
   pub original : List ℕ
   pub hardened : List ℕ
   pub certificate : List ℕ
+  pub form : Form
   pub size : ℕ
   pub version : ℕ
   pub most : ℕ
@@ -131,25 +134,33 @@ positive_number word = option_and_then (λ n. if nat_eq n 0 then None else Some 
 unfoldable pub version_number : List ℕ → Option ℕ
 version_number word = if bytes_eq word (codes "1") then Some 1 else if bytes_eq word (codes "2") then Some 2 else None
 
--- what an option says that is given at most once; where it is not given, this number
-abbrev pub said : (List ℕ → Option ℕ) → ℕ → List (List ℕ) → Option ℕ
-said number default [] = Some default
-said number default (value ∷ []) = number value
-said number default (value ∷ other ∷ values) = None
+-- `plain` or `lean`
+unfoldable pub form_named : List ℕ → Option Form
+form_named word = if bytes_eq word (codes "plain") then Some Plain else if bytes_eq word (codes "lean") then Some Lean else None
+
+-- what an option says that is given at most once; where it is not given, this
+abbrev pub said : {A : Type 0} → (List ℕ → Option A) → A → List (List ℕ) → Option A
+said read default [] = Some default
+said read default (value ∷ []) = read value
+said read default (value ∷ other ∷ values) = None
 
 -- the hardened design and the certificate have two names
-unfoldable pub hardening_with : ℕ → ℕ → ℕ → List (List ℕ) → Option Command
-hardening_with size version most (original ∷ hardened ∷ certificate ∷ []) =
+unfoldable pub hardening_with : Form → ℕ → ℕ → ℕ → List (List ℕ) → Option Command
+hardening_with form size version most (original ∷ hardened ∷ certificate ∷ []) =
     if is_file original && is_file hardened && is_file certificate && not (bytes_eq hardened certificate)
-    then Some (Harden (record { original = original; hardened = hardened; certificate = certificate; size = size; version = version; most = most }))
+    then Some (Harden (record { original = original; hardened = hardened; certificate = certificate; form = form; size = size; version = version; most = most }))
     else None
-hardening_with size version most words = None
+hardening_with form size version most words = None
 
--- without options the size is 64, the version 1, and a depth may be any
-unfoldable pub hardening_of : Words → Option Command
-hardening_of words =
-    option_and_then (λ size. option_and_then (λ version. option_and_then (λ most. hardening_with size version most words.plain)
+-- a hardening of this form; without the other options the size is 64, the version 1, and a depth may be any
+unfoldable pub hardening_as : Form → Words → Option Command
+hardening_as form words =
+    option_and_then (λ size. option_and_then (λ version. option_and_then (λ most. hardening_with form size version most words.plain)
     (said positive_number 4294967295 words.depths)) (said version_number 1 words.versions)) (said positive_number 64 words.sizes)
+
+-- without the option the form is plain
+unfoldable pub hardening_of : Words → Option Command
+hardening_of words = option_and_then (λ form. hardening_as form words) (said form_named Plain words.forms)
 
 abbrev pub of_words : (Words → Option Command) → Option Words → Option Command
 of_words meaning None = None

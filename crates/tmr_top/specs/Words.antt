@@ -5,7 +5,7 @@ use Rattle.std.specs.Option.{option_map, option_and_then}
 use Rattle.std.specs.Str.{bytes_eq}
 use Rattle.std.specs.declared.alloc.Global.{Global}
 use Rattle.tmr_top.specs.declared.words.Setting.{Setting}
-use Rattle.tmr_top.specs.declared.words.Setting.TheVariants.{Size, Version, Depth}
+use Rattle.tmr_top.specs.declared.words.Setting.TheVariants.{Size, Version, Depth, Form}
 use Rattle.tmr_top.specs.declared.words.Mode.{Mode}
 use Rattle.tmr_top.specs.declared.words.Mode.TheVariants.{Options, Value, Plain}
 
@@ -13,23 +13,25 @@ use Rattle.tmr_top.specs.declared.words.Mode.TheVariants.{Options, Value, Plain}
 abbrev pub texts : List (String Global) → List (List ℕ)
 texts words = map string_bytes words
 
--- the plain words, and the values that the options are given: `--size`, `--cert` and `--depth`
+-- the plain words, and the values that the options are given: `--size`, `--cert`, `--depth` and `--form`
 pub record Words : Type 0 where
   pub plain : List (List ℕ)
   pub sizes : List (List ℕ)
   pub versions : List (List ℕ)
   pub depths : List (List ℕ)
+  pub forms : List (List ℕ)
 
 abbrev pub no_words : Words
-no_words = record { plain = []; sizes = []; versions = []; depths = [] }
+no_words = record { plain = []; sizes = []; versions = []; depths = []; forms = [] }
 
 abbrev pub plain_word : List ℕ → Words
-plain_word word = record { plain = word ∷ []; sizes = []; versions = []; depths = [] }
+plain_word word = record { plain = word ∷ []; sizes = []; versions = []; depths = []; forms = [] }
 
 abbrev pub given_value : Setting → List ℕ → Words
-given_value Size value = record { plain = []; sizes = value ∷ []; versions = []; depths = [] }
-given_value Version value = record { plain = []; sizes = []; versions = value ∷ []; depths = [] }
-given_value Depth value = record { plain = []; sizes = []; versions = []; depths = value ∷ [] }
+given_value Size value = record { plain = []; sizes = value ∷ []; versions = []; depths = []; forms = [] }
+given_value Version value = record { plain = []; sizes = []; versions = value ∷ []; depths = []; forms = [] }
+given_value Depth value = record { plain = []; sizes = []; versions = []; depths = value ∷ []; forms = [] }
+given_value Form value = record { plain = []; sizes = []; versions = []; depths = []; forms = value ∷ [] }
 
 -- these, and behind them those
 abbrev pub both : Words → Words → Words
@@ -38,23 +40,26 @@ both these those = record {
   sizes = these.sizes ++ those.sizes;
   versions = these.versions ++ those.versions;
   depths = these.depths ++ those.depths;
+  forms = these.forms ++ those.forms;
 }
 
 -- no option is given
 abbrev pub has_no_options : Words → Bool
-has_no_options words = length words.sizes == 0 && length words.versions == 0 && length words.depths == 0
+has_no_options words = length words.sizes == 0 && length words.versions == 0 && length words.depths == 0 && length words.forms == 0
 
 -- how an option is written
 abbrev pub setting_text : Setting → List ℕ
 setting_text Size = codes "--size"
 setting_text Version = codes "--cert"
 setting_text Depth = codes "--depth"
+setting_text Form = codes "--form"
 
 -- the same with `=` behind it
 abbrev pub equals_text : Setting → List ℕ
 equals_text Size = codes "--size="
 equals_text Version = codes "--cert="
 equals_text Depth = codes "--depth="
+equals_text Form = codes "--form="
 
 abbrev pub begins_with : List ℕ → List ℕ → Bool
 begins_with start word = bytes_eq (take (length start) word) start
@@ -79,9 +84,9 @@ take_setting setting word otherwise =
     else if begins_with (equals_text setting) word then Some (record { adds = given_value setting (drop (length (equals_text setting)) word); next = Options })
     else otherwise
 
--- one of the three options
+-- one of the four options
 unfoldable pub take_option : List ℕ → Option Taken
-take_option word = take_setting Size word (take_setting Version word (take_setting Depth word None))
+take_option word = take_setting Size word (take_setting Version word (take_setting Depth word (take_setting Form word None)))
 
 -- Before the first `--` a word may be an option, or the value that the option before it waits for, which does not begin with `-`. That
 -- `--` adds nothing, and behind it all words are plain.

@@ -12,6 +12,7 @@ words_in words = record {
   sizes = read_words words.sizes.items;
   versions = read_words words.versions.items;
   depths = read_words words.depths.items;
+  forms = read_words words.forms.items;
 }
 
 abbrev pub item_in : Item → Words

@@ -1,13 +1,16 @@
 //! The words of `harden`.
 ghost use Rattle.std.specs.Prelude.{◌<◌};
 
-/// The three file words and the options of `harden ORIG HARD CERT`: the size of partitions, the
+use triplicate::Form;
+
+/// The three file words and the options of `harden ORIG HARD CERT`: the form, the size of partitions, the
 /// version of the certificate, and the most that a depth may be.
 #[derive(Clone, Copy, Drop)]
 pub struct HardenWords<'a> {
     pub original: &'a str,
     pub hardened: &'a str,
     pub certificate: &'a str,
+    pub form: Form,
     pub size: u32,
     pub version: u8,
     pub most: u32,

@@ -33,7 +33,7 @@ fn form_text(
     n: &FreeNet,
     made: &HardenedTexts,
 ) -> Result<Vec<u8>, OutOfMemory>
-    ensures { (a : AreTexts n.now words.now.size words.now.version words.now.most made.now) → IfOk result (λ text. text.items ≡ hardened_lines
+    ensures { (a : AreTexts words.now.form n.now words.now.size words.now.version words.now.most made.now) → IfOk result (λ text. text.items ≡ hardened_lines
         (form_numbers n.now.design.net words.now.size a.pair.net.design.net a.pair.cert made.now.minimal)
         a.pair.cert.version (count_by (λ bit. bit) n.now.free)) }
 {
@@ -53,7 +53,7 @@ fn form_text(
 /// Both texts of a hardened form keep the limits of their files, where the flat text of its original keeps its own.
 fn texts_keep_limits(words: &HardenWords, n: &FreeNet, made: &HardenedTexts)
     requires { IsFlatWithin 8388608 n.now.design.net n.now.free }
-    ensures { (a : AreTexts n.now words.now.size words.now.version words.now.most made.now) → KeepLimits n.now.design.net a.pair.net.design.net a.pair.cert }
+    ensures { (a : AreTexts words.now.form n.now words.now.size words.now.version words.now.most made.now) → KeepLimits n.now.design.net a.pair.net.design.net a.pair.cert }
 {
     hardened_texts_are_short();
     let _original = checked_nodes(n);
@@ -66,7 +66,7 @@ fn tell_form(
     n: &FreeNet,
     made: HardenedTexts,
 ) -> Result<Work, OutOfMemory>
-    requires made { AreTexts n.now words.now.size words.now.version words.now.most made }
+    requires made { AreTexts words.now.form n.now words.now.size words.now.version words.now.most made }
     requires flat { IsFlatWithin 8388608 n.now.design.net n.now.free }
     ensures texts { IfOk result (HasTexts (Harden (hardening_in words.now))) }
     ensures work { (held : Contents)
@@ -95,7 +95,7 @@ fn harden_design(alloc: Global, words: &HardenWords, n: &FreeNet) -> Result<Work
         → HoldsDesign held (original_file words.now.original.now) n.now.design.net n.now.free
         → IfOk result (IsWork (Harden (hardening_in words.now)) held) }
 {
-    let made = harden_texts(alloc, n, words.size, words.version, words.most)?;
+    let made = harden_texts(alloc, n, words.form, words.size, words.version, words.most)?;
     tell_form(alloc, words, n, made)
 }
 

@@ -3,7 +3,7 @@ ghost use Rattle.std.specs.Prelude.{◌≡◌, ◌<◌, ◌∷◌, [], IfOk, IfS
 ghost use Rattle.std.specs.Option.{option_map};
 ghost use Rattle.tmr_top.specs.Words.{texts};
 ghost use Rattle.tmr_top.specs.WordsRead.{words_in};
-ghost use Rattle.tmr_top.specs.Line.{Validate, Report, Guard, CheckGuard, is_file, pair_of, over_pair, over_trial, flattening_of, guarding_of, over_guarding, graphing_of, graph_reading_of, replay_over, replaying_of, waving_of, positive_number, version_number, said, hardening_with, hardening_of, line_of};
+ghost use Rattle.tmr_top.specs.Line.{Validate, Report, Guard, CheckGuard, is_file, pair_of, over_pair, over_trial, flattening_of, guarding_of, over_guarding, graphing_of, graph_reading_of, replay_over, replaying_of, waving_of, positive_number, version_number, form_named, said, hardening_with, hardening_as, hardening_of, line_of};
 ghost use Rattle.tmr_top.specs.FileWords.{pair_in, word_in, guarding_in, command_in, read_words as read_texts};
 
 use crate::harden_words::HardenWords;
@@ -13,6 +13,7 @@ use crate::trial_words::TrialWords;
 use crate::words::{ReadWords, is_plain, read_words};
 use std::alloc::{AllocError, Global};
 use tmr_base::read_u32;
+use triplicate::Form;
 
 /// The three file words of `validate ORIG HARD CERT` and of `report ORIG HARD CERT`, which others
 /// begin with.
@@ -304,6 +305,20 @@ fn read_version(value: &[u8]) -> Option<u8>
     None
 }
 
+/// The form that an option's value names.
+#[tactic(auto, unfolding(crate::specs::Line::form_named))]
+fn read_form(value: &[u8]) -> Option<Form>
+    ensures { result ≡ form_named value.now }
+{
+    if value == b"plain".as_slice() {
+        return Some(Form::Plain);
+    }
+    if value == b"lean".as_slice() {
+        return Some(Form::Lean);
+    }
+    None
+}
+
 /// What an option says that is given at most once; where it is not given, this number.
 fn said_number(default: u32, values: &[&[u8]]) -> Option<u32>
     requires { 0 < default }
@@ -329,9 +344,21 @@ fn said_version(values: &[&[u8]]) -> Option<u8>
     }
 }
 
+/// The form that is said; without the option it is the plain one.
+fn said_form(values: &[&[u8]]) -> Option<Form>
+    ensures { result ≡ said form_named Form.Plain (read_texts values.now) }
+{
+    match values {
+        [] => Some(Form::Plain),
+        [value] => read_form(value),
+        _ => None,
+    }
+}
+
 /// `harden`, where there are three words, none is empty, and the last two differ.
 #[tactic(auto, unfolding(crate::specs::Line::hardening_with))]
 fn hardening_words<'a>(
+    form: Form,
     size: u32,
     version: u8,
     most: u32,
@@ -340,7 +367,7 @@ fn hardening_words<'a>(
     requires size { 0 < size }
     requires version { (0 < version) × (version < 3) }
     requires most { 0 < most }
-    ensures { option_map command_in result ≡ hardening_with size version most (read_texts plain.now) }
+    ensures { option_map command_in result ≡ hardening_with form size version most (read_texts plain.now) }
 {
     match plain {
         [original, hardened, certificate] => {
@@ -354,6 +381,7 @@ fn hardening_words<'a>(
                 original: *original,
                 hardened: *hardened,
                 certificate: *certificate,
+                form,
                 size,
                 version,
                 most,
@@ -363,10 +391,10 @@ fn hardening_words<'a>(
     }
 }
 
-/// `harden`, where its options and files can be read.
-#[tactic(auto, unfolding(crate::specs::Line::hardening_of))]
-fn read_hardening<'a>(words: &ReadWords<'a>) -> Option<CommandWords<'a>>
-    ensures { option_map command_in result ≡ hardening_of (words_in words.now) }
+/// `harden` of this form, where its other options and its files can be read.
+#[tactic(auto, unfolding(crate::specs::Line::hardening_as))]
+fn read_hardening_of<'a>(words: &ReadWords<'a>, form: Form) -> Option<CommandWords<'a>>
+    ensures { option_map command_in result ≡ hardening_as form (words_in words.now) }
 {
     match said_number(64, words.sizes.as_slice()) {
         None => None,
@@ -374,9 +402,20 @@ fn read_hardening<'a>(words: &ReadWords<'a>) -> Option<CommandWords<'a>>
             None => None,
             Some(version) => match said_number(4294967295, words.depths.as_slice()) {
                 None => None,
-                Some(most) => hardening_words(size, version, most, words.plain.as_slice()),
+                Some(most) => hardening_words(form, size, version, most, words.plain.as_slice()),
             },
         },
+    }
+}
+
+/// `harden`, where its options and files can be read.
+#[tactic(auto, unfolding(crate::specs::Line::hardening_of))]
+fn read_hardening<'a>(words: &ReadWords<'a>) -> Option<CommandWords<'a>>
+    ensures { option_map command_in result ≡ hardening_of (words_in words.now) }
+{
+    match said_form(words.forms.as_slice()) {
+        None => None,
+        Some(form) => read_hardening_of(words, form),
     }
 }
 

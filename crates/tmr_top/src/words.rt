@@ -12,6 +12,7 @@ pub enum Setting {
     Size,
     Version,
     Depth,
+    Form,
 }
 
 /// How the next word is read: options are looked for, or this option waits for its value, or all
@@ -30,6 +31,7 @@ pub struct ReadWords<'a> {
     pub sizes: Vec<&'a [u8]>,
     pub versions: Vec<&'a [u8]>,
     pub depths: Vec<&'a [u8]>,
+    pub forms: Vec<&'a [u8]>,
 }
 
 /// What a word adds.
@@ -51,7 +53,10 @@ pub struct TakenWord<'a> {
 pub fn is_plain(words: &ReadWords) -> bool
     ensures { result ≡ has_no_options (words_in words.now) }
 {
-    words.sizes.is_empty() && words.versions.is_empty() && words.depths.is_empty()
+    words.sizes.is_empty()
+        && words.versions.is_empty()
+        && words.depths.is_empty()
+        && words.forms.is_empty()
 }
 
 /// How an option is written, alone and before its value.
@@ -63,6 +68,7 @@ fn setting_words(setting: Setting) -> (&'static [u8], &'static [u8])
         Setting::Size => (b"--size".as_slice(), b"--size=".as_slice()),
         Setting::Version => (b"--cert".as_slice(), b"--cert=".as_slice()),
         Setting::Depth => (b"--depth".as_slice(), b"--depth=".as_slice()),
+        Setting::Form => (b"--form".as_slice(), b"--form=".as_slice()),
     }
 }
 
@@ -96,7 +102,8 @@ fn take_one<'a>(
 fn take_known<'a>(word: &'a str) -> Option<TakenWord<'a>>
     ensures { option_map taken_in result ≡ take_option word.now }
 {
-    let depth = take_one(Setting::Depth, word, None);
+    let form = take_one(Setting::Form, word, None);
+    let depth = take_one(Setting::Depth, word, form);
     let version = take_one(Setting::Version, word, depth);
     take_one(Setting::Size, word, version)
 }
@@ -163,6 +170,7 @@ fn add<'a>(words: &mut ReadWords<'a>, item: Item<'a>) -> Result<(), AllocError>
         Item::Given(Setting::Size, value) => words.sizes.push(value)?,
         Item::Given(Setting::Version, value) => words.versions.push(value)?,
         Item::Given(Setting::Depth, value) => words.depths.push(value)?,
+        Item::Given(Setting::Form, value) => words.forms.push(value)?,
     }
     Ok(())
 }
@@ -190,6 +198,7 @@ pub fn read_words<'a>(
         sizes: Vec::new(alloc),
         versions: Vec::new(alloc),
         depths: Vec::new(alloc),
+        forms: Vec::new(alloc),
     };
     let mut mode = Mode::Options;
     for word in words {

@@ -160,10 +160,10 @@ module _ (n : Net) (parts : PlainParts) (voted : ℕ → ℕ → Bool) (t : Labe
       listed : (x : ℕ) → x < net_count n → threefold (copy_net n parts voted x) ≡ threefold (copy_of (hardened_cert n parts voted t) x)
       listed x high = rw (copy_listed n parts voted t x First high, copy_listed n parts voted t x Second high, copy_listed n parts voted t x Third high) refl
 
-  pub votes_as_needed : VotesAsNeeded n (hardened_net n parts voted) (hardened_cert n parts voted t) t.inputs is.extra
+  pub votes_as_needed : VotesAsNeeded is.kind n (hardened_net n parts voted) (hardened_cert n parts voted t) t.inputs is.extra
   votes_as_needed = record {
     cut = is.cut;
-    voted = subst (λ (p : PlainParts). VotesFor n p t.inputs is.cut is.extra (is_voted n (hardened_net n parts voted) (hardened_cert n parts voted t))) (sym same_parts) (record {
+    voted = subst (λ (p : PlainParts). VotesFor is.kind n p t.inputs is.cut is.extra (is_voted n (hardened_net n parts voted) (hardened_cert n parts voted t))) (sym same_parts) (record {
       at_inputs = λ y j x reads low. agrees y j x reads ∙ is.votes.at_inputs y j x reads low;
       foreign = λ y j x reads apart. agrees y j (length n.inputs + x) reads ∙ is.votes.foreign y j x reads apart;
       meets = is.votes.meets;

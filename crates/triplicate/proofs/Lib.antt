@@ -26,6 +26,5 @@ pub mod Pushing
 pub mod RoleSteps
 pub mod Assembly
 pub mod Rooms
-pub mod PartRanges
 pub mod Building
 pub mod Planned

@@ -4,6 +4,7 @@ use Rattle.std.specs.Prelude.{◌↔◌, IsTrue, count_by, nat_eq}
 use Rattle.partitioner.specs.Refining.{IsMinimal}
 use Rattle.flat_net.specs.Net.{Net}
 use Rattle.flat_net.specs.Free.{FreeDesign}
+use Rattle.triplicate.specs.declared.form.Form.{Form}
 use Rattle.triplicate.specs.declared.hardened.Hardened.{Hardened}
 use Rattle.triplicate.specs.declared.planning.Plan.{Plan}
 use Rattle.triplicate.specs.Blocks.{hardened_roles}
@@ -15,14 +16,15 @@ use Rattle.triplicate.proofs.Sizes.{roles_counted}
 use Rattle.triplicate.proofs.Whole.{nodes_long, bounded_is}
 
 -- what is made of a plan, where that many voters are counted
-pub built_of_plan : (n : Net) (size : ℕ) (inputs : Bool) (most : ℕ) (p : Plan) (r : Hardened) → IsPlan n size inputs most p → r.net.net ≡ hardened_net n p.parts (voted_in n p) → r.cert ≡ cert_in n p → r.cost ≡ p.cost → r.plain ≡ p.plain → r.minimal ≡ p.minimal
-    → r.voters ≡ count_by is_voter_role (hardened_roles n p.parts (voted_in n p)) → IsBuilt n size inputs most r
-built_of_plan n size inputs most p r is net cert pairs plain minimal voters = record {
+pub built_of_plan : (kind : Form) (n : Net) (size : ℕ) (inputs : Bool) (most : ℕ) (p : Plan) (r : Hardened) → IsPlan kind n size inputs most p → r.net.net ≡ hardened_net n p.parts (voted_in n p) → r.cert ≡ cert_in n p → r.cost ≡ p.cost → r.plain ≡ p.plain → r.minimal ≡ p.minimal
+    → r.voters ≡ count_by is_voter_role (hardened_roles n p.parts (voted_in n p)) → IsBuilt kind n size inputs most r
+built_of_plan kind n size inputs most p r is net cert pairs plain minimal voters = record {
   parts = p.parts;
   votes = votes_in p;
   table = p.extra.table;
   inputs_are = is.inputs_are;
   given = is.given;
+  kind_is = is.kind_is;
   cut_is = is.cut_is;
   extra_is = is.extra_is;
   bound = is.bound;
@@ -37,9 +39,9 @@ built_of_plan n size inputs most p r is net cert pairs plain minimal voters = re
 }
 
 -- the pair
-pub planned_is : (n : FreeDesign) (size version most : ℕ) (p : Plan) → (version ≡ 1) ⊎ (version ≡ 2) → IsPlan n.design.net size (nat_eq version 2) most p → IsBounded n size version most (pair_in n p)
-planned_is n size version most p known is =
-    bounded_is n size version most built (pair_in n p) known (built_of_plan n.design.net size (nat_eq version 2) most p built is refl refl refl refl refl refl) refl refl refl refl refl refl refl
+pub planned_is : (kind : Form) (n : FreeDesign) (size version most : ℕ) (p : Plan) → (version ≡ 1) ⊎ (version ≡ 2) → IsPlan kind n.design.net size (nat_eq version 2) most p → IsBounded kind n size version most (pair_in n p)
+planned_is kind n size version most p known is =
+    bounded_is kind n size version most built (pair_in n p) known (built_of_plan kind n.design.net size (nat_eq version 2) most p built is refl refl refl refl refl refl) refl refl refl refl refl refl refl
   where
     built : Hardened
     built = record {

@@ -5,10 +5,11 @@ use Rattle.std.proofs.lemmas.Bool.{ne_eqb, eq-eqb}
 use Rattle.std.proofs.lemmas.Bool.Decides.{nat_tests}
 use Rattle.tmr_base.specs.Parts.{PlainParts}
 use Rattle.flat_net.specs.Net.{Net}
-use Rattle.feedback_cut.specs.Cut.{CutMeets}
 use Rattle.recovery_depth.specs.Depths.{PlainDepths, AreDepths}
 use Rattle.recovery_depth.specs.Extra.{is_extra, is_cut_or_extra}
 use Rattle.recovery_depth.proofs.Alike.{depths_alike}
+use Rattle.triplicate.specs.declared.form.Form.{Form}
+use Rattle.triplicate.specs.Choices.{IsCutOf}
 use Rattle.triplicate.specs.Voting.{ReadsNet, VotesFor}
 use Rattle.triplicate.specs.Private.Pins.{PlainVotes, read_is_voted, pin_is_voted}
 
@@ -23,7 +24,7 @@ read_node n parts inputs y c x =
     node : (z : ℕ) → length n.inputs ≤ z → read_is_voted n parts inputs y c z ≡ (not (eqb (slice_index parts.of (z - length n.inputs)) (slice_index parts.of y)) || c)
     node z h = grind (arith, nat_tests)
 
-module _ (n : Net) (parts : PlainParts) (vs : PlainVotes) (meets : CutMeets n parts vs.cut) where
+module _ (kind : Form) (n : Net) (parts : PlainParts) (vs : PlainVotes) (meets : IsCutOf kind n parts vs.cut) where
   at_node : (y j x : ℕ) → ReadsNet n y j (length n.inputs + x) → pin_is_voted n parts vs y j ≡ (not (eqb (slice_index parts.of x) (slice_index parts.of y)) || is_cut_or_extra vs.cut vs.marks y j)
   unfolding pin_is_voted
   at_node y j x reads = ap (read_is_voted n parts vs.inputs y (is_cut_or_extra vs.cut vs.marks y j)) reads.is ∙ read_node n parts vs.inputs y (is_cut_or_extra vs.cut vs.marks y j) x
@@ -38,7 +39,7 @@ module _ (n : Net) (parts : PlainParts) (vs : PlainVotes) (meets : CutMeets n pa
   apart : (y j x : ℕ) → ReadsNet n y j (length n.inputs + x) → slice_index parts.of x ≢ slice_index parts.of y → pin_is_voted n parts vs y j ≡ true
   apart y j x reads ne = at_node y j x reads ∙ ap (λ b. not b || is_cut_or_extra vs.cut vs.marks y j) (ne_eqb (slice_index parts.of x) (slice_index parts.of y) ne)
 
-  pub votes : VotesFor n parts vs.inputs vs.cut (is_extra vs.marks) (pin_is_voted n parts vs)
+  pub votes : VotesFor kind n parts vs.inputs vs.cut (is_extra vs.marks) (pin_is_voted n parts vs)
   votes = record {
     at_inputs = at_input;
     foreign = apart;

@@ -17,8 +17,10 @@ use Rattle.triplicate.specs.Result.{IsHardened, IsFreeHardened, IsBounded, is_vo
 use Rattle.triplicate.proofs.Sizes.{roles_counted}
 use Rattle.tmr_base.specs.Parts.{PlainParts}
 use Rattle.flat_net.specs.Net.{Net}
-use Rattle.partitioner.specs.Sizes.{plain_parts}
-use Rattle.partitioner.specs.Refining.{refined, IsMinimal}
+use Rattle.partitioner.specs.Refining.{IsMinimal}
+use Rattle.triplicate.specs.declared.form.Form.{Form}
+use Rattle.triplicate.specs.declared.form.Form.TheVariants.{Plain}
+use Rattle.triplicate.specs.Choices.{ArePartsOf}
 use Rattle.triplicate.specs.Voting.{none_extra}
 use Rattle.triplicate.specs.Private.Pins.{pin_is_voted}
 use Rattle.triplicate.specs.Private.Built.{IsBuilt}
@@ -72,21 +74,21 @@ version_is version (inr e) = ap (λ v. version_of (nat_eq v 2)) e ∙ sym e
 counted_all : (k : PlainCert) (f : List Bool) → k.version ≡ 2 → counted k f ≡ f
 counted_all k f e = ap (λ v. if nat_eq v 1 then [] else f) e
 
-module _ (n : Net) (size : ℕ) (parts : PlainParts) (voted : ℕ → ℕ → Bool) (t : Labeling) (is : IsGiven n parts voted t) (exact : parts ≡ refined n size (plain_parts n size) 8) where
-  pub has_form : (f g : List Bool) → AllHold n f (hardened_net n parts voted) g (hardened_cert n parts voted t) → HasForm n f size (hardened_net n parts voted) g (hardened_cert n parts voted t) t.inputs is.extra
+module _ (n : Net) (size : ℕ) (parts : PlainParts) (voted : ℕ → ℕ → Bool) (t : Labeling) (is : IsGiven n parts voted t) (exact : ArePartsOf is.kind n size parts) where
+  pub has_form : (f g : List Bool) → AllHold n f (hardened_net n parts voted) g (hardened_cert n parts voted t) → HasForm is.kind n f size (hardened_net n parts voted) g (hardened_cert n parts voted t) t.inputs is.extra
   has_form f g rules = record {
     version = cert_version n parts voted t;
-    parts = same_parts n parts voted t is ∙ exact;
+    parts = subst (λ (p : PlainParts). ArePartsOf is.kind n size p) (sym (same_parts n parts voted t is)) exact;
     tripled = is_tripled n parts voted t is;
     voted = votes_as_needed n parts voted t is;
     corresponds = rules;
     labels = least_labels n parts voted t is;
   }
 
-  pub plain_form : HasForm n [] size (hardened_net n parts voted) [] (hardened_cert n parts voted t) t.inputs is.extra
+  pub plain_form : HasForm is.kind n [] size (hardened_net n parts voted) [] (hardened_cert n parts voted t) t.inputs is.extra
   plain_form = has_form [] [] (without_marks n (hardened_net n parts voted) [] (spread_start (hardened_cert n parts voted t) []) (hardened_cert n parts voted t) (corresponds n parts voted t is []))
 
-  pub counted_form : (f : List Bool) → HasForm n (counted (hardened_cert n parts voted t) f) size (hardened_net n parts voted) (counted (hardened_cert n parts voted t) (spread_start (hardened_cert n parts voted t) (counted (hardened_cert n parts voted t) f))) (hardened_cert n parts voted t) t.inputs is.extra
+  pub counted_form : (f : List Bool) → HasForm is.kind n (counted (hardened_cert n parts voted t) f) size (hardened_net n parts voted) (counted (hardened_cert n parts voted t) (spread_start (hardened_cert n parts voted t) (counted (hardened_cert n parts voted t) f))) (hardened_cert n parts voted t) t.inputs is.extra
   counted_form f = has_form (counted (hardened_cert n parts voted t) f) (counted (hardened_cert n parts voted t) (spread_start (hardened_cert n parts voted t) (counted (hardened_cert n parts voted t) f))) (counted_rules n (hardened_net n parts voted) f (hardened_cert n parts voted t) (corresponds n parts voted t is))
 
   pub counted_cut : (f : List Bool) → (counted_form f).voted.cut ≡ is.cut
@@ -94,7 +96,7 @@ module _ (n : Net) (size : ℕ) (parts : PlainParts) (voted : ℕ → ℕ → Bo
   counted_cut f = cut_needed n parts voted t is
 
 -- what is told of a pair beside its form
-module _ (n : Net) (size : ℕ) (inputs : Bool) (most : ℕ) (r : Hardened) (b : IsBuilt n size inputs most r) where
+module _ (kind : Form) (n : Net) (size : ℕ) (inputs : Bool) (most : ℕ) (r : Hardened) (b : IsBuilt kind n size inputs most r) where
   own : parts_of r.cert ≡ b.parts
   own = ap parts_of b.cert ∙ same_parts n b.parts (pin_is_voted n b.parts b.votes) (labeling b.votes.inputs b.table) b.given
 
@@ -110,38 +112,39 @@ module _ (n : Net) (size : ℕ) (inputs : Bool) (most : ℕ) (r : Hardened) (b :
       omega (arith, b.voters, nodes_long n b.parts (pin_is_voted n b.parts b.votes), roles_counted n b.parts (pin_is_voted n b.parts b.votes), counted)
 
 -- the answer of hardening to version 1
-pub hardened_is : (n : Net) (size most : ℕ) (r : Hardened) → length n.nodes < most → IsBuilt n size false most r → IsHardened n size r
+pub hardened_is : (n : Net) (size most : ℕ) (r : Hardened) → length n.nodes < most → IsBuilt Plain n size false most r → IsHardened n size r
 hardened_is n size most r few b = record {
-  form = subst (λ (h : Net). HasForm n [] size h [] r.cert false none_extra) (sym b.net) (subst (λ (k : PlainCert). HasForm n [] size (hardened_net n b.parts (pin_is_voted n b.parts b.votes)) [] k false none_extra) (sym b.cert) made);
-  pairs = pairs_are n size false most r b;
+  form = subst (λ (h : Net). HasForm Plain n [] size h [] r.cert false none_extra) (sym b.net) (subst (λ (k : PlainCert). HasForm Plain n [] size (hardened_net n b.parts (pin_is_voted n b.parts b.votes)) [] k false none_extra) (sym b.cert) made);
+  pairs = pairs_are Plain n size false most r b;
   plain_pairs = b.plain_pairs;
-  minimal = minimal_is n size false most r b;
-  voters = voters_are n size false most r b;
+  minimal = minimal_is Plain n size false most r b;
+  voters = voters_are Plain n size false most r b;
 }
   where
     none : b.given.extra ≡ none_extra
     none = b.extra_is ∙ (λ i y j. b.none few y j i)
 
-    made : HasForm n [] size (hardened_net n b.parts (pin_is_voted n b.parts b.votes)) [] (hardened_cert n b.parts (pin_is_voted n b.parts b.votes) (labeling b.votes.inputs b.table)) false none_extra
-    made = subst (λ (inputs : Bool). HasForm n [] size (hardened_net n b.parts (pin_is_voted n b.parts b.votes)) [] (hardened_cert n b.parts (pin_is_voted n b.parts b.votes) (labeling b.votes.inputs b.table)) inputs none_extra) b.inputs_are
-        (subst (λ (x : ℕ → ℕ → Bool). HasForm n [] size (hardened_net n b.parts (pin_is_voted n b.parts b.votes)) [] (hardened_cert n b.parts (pin_is_voted n b.parts b.votes) (labeling b.votes.inputs b.table)) b.votes.inputs x) none
-        (plain_form n size b.parts (pin_is_voted n b.parts b.votes) (labeling b.votes.inputs b.table) b.given b.exact))
+    made : HasForm Plain n [] size (hardened_net n b.parts (pin_is_voted n b.parts b.votes)) [] (hardened_cert n b.parts (pin_is_voted n b.parts b.votes) (labeling b.votes.inputs b.table)) false none_extra
+    made = subst (λ (inputs : Bool). HasForm Plain n [] size (hardened_net n b.parts (pin_is_voted n b.parts b.votes)) [] (hardened_cert n b.parts (pin_is_voted n b.parts b.votes) (labeling b.votes.inputs b.table)) inputs none_extra) b.inputs_are
+        (subst (λ (x : ℕ → ℕ → Bool). HasForm Plain n [] size (hardened_net n b.parts (pin_is_voted n b.parts b.votes)) [] (hardened_cert n b.parts (pin_is_voted n b.parts b.votes) (labeling b.votes.inputs b.table)) b.votes.inputs x) none
+        (subst (λ (kind : Form). HasForm kind n [] size (hardened_net n b.parts (pin_is_voted n b.parts b.votes)) [] (hardened_cert n b.parts (pin_is_voted n b.parts b.votes) (labeling b.votes.inputs b.table)) b.votes.inputs b.given.extra) b.kind_is
+        (plain_form n size b.parts (pin_is_voted n b.parts b.votes) (labeling b.votes.inputs b.table) b.given (subst (λ (kind : Form). ArePartsOf kind n size b.parts) (sym b.kind_is) b.exact))))
 
 -- the form with its cut and its extra pins
-pub record FormWith (n : Net) (f : List Bool) (size most : ℕ) (h : Net) (g : List Bool) (k : PlainCert) (inputs : Bool) (x : ℕ → ℕ → Bool) (e : PlainExtra) : Type 0 where
-  pub form : HasForm n f size h g k inputs x
+pub record FormWith (kind : Form) (n : Net) (f : List Bool) (size most : ℕ) (h : Net) (g : List Bool) (k : PlainCert) (inputs : Bool) (x : ℕ → ℕ → Bool) (e : PlainExtra) : Type 0 where
+  pub form : HasForm kind n f size h g k inputs x
   pub bound : AreExtra n (parts_of k) form.voted.cut most e
 
 -- the answer of hardening to either version, with a bound
-pub bounded_is : (n : FreeDesign) (size version most : ℕ) (r : Hardened) (f : HardenedFree) → (version ≡ 1) ⊎ (version ≡ 2) → IsBuilt n.design.net size (nat_eq version 2) most r → f.net.design.net ≡ r.net.net → f.cert ≡ r.cert → f.net.free ≡ spread_start r.cert (counted r.cert n.free) →
-    f.cost ≡ r.cost → f.plain ≡ r.plain → f.minimal ≡ r.minimal → f.voters ≡ r.voters → IsBounded n size version most f
-bounded_is n size version most r f known b net cert marks pairs plain minimal voters = record {
-  form = subst (λ (h : Net). BoundedForm n.design.net n.free size version most h f.net.free f.cert) (sym (net ∙ b.net)) (subst (λ (k : PlainCert). BoundedForm n.design.net n.free size version most h f.net.free k) (sym (cert ∙ b.cert)) made);
-  unbounded = λ few. subst (λ (h : Net). HasForm n.design.net (counted f.cert n.free) size h (counted f.cert f.net.free) f.cert (nat_eq version 2) none_extra) (sym (net ∙ b.net)) (subst (λ (c : PlainCert). HasForm n.design.net (counted c n.free) size h (counted c f.net.free) c (nat_eq version 2) none_extra) (sym (cert ∙ b.cert)) (none_added few));
-  pairs = pairs ∙ (pairs_are n.design.net size (nat_eq version 2) most r b ∙ ap (λ (k : PlainCert). cost n.design.net (parts_of k)) (sym cert));
+pub bounded_is : (kind : Form) (n : FreeDesign) (size version most : ℕ) (r : Hardened) (f : HardenedFree) → (version ≡ 1) ⊎ (version ≡ 2) → IsBuilt kind n.design.net size (nat_eq version 2) most r → f.net.design.net ≡ r.net.net → f.cert ≡ r.cert → f.net.free ≡ spread_start r.cert (counted r.cert n.free) →
+    f.cost ≡ r.cost → f.plain ≡ r.plain → f.minimal ≡ r.minimal → f.voters ≡ r.voters → IsBounded kind n size version most f
+bounded_is kind n size version most r f known b net cert marks pairs plain minimal voters = record {
+  form = subst (λ (h : Net). BoundedForm kind n.design.net n.free size version most h f.net.free f.cert) (sym (net ∙ b.net)) (subst (λ (k : PlainCert). BoundedForm kind n.design.net n.free size version most h f.net.free k) (sym (cert ∙ b.cert)) made);
+  unbounded = λ few. subst (λ (h : Net). HasForm kind n.design.net (counted f.cert n.free) size h (counted f.cert f.net.free) f.cert (nat_eq version 2) none_extra) (sym (net ∙ b.net)) (subst (λ (c : PlainCert). HasForm kind n.design.net (counted c n.free) size h (counted c f.net.free) c (nat_eq version 2) none_extra) (sym (cert ∙ b.cert)) (none_added few));
+  pairs = pairs ∙ (pairs_are kind n.design.net size (nat_eq version 2) most r b ∙ ap (λ (k : PlainCert). cost n.design.net (parts_of k)) (sym cert));
   plain_pairs = plain ∙ b.plain_pairs;
-  minimal = subst (λ (m : Bool). IsTrue m ↔ IsMinimal n.design.net size (parts_of f.cert)) (sym minimal) (subst (λ (k : PlainCert). IsTrue r.minimal ↔ IsMinimal n.design.net size (parts_of k)) (sym cert) (minimal_is n.design.net size (nat_eq version 2) most r b));
-  voters = voters ∙ (voters_are n.design.net size (nat_eq version 2) most r b ∙ ap (λ (k : PlainCert). count_by is_voter_role k.roles) (sym cert));
+  minimal = subst (λ (m : Bool). IsTrue m ↔ IsMinimal n.design.net size (parts_of f.cert)) (sym minimal) (subst (λ (k : PlainCert). IsTrue r.minimal ↔ IsMinimal n.design.net size (parts_of k)) (sym cert) (minimal_is kind n.design.net size (nat_eq version 2) most r b));
+  voters = voters ∙ (voters_are kind n.design.net size (nat_eq version 2) most r b ∙ ap (λ (k : PlainCert). count_by is_voter_role k.roles) (sym cert));
 }
   where
     voted : ℕ → ℕ → Bool
@@ -159,21 +162,25 @@ bounded_is n size version most r f known b net cert marks pairs plain minimal vo
     extra : PlainExtra
     extra = record { marks = b.votes.marks; table = b.table }
 
-    with_cut : FormWith n.design.net (counted k n.free) size most h (counted k (spread_start k (counted k n.free))) k t.inputs b.given.extra extra
+    exact : ArePartsOf b.given.kind n.design.net size b.parts
+    exact = subst (λ (k : Form). ArePartsOf k n.design.net size b.parts) (sym b.kind_is) b.exact
+
+    with_cut : FormWith b.given.kind n.design.net (counted k n.free) size most h (counted k (spread_start k (counted k n.free))) k t.inputs b.given.extra extra
     with_cut = record {
-      form = counted_form n.design.net size b.parts voted t b.given b.exact n.free;
-      bound = subst (λ (p : PlainParts). AreExtra n.design.net p (counted_form n.design.net size b.parts voted t b.given b.exact n.free).voted.cut most extra) (sym (same_parts n.design.net b.parts voted t b.given)) (subst (λ (c : List (List Bool)). AreExtra n.design.net b.parts c most extra) (sym (counted_cut n.design.net size b.parts voted t b.given b.exact n.free ∙ b.cut_is)) b.bound);
+      form = counted_form n.design.net size b.parts voted t b.given exact n.free;
+      bound = subst (λ (p : PlainParts). AreExtra n.design.net p (counted_form n.design.net size b.parts voted t b.given exact n.free).voted.cut most extra) (sym (same_parts n.design.net b.parts voted t b.given)) (subst (λ (c : List (List Bool)). AreExtra n.design.net b.parts c most extra) (sym (counted_cut n.design.net size b.parts voted t b.given exact n.free ∙ b.cut_is)) b.bound);
     }
 
-    last : FormWith n.design.net (counted k n.free) size most h (counted k (spread_start k (counted k n.free))) k (nat_eq version 2) (is_extra b.votes.marks) extra
-    last = subst (λ (inputs : Bool). FormWith n.design.net (counted k n.free) size most h (counted k (spread_start k (counted k n.free))) k inputs (is_extra b.votes.marks) extra) b.inputs_are
-        (subst (λ (x : ℕ → ℕ → Bool). FormWith n.design.net (counted k n.free) size most h (counted k (spread_start k (counted k n.free))) k t.inputs x extra) b.extra_is with_cut)
+    last : FormWith kind n.design.net (counted k n.free) size most h (counted k (spread_start k (counted k n.free))) k (nat_eq version 2) (is_extra b.votes.marks) extra
+    last = subst (λ (inputs : Bool). FormWith kind n.design.net (counted k n.free) size most h (counted k (spread_start k (counted k n.free))) k inputs (is_extra b.votes.marks) extra) b.inputs_are
+        (subst (λ (x : ℕ → ℕ → Bool). FormWith kind n.design.net (counted k n.free) size most h (counted k (spread_start k (counted k n.free))) k t.inputs x extra) b.extra_is
+        (subst (λ (f : Form). FormWith f n.design.net (counted k n.free) size most h (counted k (spread_start k (counted k n.free))) k t.inputs b.given.extra extra) b.kind_is with_cut))
 
     marks_are : spread_start k (counted k n.free) ≡ f.net.free
     marks_are = ap (λ (c : PlainCert). spread_start c (counted c n.free)) (sym b.cert) ∙ sym marks
 
-    made : BoundedForm n.design.net n.free size version most h f.net.free k
-    made = subst (λ (g : List Bool). BoundedForm n.design.net n.free size version most h g k) marks_are (record {
+    made : BoundedForm kind n.design.net n.free size version most h f.net.free k
+    made = subst (λ (g : List Bool). BoundedForm kind n.design.net n.free size version most h g k) marks_are (record {
       has_version = cert_version n.design.net b.parts voted t ∙ (ap version_of b.inputs_are ∙ version_is version known);
       extra = extra;
       form = last.form;
@@ -182,17 +189,17 @@ bounded_is n size version most r f known b net cert marks pairs plain minimal vo
       marks = refl;
     })
 
-    none_added : length n.design.net.nodes < most → HasForm n.design.net (counted k n.free) size h (counted k f.net.free) k (nat_eq version 2) none_extra
+    none_added : length n.design.net.nodes < most → HasForm kind n.design.net (counted k n.free) size h (counted k f.net.free) k (nat_eq version 2) none_extra
     none_added few =
-        subst (λ (g : List Bool). HasForm n.design.net (counted k n.free) size h (counted k g) k (nat_eq version 2) none_extra) marks_are
-        (subst (λ (x : ℕ → ℕ → Bool). HasForm n.design.net (counted k n.free) size h (counted k (spread_start k (counted k n.free))) k (nat_eq version 2) x) (λ i y j. b.none few y j i) last.form)
+        subst (λ (g : List Bool). HasForm kind n.design.net (counted k n.free) size h (counted k g) k (nat_eq version 2) none_extra) marks_are
+        (subst (λ (x : ℕ → ℕ → Bool). HasForm kind n.design.net (counted k n.free) size h (counted k (spread_start k (counted k n.free))) k (nat_eq version 2) x) (λ i y j. b.none few y j i) last.form)
 
 -- the answer of hardening to version 2
-pub free_hardened_is : (n : FreeDesign) (size most : ℕ) (r : HardenedFree) → length n.design.net.nodes < most → IsBounded n size 2 most r → IsFreeHardened n size r
+pub free_hardened_is : (n : FreeDesign) (size most : ℕ) (r : HardenedFree) → length n.design.net.nodes < most → IsBounded Plain n size 2 most r → IsFreeHardened n size r
 free_hardened_is n size most r few b = record {
   form = record {
-    form = subst (λ (g : List Bool). HasForm n.design.net n.free size r.net.design.net g r.cert true none_extra) (counted_all r.cert r.net.free b.form.has_version)
-        (subst (λ (f : List Bool). HasForm n.design.net f size r.net.design.net (counted r.cert r.net.free) r.cert true none_extra) (counted_all r.cert n.free b.form.has_version) (b.unbounded few));
+    form = subst (λ (g : List Bool). HasForm Plain n.design.net n.free size r.net.design.net g r.cert true none_extra) (counted_all r.cert r.net.free b.form.has_version)
+        (subst (λ (f : List Bool). HasForm Plain n.design.net f size r.net.design.net (counted r.cert r.net.free) r.cert true none_extra) (counted_all r.cert n.free b.form.has_version) (b.unbounded few));
     marks = b.form.marks ∙ ap (spread_start r.cert) (counted_all r.cert n.free b.form.has_version);
   };
   pairs = b.pairs;

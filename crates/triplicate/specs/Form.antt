@@ -15,8 +15,9 @@ use Rattle.feedback_cut.specs.Inner.{node_pins}
 use Rattle.recovery_depth.specs.Walks.{IsReach}
 use Rattle.recovery_depth.specs.Extra.{PlainExtra, is_extra, AreExtra}
 use Rattle.recovery_depth.specs.Hardened.{role_at, ReadsCopy, own_original}
-use Rattle.partitioner.specs.Sizes.{plain_parts}
-use Rattle.partitioner.specs.Refining.{refined}
+use Rattle.triplicate.specs.declared.form.Form.{Form}
+use Rattle.triplicate.specs.declared.form.Form.TheVariants.{Plain}
+use Rattle.triplicate.specs.Choices.{ArePartsOf}
 use Rattle.triplicate.specs.Voting.{VotesFor, none_extra}
 use Rattle.triplicate.specs.Blocks.{threefold, hardened_roles, role_name, hardened_inputs, hardened_clock}
 
@@ -58,11 +59,11 @@ pub record IsTripled (n h : Net) (k : PlainCert) : Type 0 where
 abbrev pub VotesAlike : Net → Net → PlainCert → Type 0
 VotesAlike n h k = (c : CopyNo) (y j : ℕ) → y < length n.nodes → j < length (node_pins n y) → reads_voter n h k c y j ≡ is_voted n h k y j
 
--- a pin is voted where it reads a node of another partition, and where it is in a cut of all loops inside the partitions; with
+-- a pin is voted where it reads a node of another partition, and where it is in the form's cut of all loops inside the partitions; with
 -- `inputs`, also where it reads an input; and where it is an extra one
-pub record VotesAsNeeded (n h : Net) (k : PlainCert) (inputs : Bool) (extra : ℕ → ℕ → Bool) : Type 0 where
+pub record VotesAsNeeded (kind : Form) (n h : Net) (k : PlainCert) (inputs : Bool) (extra : ℕ → ℕ → Bool) : Type 0 where
   pub cut : List (List Bool)
-  pub voted : VotesFor n (parts_of k) inputs cut extra (is_voted n h k)
+  pub voted : VotesFor kind n (parts_of k) inputs cut extra (is_voted n h k)
   pub alike : VotesAlike n h k
 
 -- the greatest label of the copies of the nodes of partition p, or 0
@@ -82,32 +83,33 @@ abbrev pub version_of : Bool → ℕ
 version_of false = 1
 version_of true = 2
 
--- the hardened form of n, of which f are the marks, with the pins that are voted besides those that have to be; with
--- `inputs` the certificate has version 2, and pins that read inputs are voted
-pub record HasForm (n : Net) (f : List Bool) (size : ℕ) (h : Net) (g : List Bool) (k : PlainCert) (inputs : Bool)
+-- the hardened form of n, plain or lean, of which f are the marks, with the pins that are voted besides those that have to be;
+-- with `inputs` the certificate has version 2, and pins that read inputs are voted
+pub record HasForm (kind : Form) (n : Net) (f : List Bool) (size : ℕ) (h : Net) (g : List Bool) (k : PlainCert) (inputs : Bool)
     (extra : ℕ → ℕ → Bool) : Type 0 where
   pub version : k.version ≡ version_of inputs
-  pub parts : parts_of k ≡ refined n size (plain_parts n size) 8
+  pub parts : ArePartsOf kind n size (parts_of k)
   pub tripled : IsTripled n h k
-  pub voted : VotesAsNeeded n h k inputs extra
+  pub voted : VotesAsNeeded kind n h k inputs extra
   pub corresponds : AllHold n f h g k
   pub labels : AreLeastLabels h k
 
--- the hardened form in version 1: pins that read inputs are not voted, and there are no extra voters
+-- the plain hardened form in version 1: pins that read inputs are not voted, and there are no extra voters
 abbrev pub HardenedForm : Net → ℕ → Net → PlainCert → Type 0
-HardenedForm n size h k = HasForm n [] size h [] k false none_extra
+HardenedForm n size h k = HasForm Plain n [] size h [] k false none_extra
 
--- the hardened form in version 2: pins that read inputs are voted, and copies are marked as their nodes are
+-- the plain hardened form in version 2: pins that read inputs are voted, and copies are marked as their nodes are
 pub record FreeHardenedForm (n : Net) (f : List Bool) (size : ℕ) (h : Net) (g : List Bool) (k : PlainCert) : Type 0 where
-  pub form : HasForm n f size h g k true none_extra
+  pub form : HasForm Plain n f size h g k true none_extra
   pub marks : g ≡ spread_start k f
 
--- the hardened form in either version with no depth above `most`: the pins of registers that would bring a greater label are
+-- either form in either version with no depth above `most`: the pins of registers that would bring a greater label are
 -- voted too. In version 2 copies are marked as their nodes are, and in version 1 none is
-pub record BoundedForm (n : Net) (f : List Bool) (size version most : ℕ) (h : Net) (g : List Bool) (k : PlainCert) : Type 0 where
+pub record BoundedForm (kind : Form) (n : Net) (f : List Bool) (size version most : ℕ) (h : Net) (g : List Bool) (k : PlainCert)
+    : Type 0 where
   pub has_version : k.version ≡ version
   pub extra : PlainExtra
-  pub form : HasForm n (counted k f) size h (counted k g) k (nat_eq version 2) (is_extra extra.marks)
+  pub form : HasForm kind n (counted k f) size h (counted k g) k (nat_eq version 2) (is_extra extra.marks)
   pub bound : AreExtra n (parts_of k) form.voted.cut most extra
   pub within : (p : ℕ) → p < length k.depth → depth_of k p ≤ most
   pub marks : g ≡ spread_start k (counted k f)

@@ -1,3 +1,4 @@
+pub mod Choices
 pub mod Voting
 pub mod Blocks
 pub mod Form

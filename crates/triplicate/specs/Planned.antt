@@ -7,9 +7,11 @@ use Rattle.certificate.specs.Starts.{counted, spread_start}
 use Rattle.recovery_depth.specs.Extra.{is_extra, AreExtra}
 use Rattle.partitioner.specs.Cost.{cost}
 use Rattle.partitioner.specs.Sizes.{plain_parts}
-use Rattle.partitioner.specs.Refining.{refined, IsMinimal}
+use Rattle.partitioner.specs.Refining.{IsMinimal}
+use Rattle.triplicate.specs.declared.form.Form.{Form}
 use Rattle.triplicate.specs.declared.hardened.HardenedFree.{HardenedFree}
 use Rattle.triplicate.specs.declared.planning.Plan.{Plan}
+use Rattle.triplicate.specs.Choices.{ArePartsOf}
 use Rattle.triplicate.specs.Blocks.{hardened_roles}
 use Rattle.triplicate.specs.Result.{is_voter_role}
 use Rattle.triplicate.specs.Private.Construction.{hardened_net, hardened_cert, hardened_order}
@@ -48,17 +50,18 @@ pair_in n p = record {
   voters = count_by is_voter_role (hardened_roles n.design.net p.parts (voted_in n.design.net p));
 }
 
--- refined partitions of this size, a cut of the loops inside them, and the extra pins that the bound `most` wants; for each
+-- the form's partitions of this size and its cut of the loops inside them, and the extra pins that the bound `most` wants; for each
 -- net the partitions that need a voter of it, and for each pin which voter it reads; and what is told of the partitions
-pub record IsPlan (n : Net) (size : ℕ) (inputs : Bool) (most : ℕ) (p : Plan) : Type 0 where
+pub record IsPlan (kind : Form) (n : Net) (size : ℕ) (inputs : Bool) (most : ℕ) (p : Plan) : Type 0 where
   pub inputs_are : p.inputs ≡ inputs
   pub given : IsGiven n p.parts (voted_in n p) (labeling p.inputs p.extra.table)
+  pub kind_is : given.kind ≡ kind
   pub cut_is : given.cut ≡ p.cut
   pub extra_is : given.extra ≡ is_extra p.extra.marks
   pub votes : AreVotesOf n p.parts (votes_in p)
   pub bound : AreExtra n p.parts p.cut most p.extra
   pub none : length n.nodes < most → (y j : ℕ) → is_extra p.extra.marks y j ≡ false
-  pub exact : p.parts ≡ refined n size (plain_parts n size) 8
+  pub exact : ArePartsOf kind n size p.parts
   pub voters : AreVoterRows n p.parts (voted_in n p) p.voters
   pub taps : AreTaps n p.parts (voted_in n p) p.taps
   pub pairs : p.cost ≡ cost n p.parts

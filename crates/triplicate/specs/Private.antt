@@ -8,3 +8,4 @@ pub mod Starts
 pub mod Taps
 pub mod Made
 pub mod Built
+pub mod Chosen

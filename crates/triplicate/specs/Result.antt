@@ -7,6 +7,7 @@ use Rattle.certificate.specs.declared.role.Role.{Role}
 use Rattle.partitioner.specs.Cost.{cost}
 use Rattle.partitioner.specs.Sizes.{plain_parts}
 use Rattle.partitioner.specs.Refining.{IsMinimal}
+use Rattle.triplicate.specs.declared.form.Form.{Form}
 use Rattle.triplicate.specs.declared.hardened.Hardened.{Hardened}
 use Rattle.triplicate.specs.declared.hardened.HardenedFree.{HardenedFree}
 use Rattle.triplicate.specs.Form.{HasForm, HardenedForm, FreeHardenedForm, BoundedForm, parts_of, is_voter}
@@ -32,11 +33,11 @@ pub record IsFreeHardened (n : FreeDesign) (size : ℕ) (r : HardenedFree) : Typ
   pub minimal : IsTrue r.minimal ↔ IsMinimal n.design.net size (parts_of r.cert)
   pub voters : r.voters ≡ count_by is_voter_role r.cert.roles
 
--- the same in either version, with no depth above `most`; a bound above the number of nodes adds no voters
-pub record IsBounded (n : FreeDesign) (size version most : ℕ) (r : HardenedFree) : Type 0 where
-  pub form : BoundedForm n.design.net n.free size version most r.net.design.net r.net.free r.cert
+-- the same of either form and in either version, with no depth above `most`; a bound above the number of nodes adds no voters
+pub record IsBounded (kind : Form) (n : FreeDesign) (size version most : ℕ) (r : HardenedFree) : Type 0 where
+  pub form : BoundedForm kind n.design.net n.free size version most r.net.design.net r.net.free r.cert
   pub unbounded : length n.design.net.nodes < most →
-      HasForm n.design.net (counted r.cert n.free) size r.net.design.net (counted r.cert r.net.free) r.cert (nat_eq version 2) none_extra
+      HasForm kind n.design.net (counted r.cert n.free) size r.net.design.net (counted r.cert r.net.free) r.cert (nat_eq version 2) none_extra
   pub pairs : r.cost ≡ cost n.design.net (parts_of r.cert)
   pub plain_pairs : r.plain ≡ cost n.design.net (plain_parts n.design.net size)
   pub minimal : IsTrue r.minimal ↔ IsMinimal n.design.net size (parts_of r.cert)

@@ -4,7 +4,9 @@ use Rattle.std.specs.List.{list_any, range_with_len}
 use Rattle.tmr_base.specs.Parts.{PlainParts}
 use Rattle.flat_net.specs.Net.{Net}
 use Rattle.feedback_cut.specs.Inner.{node_pins, ReadsInside}
-use Rattle.feedback_cut.specs.Cut.{is_cut, CutMeets}
+use Rattle.feedback_cut.specs.Cut.{is_cut}
+use Rattle.triplicate.specs.declared.form.Form.{Form}
+use Rattle.triplicate.specs.Choices.{IsCutOf}
 
 -- pin j of node y reads net x
 pub record ReadsNet (n : Net) (y j x : ℕ) : Type 0 where
@@ -26,12 +28,13 @@ abbrev pub voting_parts : Net → PlainParts → (ℕ → ℕ → Bool) → ℕ 
 voting_parts n parts voted x = filter (needs_voter n parts voted x) (range_with_len 0 parts.count)
 
 -- a pin that reads an input is voted or not, by `inputs`; one that reads a node of another partition is voted; and of those
--- that read a node of their own partition, the pins of a cut of all loops are voted, and extra ones, and
+-- that read a node of their own partition, the pins of the form's cut of all loops are voted, and extra ones, and
 -- no others
-pub record VotesFor (n : Net) (parts : PlainParts) (inputs : Bool) (cut : List (List Bool)) (extra voted : ℕ → ℕ → Bool) : Type 0 where
+pub record VotesFor (kind : Form) (n : Net) (parts : PlainParts) (inputs : Bool) (cut : List (List Bool))
+    (extra voted : ℕ → ℕ → Bool) : Type 0 where
   pub at_inputs : (y j x : ℕ) → ReadsNet n y j x → x < length n.inputs → voted y j ≡ inputs
   pub foreign : (y j x : ℕ) → ReadsNet n y j (length n.inputs + x) → slice_index parts.of x ≢ slice_index parts.of y → voted y j ≡ true
-  pub meets : CutMeets n parts cut
+  pub meets : IsCutOf kind n parts cut
   pub own : (y j x : ℕ) → ReadsInside n parts y j x → voted y j ≡ (is_cut cut y j || extra y j)
 
 -- no extra pins

@@ -13,6 +13,7 @@ ghost use Rattle.triplicate.specs.Result.{IsHardened, IsFreeHardened, IsBounded}
 
 use crate::assembling::{assembled, certified};
 use crate::blocks::block_starts;
+use crate::form::Form;
 use crate::marking::hardened_marks;
 use crate::planning::{Plan, make_plan};
 use crate::tripling::make_tripled;
@@ -50,10 +51,11 @@ fn triplicate(
     Ok((net, cert))
 }
 
-/// The pair, whatever its version; with `inputs` pins that read inputs are voted too; no label is above `most`. The one refusal is want of memory.
+/// The pair, whatever its form and version; with `inputs` pins that read inputs are voted too; no label is above `most`. The one refusal is want of memory.
 fn build(
     alloc: Global,
     n: &FlatNet,
+    form: Form,
     size: u32,
     inputs: bool,
     most: u32,
@@ -61,10 +63,10 @@ fn build(
     requires size { 0 < size }
     requires most { 0 < most }
     requires few { net_count n.now.net + pin_total n.now.net ≤ 16777216 }
-    ensures { IfOk result (λ r. IsBuilt n.now.net size inputs most r) }
+    ensures { IfOk result (λ r. IsBuilt form n.now.net size inputs most r) }
 {
     let _nodes = nodes_of(n);
-    let plan = make_plan(alloc, n, size, inputs, most)?;
+    let plan = make_plan(alloc, n, form, size, inputs, most)?;
     let (net, cert) = triplicate(alloc, n, &plan)?;
     let voters = net.node_count() - 3 * n.node_count();
     Ok(Hardened {
@@ -84,16 +86,17 @@ pub fn harden(alloc: Global, n: &FlatNet, size: u32) -> Result<Hardened, OutOfMe
     requires few { net_count n.now.net + pin_total n.now.net ≤ 16777216 }
     ensures { IfOk result (λ r. IsHardened n.now.net size r) }
 {
-    let hardened = build(alloc, n, size, false, 4294967295)?;
+    let hardened = build(alloc, n, Form::Plain, size, false, 4294967295)?;
     Ok(hardened)
 }
 
-/// The same in either version, with no depth above `most`, since the pins of registers that would bring a greater
-/// label are voted too; a bound above the number of nodes adds no voters. In version 2 pins that read inputs are voted
-/// too, and copies are marked as their nodes are; in version 1 no copy is marked. The one refusal is want of memory.
-pub fn harden_deep(
+/// The same of either form and in either version, with no depth above `most`, since the pins of registers that would bring
+/// a greater label are voted too; a bound above the number of nodes adds no voters. In version 2 pins that read inputs are
+/// voted too, and copies are marked as their nodes are; in version 1 no copy is marked. The one refusal is want of memory.
+pub fn harden_form(
     alloc: Global,
     n: &FreeNet,
+    form: Form,
     size: u32,
     version: u8,
     most: u32,
@@ -102,10 +105,10 @@ pub fn harden_deep(
     requires version { (version ≡ 1) ⊎ (version ≡ 2) }
     requires most { 0 < most }
     requires few { net_count n.now.design.net + pin_total n.now.design.net ≤ 16777216 }
-    ensures { IfOk result (λ r. IsBounded n.now size version most r) }
+    ensures { IfOk result (λ r. IsBounded form n.now size version most r) }
 {
     let original = n.net();
-    let hardened = build(alloc, original, size, version == 2, most)?;
+    let hardened = build(alloc, original, form, size, version == 2, most)?;
     let marks = hardened_marks(alloc, n, &hardened.net, &hardened.cert)?;
     Ok(HardenedFree {
         net: FreeNet::make(hardened.net, marks),
@@ -117,7 +120,25 @@ pub fn harden_deep(
     })
 }
 
-/// The same in version 2, without a bound. The one refusal is want of memory.
+/// The plain form in either version, with no depth above `most`. The one refusal is want of memory.
+pub fn harden_deep(
+    alloc: Global,
+    n: &FreeNet,
+    size: u32,
+    version: u8,
+    most: u32,
+) -> Result<HardenedFree, OutOfMemory>
+    requires size { 0 < size }
+    requires version { (version ≡ 1) ⊎ (version ≡ 2) }
+    requires most { 0 < most }
+    requires few { net_count n.now.design.net + pin_total n.now.design.net ≤ 16777216 }
+    ensures { IfOk result (λ r. IsBounded Form.Plain n.now size version most r) }
+{
+    let hardened = harden_form(alloc, n, Form::Plain, size, version, most)?;
+    Ok(hardened)
+}
+
+/// The plain form in version 2, without a bound. The one refusal is want of memory.
 pub fn harden_free(alloc: Global, n: &FreeNet, size: u32) -> Result<HardenedFree, OutOfMemory>
     requires size { 0 < size }
     requires few { net_count n.now.design.net + pin_total n.now.design.net ≤ 16777216 }

@@ -10,13 +10,14 @@ ghost use Rattle.triplicate.specs.Private.Taps.{AreTaps};
 
 use crate::blocks::hardened_nets;
 use crate::certifying::depths_of;
+use crate::choosing::{cut_of, partitions};
+use crate::form::Form;
 use crate::taps::{Taps, tap};
 use crate::voters::voting_parts;
 use crate::voting::VotedPins;
-use feedback_cut::{CutPins, cut_in_order};
+use feedback_cut::CutPins;
 use flat_net::{FlatNet, nodes_of};
 use graph::Graph;
-use partitioner::{plain, refine_counted};
 use recovery_depth::{Extra, bound_in_order};
 use std::alloc::Global;
 use tmr_base::{OutOfMemory, Parts};
@@ -86,11 +87,12 @@ impl Plan {
     }
 }
 
-/// What the hardened form of a design is made of, for partitions of this size. With `inputs` pins that read inputs are
+/// What a hardened form of a design is made of, for partitions of this size. With `inputs` pins that read inputs are
 /// voted too, as version 2 has it; no depth is above `most`. The one refusal is want of memory.
 pub fn make_plan(
     alloc: Global,
     n: &FlatNet,
+    form: Form,
     size: u32,
     inputs: bool,
     most: u32,
@@ -98,14 +100,13 @@ pub fn make_plan(
     requires size { 0 < size }
     requires most { 0 < most }
     requires few { net_count n.now.net + pin_total n.now.net ≤ 16777216 }
-    ensures { IfOk result (λ p. IsPlan n.now.net size inputs most p) }
+    ensures { IfOk result (λ p. IsPlan form n.now.net size inputs most p) }
 {
     let _nodes = nodes_of(n);
-    let start = plain(alloc, n, size)?;
-    let refined = refine_counted(alloc, n, &start, size, 8)?;
+    let refined = partitions(alloc, n, form, size)?;
     let parts = refined.parts;
     let _count = parts.count();
-    let found = cut_in_order(alloc, n, &parts)?;
+    let found = cut_of(alloc, n, form, &parts)?;
     let extra = bound_in_order(alloc, n, &parts, &found, most)?;
     let votes = VotedPins {
         inputs,

@@ -1,5 +1,6 @@
 //! Passes of moves.
 ghost use Rattle.std.specs.Prelude.{◌≡◌, ◌<◌, ◌≤◌, ◌↔◌, ℕ, Bool, true, false, All, length, slice_index, IsTrue, OnOk, IfOk};
+ghost use Rattle.tmr_base.specs.Parts.{AreParts};
 ghost use Rattle.flat_net.specs.Net.{Net};
 ghost use Rattle.partitioner.specs.Cost.{cost};
 ghost use Rattle.partitioner.specs.Sizes.{KeepsSize};
@@ -162,6 +163,7 @@ fn unmoved(placed: Placed, before: u64) -> Refined
     requires few { length placed.of.items < 4294967295 }
     requires in_range { All (λ q. q < placed.count) placed.of.items }
     ensures parts { result.parts ≡ placed_parts placed }
+    ensures range { AreParts result.parts }
     ensures cost { result.cost ≡ before }
     ensures before { result.before ≡ before }
     ensures minimal { result.minimal ≡ true }
@@ -186,6 +188,7 @@ fn refine_placed(
 ) -> Result<Refined, OutOfMemory>
     requires { IsPlaced n.now.net placed }
     ensures exact { IfOk result (λ r. r.parts ≡ refined n.now.net size (placed_parts placed) passes) }
+    ensures range { IfOk result (λ r. AreParts r.parts) }
     ensures cost { IfOk result (λ r. r.cost ≡ cost n.now.net r.parts) }
     ensures before { IfOk result (λ r. r.before ≡ before) }
     ensures minimal { IfOk result (λ r. IsTrue r.minimal ↔ IsMinimal n.now.net size r.parts) }
@@ -214,6 +217,7 @@ pub fn refine_counted(
     requires size { 0 < size }
     requires parts { KeepsSize n.now.net size parts.now }
     ensures exact { IfOk result (λ r. r.parts ≡ refined n.now.net size parts.now passes) }
+    ensures range { IfOk result (λ r. AreParts r.parts) }
     ensures cost { IfOk result (λ r. r.cost ≡ cost n.now.net r.parts) }
     ensures before { IfOk result (λ r. r.before ≡ cost n.now.net parts.now) }
     ensures minimal { IfOk result (λ r. IsTrue r.minimal ↔ IsMinimal n.now.net size r.parts) }

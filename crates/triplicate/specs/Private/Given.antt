@@ -2,6 +2,7 @@
 use Rattle.std.specs.Prelude.{◌≡◌, ℕ, ◌+◌, ◌*◌, ◌<◌, ◌≤◌, Bool, List, length}
 use Rattle.tmr_base.specs.Parts.{PlainParts, AreParts}
 use Rattle.flat_net.specs.Net.{Net, pin_total, IsValid}
+use Rattle.triplicate.specs.declared.form.Form.{Form}
 use Rattle.triplicate.specs.Voting.{VotesFor}
 use Rattle.triplicate.specs.Blocks.{hardened_roles}
 use Rattle.recovery_depth.specs.Depths.{AreDepths}
@@ -15,9 +16,10 @@ pub record IsGiven (n : Net) (parts : PlainParts) (voted : ℕ → ℕ → Bool)
   pub in_range : AreParts parts
   pub parts_long : length parts.of ≡ length n.nodes
   pub few_parts : parts.count ≤ 4294967295
+  pub kind : Form
   pub cut : List (List Bool)
   pub extra : ℕ → ℕ → Bool
-  pub votes : VotesFor n parts t.inputs cut extra voted
+  pub votes : VotesFor kind n parts t.inputs cut extra voted
   pub labels : AreDepths n parts voted (depths_in t)
   pub few_outputs : 3 * length n.outputs < 4294967295
   pub few_pins : pin_total (hardened_net n parts voted) < 4294967295

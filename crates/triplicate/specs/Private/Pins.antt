@@ -3,7 +3,7 @@ use Rattle.std.specs.Prelude.{◌≡◌, ℕ, ◌-◌, ◌==◌, ◌||◌, not, 
 use Rattle.tmr_base.specs.Parts.{PlainParts}
 use Rattle.flat_net.specs.Net.{Net}
 use Rattle.feedback_cut.specs.Inner.{node_pins}
-use Rattle.feedback_cut.specs.Cut.{CutMeets}
+use Rattle.feedback_cut.specs.Cut.{CutsLoops}
 use Rattle.recovery_depth.specs.Extra.{is_cut_or_extra}
 
 -- whether pins that read inputs are voted, a cut, and for each node whether it is a register whose pin is extra
@@ -25,5 +25,5 @@ pin_is_voted n parts votes y j = read_is_voted n parts votes.inputs y (is_cut_or
 -- the cut is one of all loops inside these partitions of the nodes, and there is a mark for each node
 pub record AreVotesOf (n : Net) (parts : PlainParts) (votes : PlainVotes) : Type 0 where
   pub parts_long : length parts.of ≡ length n.nodes
-  pub cut : CutMeets n parts votes.cut
+  pub cut : CutsLoops n parts votes.cut
   pub marks : length votes.marks ≡ length n.nodes

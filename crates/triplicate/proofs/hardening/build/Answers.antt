@@ -24,5 +24,5 @@ overflow_sub-voters c =
 
 pub returns : goal.returns
 returns c =
-    built_of_plan c.args.n.now.net c.args.size c.args.inputs c.args.most c.in_ok-plan.plan _ c.in_ok-plan.ensures c.in_ok-net.ensures.net c.in_ok-net.ensures.cert refl refl refl
+    built_of_plan c.args.form c.args.n.now.net c.args.size c.args.inputs c.args.most c.in_ok-plan.plan _ c.in_ok-plan.ensures c.in_ok-net.ensures.net c.in_ok-net.ensures.cert refl refl refl
     (omega (arith, c.node_count.ensures, c.node_count-2.ensures, ap (λ (h : Net). length h.nodes) c.in_ok-net.ensures.net, nodes_long c.args.n.now.net c.in_ok-plan.plan.parts (voted_in c.args.n.now.net c.in_ok-plan.plan), roles_counted c.args.n.now.net c.in_ok-plan.plan.parts (voted_in c.args.n.now.net c.in_ok-plan.plan)))
