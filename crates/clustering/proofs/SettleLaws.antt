@@ -1,7 +1,7 @@
 -- Nodes that are put into partitions one after the other.
 use Rattle.std.proofs.Common.{◌≡◌, ℕ, zero, suc, ◌+◌, ◌-◌, ◌*◌, ◌<◌, ◌≤◌, ◌⊎◌, inl, inr, eqb, List, [], ◌∷◌, ◌++◌, length, refl, sym, ◌∙◌, ap, subst, arith, get_or, set, replicate}
 use Rattle.std.proofs.Math.Nat.{mul-suc, mul-le-mul_left}
-use Rattle.std.specs.List.{sum}
+use Rattle.std.specs.List.{sum, All}
 use Rattle.std.specs.Int.{div_ceil}
 use Rattle.std.proofs.lemmas.Bool.{cases_eq, eq-eqb, ne_eqb}
 use Rattle.std.proofs.lemmas.List.{get_or-set_same, get_or-set_other, length-set, length_push}
@@ -102,11 +102,12 @@ enough_parts nodes size pos =
     omega (arith, all, more)
 
 -- the rule of sizes, from what is known of the parts that partitions are made of
-pub size_kept : (n : Net) (size nodes count : ℕ) (of : List ℕ) (parts : PlainParts) → parts ≡ record { count = count; of = of } → nodes ≡ length n.nodes → count ≤ div_ceil nodes size → length of ≡ nodes
+pub size_kept : (n : Net) (size nodes count : ℕ) (of : List ℕ) (parts : PlainParts) → parts ≡ record { count = count; of = of } → nodes ≡ length n.nodes → count ≤ div_ceil nodes size → length of ≡ nodes → All (λ p. p < count) of
     → ((p : ℕ) → p < count → held of p ≤ capacity size) → KeepsSize n size parts
-size_kept n size nodes count of parts is all few each room =
+size_kept n size nodes count of parts is all few each in_range room =
     subst (λ (made : PlainParts). KeepsSize n size made) (sym is) (record {
       count = subst (λ (m : ℕ). count ≤ div_ceil m size) all few;
       each = each ∙ all;
+      in_range = in_range;
       held_few = room;
     })

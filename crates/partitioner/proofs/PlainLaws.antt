@@ -65,5 +65,6 @@ unfolding HeldFew
 plain_keeps_size n size pos = record {
   count = omega arith;
   each = length-map-range_with_len (λ i. i / size) 0 (length n.nodes);
+  in_range = plain_in_range size (length n.nodes) pos;
   held_few = λ p l. omega (arith, (held_plain size p (length n.nodes) pos).0);
 }

@@ -2,6 +2,7 @@
 use Rattle.std.proofs.Common.{◌≡◌, ℕ, zero, suc, ◌+◌, ◌<◌, ◌≤◌, ◌⊎◌, inl, inr, true, eqb, length, refl, sym, ◌∙◌, ap, subst, arith, get_or, set, add-one, add-zero, ◌-◌}
 use Rattle.std.proofs.lemmas.Bool.{cases_eq, ne_eqb, ltb-true, true≢false}
 use Rattle.std.proofs.lemmas.List.{length-set}
+use Rattle.std.proofs.lemmas.List.Elements.{All-set}
 use Rattle.flat_net.specs.Net.{Net}
 use Rattle.tmr_base.specs.Parts.{PlainParts}
 use Rattle.partitioner.specs.Below.{one_if}
@@ -50,7 +51,7 @@ move_keeps n size parts i l keeps = go (reached_place n size parts i)
 
     go : IsReached (λ p. cost n (put parts i p)) (has_room size parts) (get_or parts.of i 0) parts.count (place n size parts i) → KeepsSize n size (move n size parts i)
     go (inl e) = subst (λ (after : PlainParts). KeepsSize n size after) (sym (move_stays n size parts i e)) keeps
-    go (inr h) = record { count = keeps.count; each = length-set parts.of i (place n size parts i) ∙ keeps.each; held_few = λ q m. fits (place n size parts i) q m h.1 }
+    go (inr h) = record { count = keeps.count; each = length-set parts.of i (place n size parts i) ∙ keeps.each; in_range = All-set (λ p. p < parts.count) parts.of i (place n size parts i) h.0 keeps.in_range; held_few = λ q m. fits (place n size parts i) q m h.1 }
 
 move_cost : (n : Net) (size : ℕ) (parts : PlainParts) (i : ℕ) → cost n (move n size parts i) ≤ cost n parts
 move_cost n size parts i = go (reached_place n size parts i)

@@ -1,26 +1,30 @@
 -- The labels of the hardened design are the most registers of its walks.
-use Rattle.std.proofs.Common.{◌≡◌, ℕ, ◌+◌, ◌-◌, ◌*◌, ◌<◌, ◌≤◌, ◌⊎◌, inl, inr, [], ◌∷◌, length, Option, Some, None, refl, sym, ap, ◌∙◌, subst, arith, Bool, true, false, cond, if◌then◌else◌}
+use Rattle.std.proofs.Common.{◌≡◌, ℕ, ◌+◌, ◌-◌, ◌*◌, ◌<◌, ◌≤◌, ◌⊎◌, inl, inr, List, [], ◌∷◌, ◌++◌, length, length-append, map, Option, Some, None, refl, sym, ap, ◌∙◌, subst, arith, Bool, true, false, cond, if◌then◌else◌}
 use Rattle.std.specs.Prelude.{slice_index}
 use Rattle.std.proofs.lemmas.Bool.{cases_lt, false≢true}
 use Rattle.tmr_base.specs.declared.copies.CopyNo.{CopyNo}
 use Rattle.tmr_base.specs.declared.copies.CopyNo.TheVariants.{First}
+use Rattle.tmr_base.specs.Copies.{Three}
 use Rattle.tmr_base.specs.Parts.{PlainParts}
-use Rattle.flat_net.specs.Net.{Net, Node, Table, Register, net_count, node_of, pins_at}
-use Rattle.flat_net.proofs.Slots.{slot_within, slot_there}
+use Rattle.std.proofs.lemmas.List.{length-map}
+use Rattle.flat_net.specs.Net.{Net, Node, Table, Register, net_count, node_of, pins_at, slot}
+use Rattle.flat_net.proofs.Slots.{slot_below, slot_within, slot_there}
 use Rattle.certificate.specs.declared.role.Role.{Role}
 use Rattle.certificate.specs.declared.role.Role.TheVariants.{Copy}
-use Rattle.certificate.specs.Cert.{PlainCert, role_of, part_of, label_of, depth_of}
+use Rattle.certificate.specs.Cert.{PlainCert, role_of, role_count, part_of, label_of, depth_of, three_or_zero}
 use Rattle.feedback_cut.specs.Inner.{node_pins}
 use Rattle.feedback_cut.specs.Cut.{ReadsUnvoted}
 use Rattle.recovery_depth.specs.Depths.{own_register, is_some_register, IsDepth}
-use Rattle.recovery_depth.specs.Walks.{IsReach}
+use Rattle.recovery_depth.specs.Chains.{relabeled}
+use Rattle.recovery_depth.specs.Walks.{Walk, starts, goes_on, IsReach}
 use Rattle.recovery_depth.specs.Hardened.{role_at, node_at, is_copy, ReadsCopy, own_original, original_of}
+use Rattle.recovery_depth.proofs.CopyLaws.{label_at, label_grows, label_own}
 use Rattle.triplicate.specs.Private.Labels.{Labeling}
 use Rattle.triplicate.specs.Voting.{ReadsNet}
 use Rattle.triplicate.specs.Blocks.{hardened_roles}
-use Rattle.triplicate.specs.Form.{IsGreatestLabel, AreLeastLabels}
+use Rattle.triplicate.specs.Form.{IsGreatestLabel, RulesAdmit, AreLeastLabels}
 use Rattle.triplicate.specs.Private.Numbers.{copy_net, voter_net}
-use Rattle.triplicate.specs.Private.Construction.{pin_net, node_copy, hardened_net, hardened_cert}
+use Rattle.triplicate.specs.Private.Construction.{pin_net, node_copy, three_labels, hardened_net, hardened_cert}
 use Rattle.triplicate.specs.Private.Given.{IsGiven}
 use Rattle.triplicate.proofs.Tripled.{node_of_role, number_of, role_of_copy, part_of_node, part_at_node, label_listed, length-hardened_inputs}
 use Rattle.triplicate.proofs.Reading.{read_in_range, read_together, voted_role, unvoted_role, input_role}
@@ -37,6 +41,14 @@ one_long true true x y e = refl
 one_long false false x y e = refl
 one_long true false x y e = absurd (false≢true (sym e))
 one_long false true x y e = absurd (false≢true e)
+
+-- a walk of copies has no more registers than a label that the rules admit
+walk_within : (h : Net) (k : PlainCert) (others : List Three) (depths : List ℕ) → RulesAdmit h k others depths → (g : ℕ) (seen : List ℕ) → Walk (ReadsCopy h k) (own_original h k) g seen → length seen ≤ label_at h (relabeled k others depths) g
+walk_within h k others depths admits _ _ (starts g) = label_own h (relabeled k others depths) admits.reached g
+walk_within h k others depths admits _ _ (goes_on f g seen walk next) =
+    let up = walk_within h k others depths admits f seen walk in
+    let grows = label_grows h (relabeled k others depths) admits.reached f g (record { pin = next.pin; within = next.within; is = next.is; reader = next.reader; read = next.read }) in
+    omega (arith, up, grows, length-append seen (own_original h k g))
 
 module _ (n : Net) (parts : PlainParts) (voted : ℕ → ℕ → Bool) (t : Labeling) (is : IsGiven n parts voted t) where
   -- where the copy of a node stands
@@ -128,6 +140,21 @@ module _ (n : Net) (parts : PlainParts) (voted : ℕ → ℕ → Bool) (t : Labe
   back_alike : (c : CopyNo) → AreAlike (ReadsCopy (hardened_net n parts voted) (hardened_cert n parts voted t)) (ReadsUnvoted n parts voted) (own_original (hardened_net n parts voted) (hardened_cert n parts voted t)) (own_register n) (λ g y. IsCopyOf n (hardened_net n parts voted) (hardened_cert n parts voted t) c y g)
   back_alike c = record { owns = λ g y like. sym (alike_owns c y g like); steps = λ f g y like next. back c f g y like next }
 
+  -- what is no node has no label
+  no_label : (x : ℕ) → (x < length n.inputs) ⊎ (net_count n ≤ x) → slot (hardened_cert n parts voted t).original_inputs (hardened_cert n parts voted t).labels x ≡ None
+  unfolding hardened_cert
+  no_label x (inl low) = slot_below (length n.inputs) (map three_labels t.labels) x low
+  no_label x (inr high) = go (slot (length n.inputs) (map three_labels t.labels) x) refl
+    where
+      go : (o : Option Three) → slot (length n.inputs) (map three_labels t.labels) x ≡ o → slot (length n.inputs) (map three_labels t.labels) x ≡ None
+      go None e = e
+      go (Some three) e = absurd (let (low, within) = slot_within (length n.inputs) (map three_labels t.labels) x three e in omega (arith, high, within, length-map t.labels three_labels, is.labels.nodes))
+
+  -- what has a partition is a node
+  part_within : (x p : ℕ) → part_of (hardened_cert n parts voted t) x ≡ Some p → (length n.inputs ≤ x) × (x < net_count n)
+  unfolding hardened_cert
+  part_within x p e = let (low, high) = slot_within (length n.inputs) parts.of x p e in (low, omega (arith, high, is.parts_long))
+
   reaches : (g x : ℕ) (c : CopyNo) → role_at (hardened_net n parts voted) (hardened_cert n parts voted t) g ≡ Some (Copy (record { 0 = x }) c) → IsReach (ReadsCopy (hardened_net n parts voted) (hardened_cert n parts voted t)) (own_original (hardened_net n parts voted) (hardened_cert n parts voted t)) g (label_of (hardened_cert n parts voted t) x c)
   reaches g x c at =
       let (low, high, number) = number_of n parts voted t (length (hardened_net n parts voted).inputs + g) (Copy (record { 0 = x }) c) at in
@@ -159,5 +186,47 @@ module _ (n : Net) (parts : PlainParts) (voted : ℕ → ℕ → Bool) (t : Labe
           let behind : (length n.inputs + y) - length n.inputs ≡ y = omega arith in
           inr (length n.inputs + y, First, part_at_node n parts voted t is.parts_long (length n.inputs + y) (omega arith) (omega arith) ∙ ap (λ k. Some (slice_index parts.of k)) behind ∙ ap Some own, label_listed n parts voted t y First (omega (arith, is.labels.nodes)) ∙ e)
 
+  -- where a copy stands
+  copy_place : (x : ℕ) (c : CopyNo) → length n.inputs ≤ x → x < net_count n → role_at (hardened_net n parts voted) (hardened_cert n parts voted t) (copy_net n parts voted x c - length (hardened_net n parts voted).inputs) ≡ Some (Copy (record { 0 = x }) c)
+  copy_place x c low high =
+      let there : length (hardened_net n parts voted).inputs + (copy_net n parts voted x c - length (hardened_net n parts voted).inputs) ≡ copy_net n parts voted x c = omega (arith, copy_behind x c low high) in
+      ap (role_of (hardened_cert n parts voted t)) there ∙ role_of_copy n parts voted t x c low high
+
+  -- no label that the rules admit for a copy is smaller
+  least_at : (others : List Three) (depths : List ℕ) → RulesAdmit (hardened_net n parts voted) (hardened_cert n parts voted t) others depths → (x : ℕ) (c : CopyNo) → length n.inputs ≤ x → x < net_count n → label_of (hardened_cert n parts voted t) x c ≤ label_of (relabeled (hardened_cert n parts voted t) others depths) x c
+  least_at others depths admits x c low high = go (reaches place x c role).some
+    where
+      place : ℕ
+      place = copy_net n parts voted x c - length (hardened_net n parts voted).inputs
+
+      role : role_at (hardened_net n parts voted) (hardened_cert n parts voted t) (copy_net n parts voted x c - length (hardened_net n parts voted).inputs) ≡ Some (Copy (record { 0 = x }) c)
+      role = copy_place x c low high
+
+      go : (seen : List ℕ) × (Walk (ReadsCopy (hardened_net n parts voted) (hardened_cert n parts voted t)) (own_original (hardened_net n parts voted) (hardened_cert n parts voted t)) (copy_net n parts voted x c - length (hardened_net n parts voted).inputs) seen) × (length seen ≡ label_of (hardened_cert n parts voted t) x c) → label_of (hardened_cert n parts voted t) x c ≤ label_of (relabeled (hardened_cert n parts voted t) others depths) x c
+      go (seen, walk, long) =
+          let up : length seen ≤ label_at (hardened_net n parts voted) (relabeled (hardened_cert n parts voted t) others depths) (copy_net n parts voted x c - length (hardened_net n parts voted).inputs) = walk_within (hardened_net n parts voted) (hardened_cert n parts voted t) others depths admits (copy_net n parts voted x c - length (hardened_net n parts voted).inputs) seen walk in
+          let label : label_at (hardened_net n parts voted) (relabeled (hardened_cert n parts voted t) others depths) (copy_net n parts voted x c - length (hardened_net n parts voted).inputs) ≡ label_of (relabeled (hardened_cert n parts voted t) others depths) x c = ap (role_count (relabeled (hardened_cert n parts voted t) others depths)) role in
+          omega (arith, up, label, long)
+
+  least_label : (others : List Three) (depths : List ℕ) → RulesAdmit (hardened_net n parts voted) (hardened_cert n parts voted t) others depths → (x : ℕ) (c : CopyNo) → label_of (hardened_cert n parts voted t) x c ≤ label_of (relabeled (hardened_cert n parts voted t) others depths) x c
+  least_label others depths admits x c = go (cases_lt x (length n.inputs)) (cases_lt x (net_count n))
+    where
+      none : slot (hardened_cert n parts voted t).original_inputs (hardened_cert n parts voted t).labels x ≡ None → label_of (hardened_cert n parts voted t) x c ≤ label_of (relabeled (hardened_cert n parts voted t) others depths) x c
+      none e = let zero : label_of (hardened_cert n parts voted t) x c ≡ 0 = ap (λ (o : Option Three). three_or_zero o c) e in omega (arith, zero)
+
+      go : (x < length n.inputs) ⊎ (length n.inputs ≤ x) → (x < net_count n) ⊎ (net_count n ≤ x) → label_of (hardened_cert n parts voted t) x c ≤ label_of (relabeled (hardened_cert n parts voted t) others depths) x c
+      go (inl low) any = none (no_label x (inl low))
+      go (inr low) (inl high) = least_at others depths admits x c low high
+      go (inr low) (inr high) = none (no_label x (inr high))
+
+  least_depth : (others : List Three) (depths : List ℕ) → RulesAdmit (hardened_net n parts voted) (hardened_cert n parts voted t) others depths → (p : ℕ) → p < length (hardened_cert n parts voted t).depth → depth_of (hardened_cert n parts voted t) p ≤ slice_index depths p
+  least_depth others depths admits p below = go (greatest p below).some
+    where
+      go : (depth_of (hardened_cert n parts voted t) p ≡ 0) ⊎ ((x : ℕ) × (c : CopyNo) × (part_of (hardened_cert n parts voted t) x ≡ Some p) × (label_of (hardened_cert n parts voted t) x c ≡ depth_of (hardened_cert n parts voted t) p)) → depth_of (hardened_cert n parts voted t) p ≤ slice_index depths p
+      go (inl zero) = omega (arith, zero)
+      go (inr (x, c, part, label)) =
+          let (low, high) = part_within x p part in
+          omega (arith, label, least_at others depths admits x c low high, admits.bounded (copy_net n parts voted x c - length (hardened_net n parts voted).inputs) x c p (copy_place x c low high) part)
+
   pub least_labels : AreLeastLabels (hardened_net n parts voted) (hardened_cert n parts voted t)
-  least_labels = record { labels = reaches; depths = greatest }
+  least_labels = record { labels = reaches; depths = greatest; no_smaller_label = least_label; no_smaller_depth = least_depth }

@@ -1,6 +1,6 @@
 -- Where the two forms of hardening differ: in the partitions, and in the cut of the loops inside them.
 use Rattle.std.specs.Prelude.{◌≡◌, ℕ, ◌≤◌, Bool, List}
-use Rattle.tmr_base.specs.Parts.{PlainParts, AreParts}
+use Rattle.tmr_base.specs.Parts.{PlainParts}
 use Rattle.flat_net.specs.Net.{Net}
 use Rattle.feedback_cut.specs.Cut.{CutMeets, CutsRegisters}
 use Rattle.partitioner.specs.Cost.{cost}
@@ -9,12 +9,10 @@ use Rattle.partitioner.specs.Refining.{refined}
 use Rattle.triplicate.specs.declared.form.Form.{Form}
 use Rattle.triplicate.specs.declared.form.Form.TheVariants.{Plain, Lean}
 
--- partitions refined from some that keep the rule of sizes; they cost no more than those refined from the plain cut
+-- lean partitions keep the rule of sizes, by which each node stands in one of them, and cost no more than the plain form's. Whether a
+-- single move lowers the cost is told beside them, as `IsMinimal`
 pub record AreLeanParts (n : Net) (size : ℕ) (parts : PlainParts) : Type 0 where
-  pub start : PlainParts
-  pub parted : AreParts start
-  pub keeps : KeepsSize n size start
-  pub exact : parts ≡ refined n size start 8
+  pub keeps : KeepsSize n size parts
   pub cheap : cost n parts ≤ cost n (refined n size (plain_parts n size) 8)
 
 -- the partitions of a form

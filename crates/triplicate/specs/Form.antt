@@ -3,16 +3,18 @@ use Rattle.std.specs.Prelude.{◌≡◌, ℕ, ◌+◌, ◌<◌, ◌≤◌, ◌�
 use Rattle.std.specs.List.{flat_map}
 use Rattle.tmr_base.specs.declared.copies.CopyNo.{CopyNo}
 use Rattle.tmr_base.specs.declared.copies.CopyNo.TheVariants.{First}
+use Rattle.tmr_base.specs.Copies.{Three}
 use Rattle.tmr_base.specs.Parts.{PlainParts}
 use Rattle.table_cover.specs.Cover.{PlainCover}
 use Rattle.flat_net.specs.Net.{Net, node_of, node_name, pins_at, IsCoverOf}
 use Rattle.certificate.specs.declared.role.Role.{Role}
 use Rattle.certificate.specs.declared.role.Role.TheVariants.{Copy, Voter}
 use Rattle.certificate.specs.Cert.{PlainCert, Fits, role_of, part_of, depth_of, copy_of, label_of}
-use Rattle.certificate.specs.Rules.{AllHold}
+use Rattle.certificate.specs.Rules.{AllHold, Rule6, Rule7}
 use Rattle.certificate.specs.Starts.{spread_start, counted}
 use Rattle.feedback_cut.specs.Inner.{node_pins}
 use Rattle.recovery_depth.specs.Walks.{IsReach}
+use Rattle.recovery_depth.specs.Chains.{relabeled}
 use Rattle.recovery_depth.specs.Extra.{PlainExtra, is_extra, AreExtra}
 use Rattle.recovery_depth.specs.Hardened.{role_at, ReadsCopy, own_original}
 use Rattle.triplicate.specs.declared.form.Form.{Form}
@@ -71,12 +73,21 @@ pub record IsGreatestLabel (k : PlainCert) (p depth : ℕ) : Type 0 where
   pub most : (x : ℕ) (c : CopyNo) → part_of k x ≡ Some p → label_of k x c ≤ depth
   pub some : (depth ≡ 0) ⊎ ((x : ℕ) × (c : CopyNo) × (part_of k x ≡ Some p) × (label_of k x c ≡ depth))
 
+-- rules 6 and 7 hold at each hardened node, with these labels and depths in place of the certificate's own
+pub record RulesAdmit (h : Net) (k : PlainCert) (labels : List Three) (depths : List ℕ) : Type 0 where
+  pub reached : (g : ℕ) → Rule6 h (relabeled k labels depths) (length h.inputs + g)
+  pub bounded : (g : ℕ) → Rule7 (relabeled k labels depths) (length h.inputs + g)
+
 -- each label is the most registers of a walk of copies that ends in its copy, and each depth is the greatest label of its
--- partition's copies: no smaller ones are possible
+-- partition's copies. They are the least: no certificate with the same roles and a smaller label or depth is accepted
 pub record AreLeastLabels (h : Net) (k : PlainCert) : Type 0 where
   pub labels : (g x : ℕ) (c : CopyNo) → role_at h k g ≡ Some (Copy (record { 0 = x }) c)
       → IsReach (ReadsCopy h k) (own_original h k) g (label_of k x c)
   pub depths : (p : ℕ) → p < length k.depth → IsGreatestLabel k p (depth_of k p)
+  pub no_smaller_label : (others : List Three) (depths : List ℕ) → RulesAdmit h k others depths
+      → (x : ℕ) (c : CopyNo) → label_of k x c ≤ label_of (relabeled k others depths) x c
+  pub no_smaller_depth : (others : List Three) (depths : List ℕ) → RulesAdmit h k others depths
+      → (p : ℕ) → p < length k.depth → depth_of k p ≤ slice_index depths p
 
 -- the version of a certificate: 2 where pins that read inputs are voted
 abbrev pub version_of : Bool → ℕ

@@ -1,5 +1,5 @@
 //! The partitions of each form, and its cut of the loops inside them.
-ghost use Rattle.std.specs.Prelude.{◌≡◌, ◌<◌, length, IfOk};
+ghost use Rattle.std.specs.Prelude.{◌≡◌, ◌<◌, ◌≤◌, ◌⊎◌, length, IfOk};
 ghost use Rattle.feedback_cut.specs.Cut.{CutsLoops, OrdersUncut};
 ghost use Rattle.feedback_cut.specs.Inner.{inner_rows};
 ghost use Rattle.partitioner.specs.Sizes.{KeepsSize};
@@ -33,23 +33,35 @@ fn clustered(alloc: Global, n: &FlatNet, size: u32) -> Result<Parts, OutOfMemory
     Ok(parts)
 }
 
+/// The cheaper of two partitionings; the first where both cost the same.
+fn cheaper(first: Refined, second: Refined) -> Refined
+    ensures given { (result ≡ first) ⊎ (result ≡ second) }
+    ensures first { result.cost ≤ first.cost }
+    ensures second { result.cost ≤ second.cost }
+{
+    if second.cost < first.cost {
+        second
+    } else {
+        first
+    }
+}
+
 /// Partitions refined from clusters, or those refined from the plain cut where these cost no more.
 fn lean_partitions(alloc: Global, n: &FlatNet, size: u32) -> Result<Refined, OutOfMemory>
     requires { 0 < size }
     ensures { IfOk result (λ r. AreChosen Form.Lean n.now.net size r) }
 {
     let standard = plain_partitions(alloc, n, size)?;
+    let before = standard.before;
     let start = clustered(alloc, n, size)?;
     let lean = refine_counted(alloc, n, &start, size, 8)?;
-    if lean.cost < standard.cost {
-        return Ok(Refined {
-            parts: lean.parts,
-            cost: lean.cost,
-            before: standard.before,
-            minimal: lean.minimal,
-        });
-    }
-    Ok(standard)
+    let chosen = cheaper(standard, lean);
+    Ok(Refined {
+        parts: chosen.parts,
+        cost: chosen.cost,
+        before,
+        minimal: chosen.minimal,
+    })
 }
 
 /// The partitions of a form, and what is told of them. `before` is what the plain cut costs.

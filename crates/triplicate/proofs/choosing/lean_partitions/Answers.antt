@@ -1,48 +1,46 @@
-use Rattle.std.proofs.Common.{◌≡◌, ◌<◌, ◌≤◌, ◌/◌, ℕ, length, ◌∙◌, ap, subst, arith}
-use Rattle.std.proofs.lemmas.List.FromFn.{length-map-range_with_len}
+use Rattle.std.proofs.Common.{◌≡◌, ◌⊎◌, inl, inr, ◌<◌, ℕ, length, sym, ◌∙◌, ap, subst, arith}
+use Rattle.std.specs.Prelude.{◌↔◌, IsTrue}
 use Rattle.tmr_base.specs.Parts.{PlainParts, AreParts}
 use Rattle.flat_net.specs.Net.{Net}
+use Rattle.partitioner.specs.declared.refinement.refining.Refined.{Refined}
 use Rattle.partitioner.specs.Cost.{cost}
-use Rattle.partitioner.specs.Sizes.{plain_parts}
-use Rattle.partitioner.specs.Refining.{refined}
-use Rattle.partitioner.proofs.PlainLaws.{plain_in_range, plain_keeps_size}
+use Rattle.partitioner.specs.Sizes.{plain_parts, KeepsSize}
+use Rattle.partitioner.specs.Refining.{refined, IsMinimal}
+use Rattle.partitioner.proofs.PlainLaws.{plain_keeps_size}
 use Rattle.partitioner.proofs.RefineLaws.{refined_keeps}
 use Rattle.triplicate.proofs.choosing.lean_partitions.Goals as goal
 
-plain_long : (n : Net) (size : ℕ) → length (plain_parts n size).of ≡ length n.nodes
-plain_long n size = length-map-range_with_len (λ i. i / size) 0 (length n.nodes)
+-- what is known of each partitioning that may be chosen
+record IsTold (n : Net) (size : ℕ) (r : Refined) : Type 0 where
+  pub keeps : KeepsSize n size r.parts
+  pub range : AreParts r.parts
+  pub pairs : r.cost ≡ cost n r.parts
+  pub minimal : IsTrue r.minimal ↔ IsMinimal n size r.parts
 
-pub returns-then-lean-standard : goal.returns-then-lean-standard
-returns-then-lean-standard c = record {
-  parts = record {
-    start = c.in_ok-start.start;
-    parted = subst AreParts c.start.view_is c.start.invariant;
-    keeps = c.in_ok-start.ensures;
-    exact = c.in_ok-lean.ensures.exact;
-    cheap = omega (arith, c.in_ok-lean.ensures.cost, c.in_ok-standard.ensures.pairs, ap (cost c.args.n.now.net) c.in_ok-standard.ensures.parts, c.if-lean-standard.true);
-  };
-  long = ap (λ (p : PlainParts). length p.of) c.in_ok-lean.ensures.exact ∙ (refined_keeps c.args.n.now.net c.args.size c.in_ok-start.start 8 c.in_ok-start.ensures).each;
-  range = c.in_ok-lean.ensures.range;
-  pairs = c.in_ok-lean.ensures.cost;
-  plain_pairs = c.in_ok-standard.ensures.plain_pairs;
-  minimal = c.in_ok-lean.ensures.minimal;
-}
+refined_size : (n : Net) (size : ℕ) (start parts : PlainParts) → parts ≡ refined n size start 8 → KeepsSize n size start → KeepsSize n size parts
+refined_size n size start parts e keeps = subst (KeepsSize n size) (sym e) (refined_keeps n size start 8 keeps)
+
+chosen_told : (n : Net) (size : ℕ) (first second chosen : Refined) → IsTold n size first → IsTold n size second → (chosen ≡ first) ⊎ (chosen ≡ second) → IsTold n size chosen
+chosen_told n size first second chosen a b (inl e) = subst (IsTold n size) (sym e) a
+chosen_told n size first second chosen a b (inr e) = subst (IsTold n size) (sym e) b
 
 pub returns : goal.returns
-returns c = record {
-  parts = record {
-    start = plain_parts c.args.n.now.net c.args.size;
-    parted = record {
-      in_range = plain_in_range c.args.size (length c.args.n.now.net.nodes) c.requires;
-      few = omega (arith, plain_long c.args.n.now.net c.args.size, c.in_ok-standard.ensures.long, c.in_ok-standard.ensures.range.few);
-    };
-    keeps = plain_keeps_size c.args.n.now.net c.args.size c.requires;
-    exact = c.in_ok-standard.ensures.parts;
-    cheap = omega (arith, ap (cost c.args.n.now.net) c.in_ok-standard.ensures.parts);
-  };
-  long = c.in_ok-standard.ensures.long;
-  range = c.in_ok-standard.ensures.range;
-  pairs = c.in_ok-standard.ensures.pairs;
-  plain_pairs = c.in_ok-standard.ensures.plain_pairs;
-  minimal = c.in_ok-standard.ensures.minimal;
-}
+returns c =
+    let n = c.args.n.now.net in
+    let size = c.args.size in
+    let standard = c.in_ok-standard.ensures in
+    let lean = c.in_ok-lean.ensures in
+    let first : IsTold n size c.in_ok-standard.standard = record { keeps = refined_size n size (plain_parts n size) c.in_ok-standard.standard.parts standard.parts (plain_keeps_size n size c.requires); range = standard.range; pairs = standard.pairs; minimal = standard.minimal } in
+    let second : IsTold n size c.in_ok-lean.lean = record { keeps = refined_size n size c.in_ok-start.start c.in_ok-lean.lean.parts lean.exact c.in_ok-start.ensures; range = lean.range; pairs = lean.cost; minimal = lean.minimal } in
+    let told = chosen_told n size c.in_ok-standard.standard c.in_ok-lean.lean c.cheaper-chosen.result first second c.cheaper-chosen.ensures.given in
+    record {
+      parts = record {
+        keeps = told.keeps;
+        cheap = omega (arith, c.cheaper-chosen.ensures.first, told.pairs, standard.pairs, ap (cost n) standard.parts);
+      };
+      long = told.keeps.each;
+      range = told.range;
+      pairs = told.pairs;
+      plain_pairs = standard.plain_pairs;
+      minimal = told.minimal;
+    }
