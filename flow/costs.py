@@ -6,8 +6,9 @@ nextpnr tells after routing, as the mean of several seeds. The rows are the orig
 with and without `--depth 1`; the columns are sizes of partitions. TMR is the program, DEVICE.ys the recipe that
 maps `hard.blif` to `hard.json`; the original goes through the same recipe.
 
-Options: `--sizes 16,64,256,100000`, `--forms plain,lean`, `--depths none,1`, `--seeds 1,2,3`, `--device hx8k`,
-`--package ct256`, `--jobs 1`. A size of at least the design's nodes is told as `all`.
+Each placement is told on standard error as it ends. Options: `--sizes 16,64,256,100000`, `--forms plain,lean`,
+`--depths none,1`, `--seeds 1,2,3`, `--device hx8k`, `--package ct256`, `--jobs 1`. A size of at least the design's nodes is
+told as `all`.
 
 It measures, and nothing here has to be trusted for masking.
 """
@@ -67,8 +68,10 @@ def place(work: Work, args: argparse.Namespace) -> Placed:
         else:
             run([args.tmr, "harden", args.orig, "hard.blif", "hard.cert", *work.words], folder)
         run(["yosys", "-q", "-s", args.recipe], folder)
-        return measured(run(["nextpnr-ice40", "--" + args.device, "--package", args.package, "--json", "hard.json",
-                             "--asc", "hard.asc", "--seed", str(work.seed)], folder))
+        found = measured(run(["nextpnr-ice40", "--" + args.device, "--package", args.package, "--json", "hard.json",
+                              "--asc", "hard.asc", "--seed", str(work.seed)], folder))
+    print("seed %d %s: %d cells, %.1f MHz" % (work.seed, " ".join(work.words or ("original",)), *found), file=sys.stderr)
+    return found
 
 
 def hardening(form: str, size: str, depth: str) -> tuple[str, ...]:
