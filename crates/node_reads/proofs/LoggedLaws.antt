@@ -126,7 +126,7 @@ tally_pushed row k =
 in_pushed : (count : ℕ) (log : List Note) (note : Note) → AreIn count log → note.row < count → AreIn count (log ++ note ∷ [])
 in_pushed count log note h l = All-push (λ (n : Note). n.row < count) log note h l
 
-pub tallies_pushed : (tallies : List Tally) (log : List Note) (note : Note) → AreTallies tallies log → note.row < length tallies → length log + 1 < 4294967296 → AreTallies (set tallies note.row (tallied (tally_at tallies note.row) note.number)) (log ++ note ∷ [])
+pub tallies_pushed : (tallies : List Tally) (log : List Note) (note : Note) → AreTallies tallies log → note.row < length tallies → length log + 1 < 18446744073709551616 → AreTallies (set tallies note.row (tallied (tally_at tallies note.row) note.number)) (log ++ note ∷ [])
 tallies_pushed tallies log note h l few = record {
   rows = subst (λ (n : ℕ). AreIn n (log ++ note ∷ [])) (sym long) (in_pushed (length tallies) log note h.rows l);
   few = omega (arith, length_push log note, few);

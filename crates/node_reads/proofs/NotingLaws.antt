@@ -5,7 +5,8 @@ use Rattle.std.proofs.lemmas.Bool.{eq-eqb, ne_eqb, cases_eq}
 use Rattle.std.proofs.lemmas.List.{length_push, get_or_push, get_or-set_same, get_or-set_other, length-set}
 use Rattle.std.proofs.lemmas.Option.{slice_get_read, slice_get_within, get_or_from_slice_get}
 use Rattle.std.proofs.lemmas.List.Elements.{All-filter}
-use Rattle.node_reads.specs.Noting.{is_number, ends_in, noted, related, Lists, ListsMarked}
+use Rattle.node_reads.specs.Noting.{is_number, ends_in, noted, related, Lists}
+use Rattle.node_reads.specs.Private.Marking.{ListsMarked}
 use Rattle.node_reads.proofs.Numbers.{numbers_below, passing_more}
 
 ends_in_pushed : (xs : List ℕ) (k : ℕ) → ends_in (xs ++ k ∷ []) k ≡ true

@@ -6,8 +6,9 @@ use Rattle.std.proofs.lemmas.List.{take_all}
 use Rattle.std.proofs.lemmas.List.Folds.{list_any_more}
 use Rattle.flat_net.specs.Net.{Net, node_of, pins_at}
 use Rattle.node_reads.specs.Reading.{reads}
-use Rattle.node_reads.specs.Sources.{reads_other, marked_by_pins}
-use Rattle.node_reads.specs.Noting.{Lists, ListsMarked, noted}
+use Rattle.node_reads.specs.Sources.{reads_other}
+use Rattle.node_reads.specs.Private.Marking.{marked_by_pins, ListsMarked}
+use Rattle.node_reads.specs.Noting.{Lists, noted}
 use Rattle.node_reads.proofs.NotingLaws.{noted_marks, marks_same, marks_none, marks_all}
 
 -- the first j of these pins name z, another node than y; the first node has net number a

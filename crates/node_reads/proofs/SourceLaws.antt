@@ -5,8 +5,9 @@ use Rattle.std.proofs.lemmas.List.{take_all}
 use Rattle.std.proofs.lemmas.List.Folds.{list_any_more}
 use Rattle.std.proofs.lemmas.List.Elements.{All-filter}
 use Rattle.flat_net.specs.Net.{Net}
-use Rattle.node_reads.specs.Sources.{reads_other, is_source, marked_by_row}
-use Rattle.node_reads.specs.Noting.{Lists, ListsMarked, noted, related}
+use Rattle.node_reads.specs.Sources.{reads_other, is_source}
+use Rattle.node_reads.specs.Private.Marking.{marked_by_row, ListsMarked}
+use Rattle.node_reads.specs.Noting.{Lists, noted, related}
 use Rattle.node_reads.proofs.NotingLaws.{noted_marks, marks_none, marks_all}
 use Rattle.node_reads.proofs.Numbers.{numbers_below, any_passing}
 

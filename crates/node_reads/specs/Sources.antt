@@ -1,7 +1,7 @@
 -- The other nodes that read a node, and those that it reads.
-use Rattle.std.specs.Prelude.{ℕ, ◌+◌, ◌==◌, Bool, not, ◌&&◌, List, length, filter, take, nat_lt}
-use Rattle.std.specs.List.{range_with_len, list_any}
-use Rattle.flat_net.specs.Net.{Net, node_of, pins_at}
+use Rattle.std.specs.Prelude.{ℕ, ◌==◌, Bool, not, ◌&&◌, List, length, filter, nat_lt}
+use Rattle.std.specs.List.{range_with_len}
+use Rattle.flat_net.specs.Net.{Net}
 use Rattle.node_reads.specs.Reading.{reads}
 use Rattle.node_reads.specs.Noting.{Lists}
 
@@ -21,14 +21,6 @@ other_readers n x = filter (λ y. reads_other n y x) (range_with_len 0 (length n
 abbrev pub other_sources : Net → ℕ → List ℕ
 other_sources n y = filter (λ x. reads_other n y x) (range_with_len 0 (length n.nodes))
 
--- the first j pins of node y name node x, another node than y
-abbrev pub marked_by_pins : Net → ℕ → ℕ → ℕ → Bool
-marked_by_pins n y j x = not (x == y) && list_any (λ pin. pin == length n.inputs + x) (take j (pins_at (node_of n (length n.inputs + y))))
-
--- the first j numbers of a row name z
-abbrev pub marked_by_row : List ℕ → ℕ → ℕ → Bool
-marked_by_row row j z = list_any (λ m. m == z) (take j row)
-
 -- more than 16 other nodes read node x
 abbrev pub is_wide : Net → ℕ → Bool
 is_wide n x = nat_lt 16 (length (other_readers n x))
@@ -38,8 +30,8 @@ abbrev pub wide_sources : Net → ℕ → List ℕ
 wide_sources n y = filter (is_wide n) (other_sources n y)
 
 -- the rows list for each node the other nodes that read it
-abbrev pub AreReaders : Net → List (List ℕ) → Type 0
-AreReaders n rows = Lists (reads_other n) (length n.nodes) (length n.nodes) rows
+abbrev pub AreOtherReaders : Net → List (List ℕ) → Type 0
+AreOtherReaders n rows = Lists (reads_other n) (length n.nodes) (length n.nodes) rows
 
 -- the rows list for each node the other nodes that it reads
 abbrev pub AreSources : Net → List (List ℕ) → Type 0

@@ -1,5 +1,5 @@
 //! Rows that grow in any order, kept as one list of all that is noted in them.
-ghost use Rattle.std.specs.Prelude.{◌≡◌, ◌<◌, ◌≤◌, ◌+◌, ◌++◌, ◌∷◌, [], length, replicate, slice_index, slice_index_or, slice_set, slice_range, IfOk, OnOk};
+ghost use Rattle.std.specs.Prelude.{◌≡◌, ◌<◌, ◌≤◌, ◌+◌, ◌++◌, ◌∷◌, [], length, replicate, slice_index, slice_index_or, slice_set, slice_range, IfOk, OnOk, OnErr};
 ghost use Rattle.node_reads.specs.Noting.{noted};
 ghost use Rattle.node_reads.specs.Private.Logged.{row_of, rows_of, tally_at, is_last, tallied, AreIn, AreTallies, AreStarts, AreEnds, AreLaid};
 
@@ -18,13 +18,13 @@ pub struct Note {
 /// How many numbers a row has, and the last of them.
 #[derive(Clone, Copy, Debug, PartialEq, Eq, Drop)]
 pub struct Tally {
-    pub count: u32,
+    pub count: usize,
     pub last: u32,
 }
 
 /// Rows of numbers, which grow in any order. What is noted is kept in one list, in the order in which it comes, and is put into its
 /// rows together in the end. So one small place of each row is looked up while they grow, where rows of their own would take four times
-/// as much memory, and their numbers more.
+/// as much memory, and their numbers more. How many there are is counted in 64 bits, so that no number of them is refused.
 #[derive(Drop)]
 pub struct Notes {
     tallies: Vec<Tally>,
@@ -52,7 +52,7 @@ fn is_last(tally: Tally, k: u32) -> bool
 /// Row x is one longer, and ends in k.
 fn count_note(tallies: &mut Vec<Tally>, x: u32, k: u32)
     requires row { x < length tallies.old.items }
-    requires few { (tally_at tallies.old.items x).count + 1 < 4294967296 }
+    requires few { (tally_at tallies.old.items x).count + 1 < 18446744073709551616 }
     ensures { tallies.new.items ≡ slice_set tallies.old.items x (tallied (tally_at tallies.old.items x) k) }
 {
     let tally = tallies[x as usize];
@@ -74,11 +74,10 @@ fn add_note(
     ensures tallies { AreTallies tallies.new.items log.new.items }
     ensures long { length tallies.new.items ≡ length tallies.old.items }
     ensures rows { OnOk result (rows_of (length tallies.old.items) log.new.items ≡ slice_set (rows_of (length tallies.old.items) log.old.items) x (row_of log.old.items x ++ k ∷ [])) }
+    ensures kept { OnErr result (log.new.items ≡ log.old.items) }
 {
-    if log.len() >= 4_294_967_295 {
-        return Err(OutOfMemory);
-    }
     log.push(Note { row: x, number: k })?;
+    let _long = log.len();
     count_note(tallies, x, k);
     Ok(())
 }
@@ -95,6 +94,7 @@ fn note_once(
     ensures tallies { AreTallies tallies.new.items log.new.items }
     ensures long { length tallies.new.items ≡ length tallies.old.items }
     ensures rows { OnOk result (rows_of (length tallies.old.items) log.new.items ≡ noted (rows_of (length tallies.old.items) log.old.items) x k) }
+    ensures kept { OnErr result (log.new.items ≡ log.old.items) }
 {
     if is_last(tallies[x as usize], k) {
         return Ok(());
@@ -104,12 +104,12 @@ fn note_once(
 }
 
 /// Where each row begins. `log` is read by the clauses alone.
-fn starts(alloc: Global, tallies: &[Tally], log: &[Note]) -> Result<Vec<u32>, OutOfMemory>
+fn starts(alloc: Global, tallies: &[Tally], log: &[Note]) -> Result<Vec<usize>, OutOfMemory>
     requires { AreTallies tallies.now log.now }
     ensures { IfOk result (λ starts. AreStarts (length tallies.now) log.now starts.items) }
 {
     let mut starts = Vec::with_capacity(alloc, tallies.len())?;
-    let mut next: u32 = 0;
+    let mut next: usize = 0;
     for x in 0..tallies.len() {
         starts.push(next)?;
         next += tallies[x].count;
@@ -118,8 +118,8 @@ fn starts(alloc: Global, tallies: &[Tally], log: &[Note]) -> Result<Vec<u32>, Ou
 }
 
 /// Puts all that was noted where it stands, and makes of where each row begins where it ends.
-fn put_notes(log: &[Note], places: &mut Vec<u32>, flat: &mut Vec<u32>)
-    requires few { length log.now < 4294967296 }
+fn put_notes(log: &[Note], places: &mut Vec<usize>, flat: &mut Vec<u32>)
+    requires few { length log.now < 18446744073709551616 }
     requires rows { AreIn (length places.old.items) log.now }
     requires starts { AreStarts (length places.old.items) log.now places.old.items }
     requires long { length flat.old.items ≡ length log.now }
@@ -129,7 +129,7 @@ fn put_notes(log: &[Note], places: &mut Vec<u32>, flat: &mut Vec<u32>)
     for k in 0..log.len() {
         let note = log[k];
         let at = places[note.row as usize];
-        flat[at as usize] = note.number;
+        flat[at] = note.number;
         places[note.row as usize] = at + 1;
     }
 }
@@ -144,7 +144,7 @@ fn part(flat: &[u32], from: usize, to: usize) -> &[u32]
 }
 
 /// The rows, each in a place of its own. `log` is read by the clauses alone.
-fn cut_rows(alloc: Global, log: &[Note], ends: &[u32], flat: &[u32]) -> Result<Graph, OutOfMemory>
+fn cut_rows(alloc: Global, log: &[Note], ends: &[usize], flat: &[u32]) -> Result<Graph, OutOfMemory>
     requires rows { AreIn (length ends.now) log.now }
     requires ends { AreEnds (length ends.now) log.now ends.now }
     requires laid { AreLaid (length ends.now) log.now flat.now }
@@ -153,7 +153,7 @@ fn cut_rows(alloc: Global, log: &[Note], ends: &[u32], flat: &[u32]) -> Result<G
     let mut rows = Graph::with_room(alloc, ends.len(), flat.len())?;
     let mut from: usize = 0;
     for x in 0..ends.len() {
-        let to = ends[x] as usize;
+        let to = ends[x];
         rows.push(part(flat, from, to))?;
         from = to;
     }
@@ -172,7 +172,7 @@ fn packed(alloc: Global, tallies: &[Tally], log: &[Note]) -> Result<Graph, OutOf
 }
 
 /// How many numbers row x has. `log` is read by the clauses alone.
-fn count_in(tallies: &[Tally], log: &[Note], x: u32) -> u32
+fn count_in(tallies: &[Tally], log: &[Note], x: u32) -> usize
     requires tallies { AreTallies tallies.now log.now }
     requires row { x < length tallies.now }
     ensures { result ≡ length (row_of log.now x) }
@@ -200,18 +200,18 @@ impl Notes {
     }
 
     /// How many numbers row x has.
-    pub fn count(&self, x: u32) -> u32
+    pub fn count(&self, x: u32) -> usize
         requires { x < length self.now }
         ensures { result ≡ length (slice_index_or self.now x []) }
     {
         count_in(&self.tallies, &self.log, x)
     }
 
-    /// Puts k behind row x, unless it is the last number of that row. There is room for 4,294,967,295 numbers at most: one more is
-    /// refused as want of memory, and so nothing is put.
+    /// Puts k behind row x, unless it is the last number of that row. After want of memory nothing is put.
     pub fn note(&mut self, x: u32, k: u32) -> Result<(), OutOfMemory>
         requires { x < length self.old }
-        ensures { OnOk result (self.new ≡ noted self.old x k) }
+        ensures rows { OnOk result (self.new ≡ noted self.old x k) }
+        ensures kept { OnErr result (self.new ≡ self.old) }
     {
         note_once(&mut self.tallies, &mut self.log, x, k)
     }

@@ -2,8 +2,9 @@
 ghost use Rattle.std.specs.Prelude.{◌≡◌, ◌<◌, ◌+◌, ◌==◌, ℕ, Bool, length, take, IfOk, OnOk, [], slice_index_or};
 ghost use Rattle.std.specs.List.{list_any};
 ghost use Rattle.flat_net.specs.Net.{Net, node_of, pins_at};
-ghost use Rattle.node_reads.specs.Noting.{ends_in, noted, Lists, ListsMarked};
-ghost use Rattle.node_reads.specs.Sources.{reads_other, is_source, marked_by_pins, AreReaders, AreSources};
+ghost use Rattle.node_reads.specs.Noting.{ends_in, noted, Lists};
+ghost use Rattle.node_reads.specs.Private.Marking.{ListsMarked, marked_by_pins};
+ghost use Rattle.node_reads.specs.Sources.{reads_other, is_source, AreOtherReaders, AreSources};
 
 use crate::notes::Notes;
 use flat_net::{FlatNet, nodes_of};
@@ -49,7 +50,7 @@ fn note_pins(n: &FlatNet, rows: &mut Notes, y: u32) -> Result<(), OutOfMemory>
 
 /// For each node the other nodes that read it, in ascending order.
 fn noted_readers(alloc: Global, n: &FlatNet) -> Result<Notes, OutOfMemory>
-    ensures { IfOk result (λ rows. AreReaders n.now.net rows) }
+    ensures { IfOk result (λ rows. AreOtherReaders n.now.net rows) }
 {
     let count = nodes_of(n);
     let mut rows = Notes::empty(alloc, count, n.pin_total() as usize)?;
@@ -61,7 +62,7 @@ fn noted_readers(alloc: Global, n: &FlatNet) -> Result<Notes, OutOfMemory>
 
 /// The same, packed.
 pub fn packed_readers_of(alloc: Global, n: &FlatNet) -> Result<Graph, OutOfMemory>
-    ensures { IfOk result (λ rows. AreReaders n.now.net rows) }
+    ensures { IfOk result (λ rows. AreOtherReaders n.now.net rows) }
 {
     let rows = noted_readers(alloc, n)?;
     let packed = rows.packed(alloc)?;
@@ -71,7 +72,7 @@ pub fn packed_readers_of(alloc: Global, n: &FlatNet) -> Result<Graph, OutOfMemor
 /// Notes node x in the rows of the nodes of `n` that read it.
 fn note_readers(n: &FlatNet, readers: &Graph, rows: &mut Notes, x: u32) -> Result<(), OutOfMemory>
     requires node { x < length n.now.net.nodes }
-    requires readers { AreReaders n.now.net readers.now }
+    requires readers { AreOtherReaders n.now.net readers.now }
     requires listed { Lists (is_source n.now.net) x (length n.now.net.nodes) rows.old }
     ensures { OnOk result (Lists (is_source n.now.net) (x + 1) (length n.now.net.nodes) rows.new) }
 {
@@ -84,7 +85,7 @@ fn note_readers(n: &FlatNet, readers: &Graph, rows: &mut Notes, x: u32) -> Resul
 
 /// For each node the other nodes that it reads, in ascending order, from the nodes that read each.
 fn noted_sources(alloc: Global, n: &FlatNet, readers: &Graph) -> Result<Notes, OutOfMemory>
-    requires { AreReaders n.now.net readers.now }
+    requires { AreOtherReaders n.now.net readers.now }
     ensures { IfOk result (λ rows. AreSources n.now.net rows) }
 {
     let count = nodes_of(n);
@@ -97,7 +98,7 @@ fn noted_sources(alloc: Global, n: &FlatNet, readers: &Graph) -> Result<Notes, O
 
 /// The same, packed.
 pub fn sources_of(alloc: Global, n: &FlatNet, readers: &Graph) -> Result<Graph, OutOfMemory>
-    requires { AreReaders n.now.net readers.now }
+    requires { AreOtherReaders n.now.net readers.now }
     ensures { IfOk result (λ rows. AreSources n.now.net rows) }
 {
     let rows = noted_sources(alloc, n, readers)?;

@@ -1,7 +1,7 @@
 //! Nodes that many nodes read, whose readers are counted in a table.
 ghost use Rattle.std.specs.Prelude.{◌≡◌, ◌<◌, ℕ, Bool, [], nat_lt, length, All, filter, slice_index_or, IfOk};
 ghost use Rattle.flat_net.specs.Net.{Net};
-ghost use Rattle.node_reads.specs.Sources.{is_wide, wide_sources, AreReaders, AreSources};
+ghost use Rattle.node_reads.specs.Sources.{is_wide, wide_sources, AreOtherReaders, AreSources};
 
 use flat_net::{FlatNet, nodes_of};
 use graph::Graph;
@@ -17,7 +17,7 @@ pub fn is_long(row: &[u32]) -> bool
 
 /// More than 16 other nodes read node x.
 pub fn is_wide(n: &FlatNet, readers: &Graph, x: u32) -> bool
-    requires readers { AreReaders n.now.net readers.now }
+    requires readers { AreOtherReaders n.now.net readers.now }
     requires node { x < length n.now.net.nodes }
     ensures { result ≡ is_wide n.now.net x }
 {
@@ -32,7 +32,7 @@ fn wide_among(
     readers: &Graph,
     row: &[u32],
 ) -> Result<Vec<u32>, OutOfMemory>
-    requires readers { AreReaders n.now.net readers.now }
+    requires readers { AreOtherReaders n.now.net readers.now }
     requires row { All (λ x. x < length n.now.net.nodes) row.now }
     ensures { IfOk result (λ wide. wide.items ≡ filter (is_wide n.now.net) row.now) }
 {
@@ -52,7 +52,7 @@ pub fn wide_sources_of(
     readers: &Graph,
     sources: &Graph,
 ) -> Result<Graph, OutOfMemory>
-    requires readers { AreReaders n.now.net readers.now }
+    requires readers { AreOtherReaders n.now.net readers.now }
     requires sources { AreSources n.now.net sources.now }
     ensures long { IfOk result (λ wide. length wide ≡ length n.now.net.nodes) }
     ensures each { IfOk result (λ wide. (i : ℕ) → i < length n.now.net.nodes → slice_index_or wide i [] ≡ wide_sources n.now.net i) }

@@ -7,7 +7,8 @@ use Rattle.std.proofs.lemmas.List.Folds.{list_any_more}
 use Rattle.std.proofs.lemmas.List.Sums.{sum_by_more, sum_by-take-le, sum_by-cons, count_by-le-length}
 use Rattle.flat_net.specs.Net.{Net}
 use Rattle.partitioner.specs.Below.{one_if}
-use Rattle.node_reads.specs.Sources.{reads_other, other_readers, other_sources, is_wide, wide_sources, marked_by_row}
+use Rattle.node_reads.specs.Sources.{reads_other, other_readers, other_sources, is_wide, wide_sources}
+use Rattle.node_reads.specs.Private.Marking.{marked_by_row}
 use Rattle.partitioner.specs.Private.Moving.{Shifts}
 use Rattle.partitioner.specs.Private.Tracking.{reader_count}
 use Rattle.node_reads.proofs.Numbers.{eqb_turned}

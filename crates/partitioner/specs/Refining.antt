@@ -1,5 +1,6 @@
 -- Moves of single nodes, passes of moves, and where no move helps.
-use Rattle.std.specs.Prelude.{◌≡◌, ◌≢◌, ℕ, zero, suc, ◌<◌, ◌≤◌, Bool, true, nat_lt, ◌&&◌, length, slice_index, slice_set, if◌then◌else◌}
+use Rattle.std.specs.Prelude.{◌≡◌, ◌≢◌, ℕ, zero, suc, ◌<◌, ◌≤◌, Bool, true, not, nat_lt, nat_le, ◌&&◌, ◌||◌, length, slice_index, slice_set, unwrap_or}
+use Rattle.std.specs.List.{find, list_all, range_with_len}
 use Rattle.tmr_base.specs.Parts.{PlainParts}
 use Rattle.flat_net.specs.Net.{Net}
 use Rattle.partitioner.specs.Cost.{cost}
@@ -13,14 +14,14 @@ has_room size parts p = nat_lt (held parts.of p) (capacity size)
 abbrev pub put : PlainParts → ℕ → ℕ → PlainParts
 put parts i p = record { count = parts.count; of = slice_set parts.of i p }
 
--- b where it passes and f is lower there than at a, else a
-abbrev pub lower_of : (ℕ → ℕ) → (ℕ → Bool) → ℕ → ℕ → ℕ
-lower_of f passes a b = if passes b && nat_lt (f b) (f a) then b else a
+-- b passes, f is lower there than at `start`, and f is lower at no number below the bound that passes
+abbrev pub is_least : (ℕ → ℕ) → (ℕ → Bool) → ℕ → ℕ → ℕ → Bool
+is_least f passes start bound b =
+    passes b && (nat_lt (f b) (f start) && list_all (λ c. not (passes c) || nat_le (f b) (f c)) (range_with_len 0 bound))
 
--- the first of the numbers below a bound that pass at which f is lowest, if that is lower than at `start`, else `start`
+-- the first of the numbers below a bound that are least so, if there is one, else `start`
 unfoldable pub lowest : (ℕ → ℕ) → (ℕ → Bool) → ℕ → ℕ → ℕ
-lowest f passes start zero = start
-lowest f passes start (suc k) = lower_of f passes (lowest f passes start k) k
+lowest f passes start bound = unwrap_or (find (is_least f passes start bound) (range_with_len 0 bound)) start
 
 -- where node i goes: the partition with room where the cost is lowest, the first of several, if that is lower than now
 abbrev pub place : Net → ℕ → PlainParts → ℕ → ℕ

@@ -4,14 +4,17 @@ use Rattle.std.specs.Prelude.{slice_index}
 use Rattle.std.specs.List.{range_with_len}
 use Rattle.std.proofs.lemmas.Bool.{eq-eqb, eqb-true, cases_eq, cases_lt}
 use Rattle.std.proofs.lemmas.List.{length_push, get_or_append_left, get_or_push, get_or-set_same, get_or-set_other, take_more}
+use Rattle.std.proofs.lemmas.List.FromFn.{length-range_with_len}
 use Rattle.std.proofs.lemmas.List.Elements.{All-append, All-take, filter_passes}
 use Rattle.std.proofs.lemmas.Option.{slice_get_within, get_or_from_slice_get}
-use Rattle.node_reads.specs.Noting.{noted, related, Lists, ListsMarked}
+use Rattle.node_reads.specs.Noting.{noted, related, Lists}
+use Rattle.node_reads.specs.Private.Marking.{ListsMarked}
 use Rattle.node_reads.proofs.NotingLaws.{marked_row, noted_marks, marks_none}
 use Rattle.tmr_base.specs.Parts.{PlainParts}
 use Rattle.flat_net.specs.Net.{Net, net_count}
 use Rattle.feedback_cut.specs.Inner.{node_pins}
 use Rattle.triplicate.specs.declared.taps.Taps.{Taps}
+use Rattle.triplicate.specs.Voting.{needs_voter}
 use Rattle.triplicate.specs.Private.Noted.{is_in, needs, members, IsNoting}
 use Rattle.triplicate.specs.Private.Numbers.{voter_rank}
 use Rattle.triplicate.specs.Private.Taps.{tap_of, tap_start, HasPlaces, IsTapped}
@@ -77,6 +80,10 @@ module _ (n : Net) (parts : PlainParts) (voted : ℕ → ℕ → Bool) where
 
       more : (xs : List ℕ) → length (xs ++ p ∷ []) ≡ suc (length xs)
       more xs = omega (arith, length_push xs p)
+
+  -- no more voters stand before that of a partition than there are partitions before it
+  pub rank_few : (x p : ℕ) → voter_rank n parts voted x p ≤ p
+  rank_few x p = omega (arith, passing_few (needs_voter n parts voted x) (range_with_len 0 p), length-range_with_len 0 p)
 
   -- ---- what a place tells
 

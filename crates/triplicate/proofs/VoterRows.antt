@@ -6,7 +6,8 @@ use Rattle.std.proofs.lemmas.Bool.{eqb-true}
 use Rattle.std.proofs.lemmas.List.{length-set, take_more, length-replicate, get_or-replicate}
 use Rattle.std.proofs.lemmas.List.Folds.{list_any-append}
 use Rattle.std.proofs.lemmas.List.Elements.{All-head, All-tail, All-filter, filter_passes}
-use Rattle.node_reads.specs.Noting.{ends_in, noted, Lists, ListsMarked}
+use Rattle.node_reads.specs.Noting.{ends_in, noted, Lists}
+use Rattle.node_reads.specs.Private.Marking.{ListsMarked}
 use Rattle.node_reads.proofs.Numbers.{numbers_more, numbers_below}
 use Rattle.node_reads.proofs.NotingLaws.{noted_marks, marks_same, marks_none, marks_all}
 use Rattle.tmr_base.specs.Parts.{PlainParts}

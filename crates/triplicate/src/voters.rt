@@ -76,7 +76,7 @@ fn note_pin(
     let pin = n.pin(NetId(inputs + y), j);
     let part = parts.of(y);
     rows.note(pin.0, part)?;
-    places[at] = rows.count(pin.0);
+    places[at] = rows.count(pin.0) as u32;
     Ok(())
 }
 

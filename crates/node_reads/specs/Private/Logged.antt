@@ -41,7 +41,7 @@ AreIn count log = All (λ (note : Note). note.row < count) log
 -- the tallies of all rows
 pub record AreTallies (tallies : List Tally) (log : List Note) : Type 0 where
   pub rows : AreIn (length tallies) log
-  pub few : length log < 4294967296
+  pub few : length log < 18446744073709551616
   pub each : (x : ℕ) → x < length tallies → tally_at tallies x ≡ tally_of (row_of log x)
 
 -- where each row begins

@@ -4,7 +4,7 @@ use Rattle.tmr_base.specs.Parts.{PlainParts}
 use Rattle.flat_net.specs.Net.{Net}
 use Rattle.partitioner.specs.declared.counts.partitioning.Partitioning.{Partitioning}
 use Rattle.partitioner.specs.declared.counts.partitioning.Placed.{Placed}
-use Rattle.node_reads.specs.Sources.{AreReaders, other_readers, other_sources, is_wide, wide_sources}
+use Rattle.node_reads.specs.Sources.{AreOtherReaders, other_readers, other_sources, is_wide, wide_sources}
 use Rattle.partitioner.specs.Private.Counting.{count_at}
 use Rattle.partitioner.specs.Sizes.{held}
 
@@ -25,7 +25,7 @@ pub record IsPlaced (n : Net) (p : Placed) : Type 0 where
   pub few : length n.nodes < 4294967295
   pub long : length p.of.items ≡ length n.nodes
   pub in_range : All (λ q. q < p.count) p.of.items
-  pub readers : AreReaders n p.readers
+  pub readers : AreOtherReaders n p.readers
   pub held_long : length p.held.items ≡ p.count
   pub held_right : (q : ℕ) → q < p.count → slice_index p.held.items q ≡ held p.of.items q
 
@@ -34,7 +34,7 @@ pub record Tracks (n : Net) (p : Partitioning) : Type 0 where
   pub few : length n.nodes < 4294967295
   pub long : length p.of.items ≡ length n.nodes
   pub in_range : All (λ q. q < p.count) p.of.items
-  pub readers : AreReaders n p.readers
+  pub readers : AreOtherReaders n p.readers
   pub sources_long : length p.sources ≡ length n.nodes
   pub sources : (i : ℕ) → i < length n.nodes → IsPermutation (other_sources n i) (slice_index_or p.sources i [])
   pub wide_long : length p.wide ≡ length n.nodes

@@ -2,7 +2,7 @@
 ghost use Rattle.std.specs.Prelude.{◌≡◌, ◌<◌, ◌≤◌, ◌==◌, ◌&&◌, ◌||◌, ℕ, Bool, not, length, All, IfOk, slice_index};
 ghost use Rattle.partitioner.specs.Below.{count_below};
 ghost use Rattle.partitioner.specs.Private.Meeting.{is_met};
-ghost use Rattle.node_reads.specs.Sources.{AreReaders};
+ghost use Rattle.node_reads.specs.Sources.{AreOtherReaders};
 ghost use Rattle.partitioner.specs.Cost.{cost};
 
 use crate::counts::tracking::parts_list;
@@ -56,7 +56,7 @@ pub fn pairs_in(
     count: u32,
     of: &[u32],
 ) -> Result<u64, OutOfMemory>
-    requires readers { AreReaders n.now.net readers.now }
+    requires readers { AreOtherReaders n.now.net readers.now }
     requires long { length of.now ≡ length n.now.net.nodes }
     requires in_range { All (λ q. q < count) of.now }
     ensures { IfOk result (λ pairs. pairs ≡ cost n.now.net (record { count = count; of = of.now })) }

@@ -1,7 +1,8 @@
 //! In which partitions wide nodes are read.
 ghost use Rattle.std.specs.Prelude.{◌≡◌, ◌<◌, ◌≤◌, ◌==◌, ℕ, Bool, true, [], All, List, length, slice_index, slice_index_or, IfOk, OnOk};
 ghost use Rattle.flat_net.specs.Net.{Net};
-ghost use Rattle.node_reads.specs.Sources.{reads_other, is_wide, marked_by_row};
+ghost use Rattle.node_reads.specs.Sources.{reads_other, is_wide};
+ghost use Rattle.node_reads.specs.Private.Marking.{marked_by_row};
 ghost use Rattle.partitioner.specs.Private.Sets.{has};
 ghost use Rattle.partitioner.specs.Private.Tracking.{Tracks, parts_of};
 ghost use Rattle.partitioner.specs.Private.Spotting.{AreSpots, KeepsSpots};

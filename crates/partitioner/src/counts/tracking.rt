@@ -1,7 +1,7 @@
 //! The counts beside a partitioning, made from it.
 ghost use Rattle.std.specs.Prelude.{◌≡◌, ◌<◌, ◌==◌, ℕ, true, List, All, length, slice_index, count_by, IfOk, OnOk, if◌then◌else◌};
 ghost use Rattle.flat_net.specs.Net.{Net};
-ghost use Rattle.node_reads.specs.Sources.{is_wide, AreReaders};
+ghost use Rattle.node_reads.specs.Sources.{is_wide, AreOtherReaders};
 ghost use Rattle.partitioner.specs.Private.Counting.{count_at};
 ghost use Rattle.partitioner.specs.Sizes.{held};
 ghost use Rattle.partitioner.specs.Private.Tracking.{IsPlaced, Tracks, parts_of, placed_parts, reader_count};
@@ -69,7 +69,7 @@ fn counts_of(
     readers: &Graph,
     of: &[u32],
 ) -> Result<HashMap<(u32, u32), u32>, OutOfMemory>
-    requires readers { AreReaders n.now.net readers.now }
+    requires readers { AreOtherReaders n.now.net readers.now }
     requires long { length of.now ≡ length n.now.net.nodes }
     ensures { IfOk result (λ counts. (x q : ℕ) → x < length n.now.net.nodes → is_wide n.now.net x ≡ true → count_at counts x q ≡ reader_count n.now.net of.now x q) }
 {

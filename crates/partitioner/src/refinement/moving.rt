@@ -1,7 +1,7 @@
 //! The move of one node.
 ghost use Rattle.std.specs.Prelude.{◌≡◌, ◌≢◌, ◌<◌, ◌≤◌, ◌==◌, ◌+◌, ◌-◌, ℕ, All, length, slice_index, slice_set, count_by, OnOk};
 ghost use Rattle.flat_net.specs.Net.{Net};
-ghost use Rattle.node_reads.specs.Sources.{marked_by_row};
+ghost use Rattle.node_reads.specs.Private.Marking.{marked_by_row};
 ghost use Rattle.partitioner.specs.Private.Counting.{count_at};
 ghost use Rattle.partitioner.specs.Refining.{put};
 ghost use Rattle.partitioner.specs.Private.Tracking.{Tracks, parts_of};

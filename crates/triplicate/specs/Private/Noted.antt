@@ -4,7 +4,8 @@ use Rattle.std.specs.List.{range_with_len}
 use Rattle.tmr_base.specs.Parts.{PlainParts}
 use Rattle.flat_net.specs.Net.{Net, net_count}
 use Rattle.feedback_cut.specs.Inner.{node_pins}
-use Rattle.node_reads.specs.Noting.{noted, ListsMarked}
+use Rattle.node_reads.specs.Noting.{noted}
+use Rattle.node_reads.specs.Private.Marking.{ListsMarked}
 use Rattle.triplicate.specs.Voting.{needs_voter}
 
 -- node y stands in partition p

@@ -11,5 +11,5 @@ returns c =
     let pin : c.pin-pin.result.0 ≡ get_or (node_pins net c.args.y) c.args.j 0 =
     subst (λ (a : ℕ). c.pin-pin.result.0 ≡ get_or (pins_at (node_of net (a + c.args.y))) c.args.j 0) inputs c.pin-pin.ensures.value in
     let at : get_or (node_pins net c.args.y) c.args.j 0 ≡ length net.inputs + x = omega (arith, pin, inputs, c.if-pin-inputs.false) in
-    subst (λ (rows : List (List ℕ)). Marked net c.args.y (c.args.j + 1) rows) (sym c.in_ok-note.ensures)
+    subst (λ (rows : List (List ℕ)). Marked net c.args.y (c.args.j + 1) rows) (sym c.in_ok-note.ensures.rows)
     (pin_noted net c.args.y c.args.j x c.args.rows.now c.requires.listed c.requires.pin at c.if-x-y.false (omega arith))

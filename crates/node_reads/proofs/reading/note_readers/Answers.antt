@@ -21,7 +21,7 @@ loop-y-preserved c =
     let within : y < length c.args.n.now.net.nodes =
     subst (λ (xs : List ℕ). c.loop-y.y-index < length xs → get_or xs c.loop-y.y-index 0 < length c.args.n.now.net.nodes) (sym c.row-y-items.ensures)
     (rows_below (reads_other c.args.n.now.net) (length c.args.n.now.net.nodes) (length c.args.n.now.net.nodes) c.args.readers.now c.args.x c.loop-y.y-index c.requires.readers c.requires.node) c.loop-y-test.true in
-    subst (λ (rows : List (List ℕ)). MarkedSources c.args.n.now.net c.args.x row (c.loop-y.y-index + 1) rows) (sym c.in_ok-note.ensures)
+    subst (λ (rows : List (List ℕ)). MarkedSources c.args.n.now.net c.args.x row (c.loop-y.y-index + 1) rows) (sym c.in_ok-note.ensures.rows)
     (source_noted c.args.n.now.net c.args.x row c.loop-y.y-index y c.loop-y.rows c.loop-y.invariant c.loop-y-test.true refl within)
 
 pub returns : goal.returns

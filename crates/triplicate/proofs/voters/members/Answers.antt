@@ -10,7 +10,7 @@ loop-y-preserved c =
     let part : c.of-part.result ≡ slice_index c.args.parts.now.of c.loop-y.y = c.of-part.ensures.value in
     let below : slice_index c.args.parts.now.of c.loop-y.y < c.args.parts.now.count = omega (arith, part, c.of-part.ensures.range) in
     subst (λ (rows : List (List ℕ)). Lists (is_in c.args.parts.now) (c.loop-y.y + 1) c.args.parts.now.count rows)
-    (sym (c.in_ok-note.ensures ∙ ap (λ p. noted c.loop-y.rows p c.loop-y.y) part))
+    (sym (c.in_ok-note.ensures.rows ∙ ap (λ p. noted c.loop-y.rows p c.loop-y.y) part))
     (member_noted c.args.parts.now c.loop-y.y c.args.parts.now.count c.loop-y.rows c.loop-y.invariant below)
 
 pub returns : goal.returns

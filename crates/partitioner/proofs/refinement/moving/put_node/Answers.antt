@@ -2,7 +2,8 @@ use Rattle.std.proofs.Common.{◌≡◌, ◌<◌, ◌≤◌, ◌+◌, ◌-◌, �
 use Rattle.std.specs.List.{All, count_by}
 use Rattle.std.proofs.lemmas.List.{length-set}
 use Rattle.std.proofs.lemmas.List.Elements.{All-set}
-use Rattle.node_reads.specs.Sources.{reads_other, is_wide, wide_sources, marked_by_row}
+use Rattle.node_reads.specs.Sources.{reads_other, is_wide, wide_sources}
+use Rattle.node_reads.specs.Private.Marking.{marked_by_row}
 use Rattle.partitioner.specs.Private.Counting.{count_at}
 use Rattle.partitioner.specs.Private.Moving.{Shifts}
 use Rattle.partitioner.specs.Sizes.{held}

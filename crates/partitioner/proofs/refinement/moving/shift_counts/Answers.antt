@@ -1,5 +1,5 @@
 use Rattle.std.proofs.Common.{◌+◌, ◌-◌, ◌∙◌, ℕ, cond, eqb, ◌&&◌, get_or, ap, arith}
-use Rattle.node_reads.specs.Sources.{marked_by_row}
+use Rattle.node_reads.specs.Private.Marking.{marked_by_row}
 use Rattle.partitioner.specs.Private.Counting.{count_at}
 use Rattle.partitioner.proofs.ShiftLaws.{not_before, shift_still, shift_more}
 use Rattle.partitioner.proofs.refinement.moving.shift_counts.Goals as goal

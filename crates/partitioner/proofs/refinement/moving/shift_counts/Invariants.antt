@@ -1,4 +1,4 @@
-use Rattle.node_reads.specs.Sources.{marked_by_row}
+use Rattle.node_reads.specs.Private.Marking.{marked_by_row}
 use Rattle.partitioner.specs.Private.Counting.{count_at}
 use Rattle.partitioner.specs.Private.Moving.{Shifts}
 use Rattle.partitioner.proofs.refinement.moving.shift_counts.Given as goal
