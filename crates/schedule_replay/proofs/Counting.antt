@@ -5,7 +5,8 @@ use Rattle.std.proofs.lemmas.Bool.Decides.{nat_tests}
 use Rattle.std.proofs.lemmas.List.{length-append, length-take-le, append-nil, take-append-le, take_all}
 use Rattle.std.proofs.lemmas.List.Elements.{filter-append}
 use Rattle.schedule_replay.specs.declared.outcome.Difference.{Difference}
-use Rattle.schedule_replay.specs.Outcome.{Counts, count_wrong, differs, is_wrong, first_more}
+use Rattle.schedule_replay.specs.Outcome.{Counts, count_wrong, differs, is_wrong}
+use Rattle.schedule_replay.specs.Private.Telling.{first_more}
 
 filter_more : (p : Difference → Bool) (ds : List Difference) (d : Difference) → filter p (ds ++ d ∷ []) ≡ filter p ds ++ cond (p d) (d ∷ []) []
 filter_more p ds d = filter-append p ds (d ∷ [])

@@ -18,3 +18,4 @@ pub mod WideLaws
 pub mod WideRows
 pub mod WideOutcomes
 pub mod Unharmed
+pub mod Steps

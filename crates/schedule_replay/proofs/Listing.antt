@@ -11,10 +11,11 @@ use Rattle.net_meaning.specs.Meaning.{upset_at}
 use Rattle.toml.specs.Data.{Data}
 use Rattle.schedule_replay.specs.declared.fault.ScheduleFault.{ScheduleFault}
 use Rattle.schedule_replay.specs.declared.fault.ScheduleFault.TheVariants as fault
-use Rattle.schedule_replay.specs.Document.{and_then, upsets_from, rows_from, Listed, listed, starts_or_fault}
-use Rattle.schedule_replay.specs.Entries.{place_cmp, upset_of_entry}
-use Rattle.schedule_replay.specs.Reading.{ListsUpsets, IsReadAs}
+use Rattle.schedule_replay.specs.Document.{and_then, listed_rows, listed_upsets, Listed, listed, starts_or_fault}
+use Rattle.schedule_replay.specs.Reading.{IsReadAs}
 use Rattle.schedule_replay.specs.Schedule.{PlainSchedule, IsPlainSchedule}
+use Rattle.schedule_replay.specs.Private.Reading.{ListsUpsets}
+use Rattle.schedule_replay.specs.Private.Entries.{place_cmp, upset_of_entry}
 use Rattle.schedule_replay.proofs.Places.{entries_hold}
 use Rattle.schedule_replay.proofs.Members.{same_members, ascending_distinct}
 
@@ -23,10 +24,10 @@ few_enough a b l k = grind (arith, nat_tests)
 
 module _ (version : ℕ) (n h : Net) (starts : Option (List Bool)) (rows ups : List Data) (few_rows : length rows ≤ 1048576) (few_ups : length ups ≤ 1048576) where
   abbrev Rest : List Bool → Result Listed ScheduleFault
-  Rest ss = and_then (rows_from (length n.inputs) 0 [] rows) (λ rs. and_then (upsets_from version h (length rs) 0 [] ups) (λ us. Ok (let x : Listed = record { rows = rs; starts = ss; upsets = us } in x)))
+  Rest ss = and_then (listed_rows (length n.inputs) rows) (λ rs. and_then (listed_upsets version h (length rs) ups) (λ us. Ok (let x : Listed = record { rows = rs; starts = ss; upsets = us } in x)))
 
   abbrev Last : List Bool → List (List Bool) → Result Listed ScheduleFault
-  Last ss rs = and_then (upsets_from version h (length rs) 0 [] ups) (λ us. Ok (let x : Listed = record { rows = rs; starts = ss; upsets = us } in x))
+  Last ss rs = and_then (listed_upsets version h (length rs) ups) (λ us. Ok (let x : Listed = record { rows = rs; starts = ss; upsets = us } in x))
 
   not_too_many : listed version n h starts rows ups ≡ and_then (starts_or_fault starts) Rest
   not_too_many = ap (λ (t : Bool). cond t (Err fault.TooMany) (and_then (starts_or_fault starts) Rest)) (few_enough (length rows) (length ups) few_rows few_ups)
@@ -34,11 +35,11 @@ module _ (version : ℕ) (n h : Net) (starts : Option (List Bool)) (rows ups : L
   with_starts : (ss : List Bool) → starts_or_fault starts ≡ Ok ss → listed version n h starts rows ups ≡ Rest ss
   with_starts ss e = not_too_many ∙ ap (λ (r : Result (List Bool) ScheduleFault). and_then r Rest) e
 
-  with_rows : (ss : List Bool) (rs : List (List Bool)) → starts_or_fault starts ≡ Ok ss → rows_from (length n.inputs) 0 [] rows ≡ Ok rs → listed version n h starts rows ups ≡ Last ss rs
+  with_rows : (ss : List Bool) (rs : List (List Bool)) → starts_or_fault starts ≡ Ok ss → listed_rows (length n.inputs) rows ≡ Ok rs → listed version n h starts rows ups ≡ Last ss rs
   with_rows ss rs e f = with_starts ss e ∙ ap (λ (r : Result (List (List Bool)) ScheduleFault). and_then r (Last ss)) f
 
   pub all_read : (m : BTreeMap (ℕ × ℕ) Bool) (es : List ((ℕ × ℕ) × Bool)) (old new : PlainSchedule)
-      → starts_or_fault starts ≡ Ok old.starts → rows_from (length n.inputs) 0 [] rows ≡ Ok old.rows → ListsUpsets version h (length old.rows) ups m → es ≡ m.entries → old.inputs ≡ length n.inputs
+      → starts_or_fault starts ≡ Ok old.starts → listed_rows (length n.inputs) rows ≡ Ok old.rows → ListsUpsets version h (length old.rows) ups m → es ≡ m.entries → old.inputs ≡ length n.inputs
       → new ≡ record old { upsets = map upset_of_entry es } → IsPlainSchedule new → IsReadAs (length n.inputs) (listed version n h starts rows ups) new
   all_read m es old new starts_read rows_read ups_read same inputs is plain =
       let l : Listed = record { rows = old.rows; starts = old.starts; upsets = ups_read.upsets } in

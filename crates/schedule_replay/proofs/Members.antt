@@ -7,7 +7,7 @@ use Rattle.std.proofs.lemmas.List.Elements.{Contains-append_cases}
 use Rattle.tmr_base.specs.declared.ids.Upset.{Upset}
 use Rattle.net_meaning.specs.Meaning.{upset_at}
 use Rattle.schedule_replay.specs.Schedule.{IsBefore}
-use Rattle.schedule_replay.specs.Reading.{AreDistinct}
+use Rattle.schedule_replay.specs.Private.Reading.{AreDistinct}
 use Rattle.schedule_replay.proofs.Places.{upset_at_more}
 
 cond_ways : (b : Bool) (v : Bool) (o : Option Bool) (w : Bool) → cond b (Some v) o ≡ Some w → ((b ≡ true) × (v ≡ w)) ⊎ (o ≡ Some w)

@@ -12,7 +12,7 @@ use Rattle.std.specs.List.Sorted.{IsStrictlySortedBy}
 use Rattle.std.proofs.lemmas.Map.Keys.{Less-from_sorted}
 use Rattle.std.proofs.lemmas.Option.{slice_get_within, get_or_from_slice_get}
 use Rattle.schedule_replay.specs.Schedule.{IsBefore}
-use Rattle.schedule_replay.specs.Reading.{IsNodeOf, CanBeStruck}
+use Rattle.schedule_replay.specs.Reading.{IsNodeOf}
 use Rattle.std.specs.BTreeMap as tree
 use Rattle.std.specs.BTreeMap.{BTreeMap, is_at}
 use Rattle.tmr_base.specs.declared.ids.Upset.{Upset}
@@ -20,8 +20,9 @@ use Rattle.flat_net.specs.Net.{Net, net_count}
 use Rattle.net_meaning.specs.Meaning.{upset_at}
 use Rattle.schedule_replay.specs.declared.fault.ScheduleFault.{ScheduleFault}
 use Rattle.schedule_replay.specs.declared.fault.ScheduleFault.TheVariants as fault
-use Rattle.schedule_replay.specs.Document.{Entry, is_listed, struck_named, placed, known, upset_of, and_then, upsets_from, entry_of, listed, list_of, only_keys, is_file_key, inputs_of, upsets_of, starts_of, arrays_listed, document_listed}
-use Rattle.schedule_replay.specs.Entries.{place_cmp, upset_of_entry, Holds}
+use Rattle.schedule_replay.specs.Document.{Entry, is_listed, struck_named, placed, known, upset_of, and_then, entry_of, listed, list_of, only_keys, is_file_key, inputs_of, upsets_of, starts_of, arrays_listed, document_listed}
+use Rattle.schedule_replay.specs.Private.Reading.{CanBeStruck, upsets_from}
+use Rattle.schedule_replay.specs.Private.Entries.{place_cmp, upset_of_entry, Holds}
 use Rattle.toml.specs.Data.{Data, Items, Members}
 use Rattle.toml.specs.View.{view, items_view}
 use Rattle.toml.specs.declared.value.Value.{Value}

@@ -17,8 +17,9 @@ use Rattle.certificate.specs.Cert.{PlainCert, depth_of, copy_of}
 use Rattle.certificate.specs.Rules.{Rule8}
 use Rattle.certificate.specs.Schedules.{IsQuiet}
 use Rattle.schedule_replay.proofs.Taking.{strikes_there}
-use Rattle.schedule_replay.specs.Outcome.{strikes, is_quiet, TellQuiet}
+use Rattle.schedule_replay.specs.Outcome.{strikes, is_quiet}
 use Rattle.schedule_replay.specs.Striking.{IsTaken, AreLatest}
+use Rattle.schedule_replay.specs.Private.Telling.{TellQuiet}
 
 -- the upset is in the partition's window
 abbrev in_window : PlainCert → ℕ → ℕ → Upset → Bool

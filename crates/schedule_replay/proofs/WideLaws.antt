@@ -8,7 +8,7 @@ use Rattle.net_meaning.specs.Meaning.{row_at, start_at, upset_at}
 use Rattle.certificate.specs.Cert.{PlainCert, Fits}
 use Rattle.schedule_replay.specs.declared.outcome.Outcome.{Outcome}
 use Rattle.schedule_replay.specs.Outcome.{outputs_in, outputs_until, late_in}
-use Rattle.schedule_replay.specs.Running.{HasCounted, IsBounded}
+use Rattle.schedule_replay.specs.Running.{HasCounted, CountsFit}
 use Rattle.schedule_replay.specs.Wide.{HasNoted, Notes, HasBegun, HasTaken, IsFresh}
 use Rattle.schedule_replay.specs.declared.wide_rows.Progress.{Progress}
 use Rattle.schedule_replay.specs.Striking.{IsTaken, AreLatest}
@@ -52,7 +52,7 @@ module _ (n h : Net) (k : PlainCert) (us : List Upset) (tr ft : List (List Bool)
         late = ap (λ (l : ℕ). l + late_in n k us tr ft t (length n.nodes)) (same ∙ before.late);
       }))
 
-pub cycle_bounded : (t count : ℕ) (a m b : Outcome) → count ≤ 4294967295 → IsBounded t a → HasNoted 4294967295 a m → b ≡ record m { late = b.late } → b.late ≤ m.late + 3 * count → IsBounded (t + 1) b
+pub cycle_bounded : (t count : ℕ) (a m b : Outcome) → count ≤ 4294967295 → CountsFit t a → HasNoted 4294967295 a m → b ≡ record m { late = b.late } → b.late ≤ m.late + 3 * count → CountsFit (t + 1) b
 cycle_bounded t count a m b few before noted same more =
     let differences : b.differences ≡ m.differences = ap (λ (o : Outcome). o.differences) same in
     let wrong : b.wrong ≡ m.wrong = ap (λ (o : Outcome). o.wrong) same in
@@ -66,7 +66,7 @@ cycle_bounded t count a m b few before noted same more =
 pub begun_counted : (n h : Net) (k : PlainCert) (s : PlainSchedule) (tr ft : List (List Bool)) (o : Outcome) → HasBegun k s o → HasCounted n h k s.upsets tr ft 0 o
 begun_counted n h k s tr ft o is = record { counts = record { first_are = is.first; differences_are = is.differences; wrong_are = is.wrong }; late = is.late }
 
-pub begun_bounded : (k : PlainCert) (s : PlainSchedule) (o : Outcome) → HasBegun k s o → IsBounded 0 o
+pub begun_bounded : (k : PlainCert) (s : PlainSchedule) (o : Outcome) → HasBegun k s o → CountsFit 0 o
 begun_bounded k s o is = record { differences = let x = is.differences in omega arith; wrong = let x = is.wrong in omega arith; late = let x = is.late in omega arith }
 
 -- one element more behind a list

@@ -12,8 +12,9 @@ use Rattle.net_simulator.proofs.Lanes.{bit_of_words}
 use Rattle.schedule_replay.specs.declared.outcome.Difference.{Difference}
 use Rattle.schedule_replay.specs.declared.outcome.Outcome.{Outcome}
 use Rattle.schedule_replay.specs.declared.wide_comparing.FourWords.{FourWords}
-use Rattle.schedule_replay.specs.Outcome.{Counts, bits_differ, one_if, output_at, outputs_in, is_quiet, copies_wrong, late_at, TellQuiet}
+use Rattle.schedule_replay.specs.Outcome.{Counts, bits_differ, one_if, output_at, outputs_in, is_quiet, copies_wrong, late_at}
 use Rattle.schedule_replay.specs.Wide.{difference_in, wrong_in, late_in_run, is_told_quiet, HasNoted, Notes}
+use Rattle.schedule_replay.specs.Private.Telling.{TellQuiet}
 use Rattle.schedule_replay.proofs.Counting.{counts_none}
 
 -- run j of simulators that are stepped together

@@ -1,6 +1,6 @@
 -- The document of a schedule file: what it says, or its first fault.
-use Rattle.std.specs.Prelude.{ℕ, ◌+◌, ℤ, pos, negsuc, Bool, true, false, not, ◌&&◌, ◌||◌, nat_eq, nat_le, nat_lt, List, [], ◌∷◌, ◌++◌, map, replicate, count_by, length, Option, Some, None, Result, Ok, Err, option_and_then, codes, if◌then◌else◌}
-use Rattle.std.specs.List.{list_all, list_any}
+use Rattle.std.specs.Prelude.{ℕ, ℤ, pos, negsuc, Bool, true, false, not, ◌&&◌, ◌||◌, nat_eq, nat_le, nat_lt, List, [], ◌∷◌, map, replicate, count_by, length, take, Option, Some, None, Result, Ok, Err, option_and_then, option_map, codes, if◌then◌else◌}
+use Rattle.std.specs.List.{list_all, list_any, filter_map, range_with_len, zip}
 use Rattle.std.specs.Str.{is_utf8, bytes_eq}
 use Rattle.toml.specs.Data.{Data, Items, no_items, item, Members, no_members, member, get_member, as_array, as_str, as_table, as_integer}
 use Rattle.toml.specs.Parse.{parse_document}
@@ -93,6 +93,7 @@ entry_in ms =
     (option_and_then bit_of_number (natural_at (codes "value") ms))
     else None
 
+-- the upset that a value is, if it is a table of that form
 abbrev pub entry_of : Data → Option Entry
 entry_of d = option_and_then entry_in (as_table d)
 
@@ -108,12 +109,14 @@ struck_named version h name = option_and_then (struck_at version (length h.input
 abbrev pub is_listed : List Upset → ℕ → ℕ → Bool
 is_listed us cycle net = list_any (λ u. nat_eq u.cycle cycle && nat_eq u.net.0 net) us
 
+-- an upset of this net: its cycle is one of the schedule's, and no earlier upset has its cycle and net
 abbrev pub placed : ℕ → ℕ → List Upset → ℕ → Bool → ℕ → Result Upset ScheduleFault
 placed cycles j earlier cycle value net =
     if not (nat_lt cycle cycles) then Err (fault.Range j)
     else if is_listed earlier cycle net then Err (fault.Doubled j)
     else Ok (record { cycle = cycle; net = record { 0 = net }; value = value })
 
+-- the same where the net is known
 abbrev pub known : ℕ → ℕ → List Upset → Entry → Option ℕ → Result Upset ScheduleFault
 known cycles j earlier e None = Err (fault.UnknownNet j)
 known cycles j earlier e (Some net) = placed cycles j earlier e.cycle e.value net
@@ -123,25 +126,50 @@ abbrev pub upset_of : ℕ → Net → ℕ → ℕ → List Upset → Option Entr
 upset_of version h cycles j earlier None = Err (fault.Entry j)
 upset_of version h cycles j earlier (Some e) = known cycles j earlier e (struck_named version h e.net)
 
+-- the first fault, if there is one, else what comes of the value
 abbrev pub and_then : {A B : Type 0} → Result A ScheduleFault → (A → Result B ScheduleFault) → Result B ScheduleFault
 and_then (Ok a) f = f a
 and_then (Err e) f = Err e
 
--- the earlier upsets and those that the entries are, counted from j
-abbrev pub upsets_from : ℕ → Net → ℕ → ℕ → List Upset → List Data → Result (List Upset) ScheduleFault
-upsets_from version h cycles j earlier [] = Ok earlier
-upsets_from version h cycles j earlier (d ∷ ds) =
-    and_then (upset_of version h cycles j earlier (entry_of d)) (λ u. upsets_from version h cycles (j + 1) (earlier ++ u ∷ []) ds)
+-- all the values, or the first fault
+abbrev pub all_or_fault : {A : Type 0} → List (Result A ScheduleFault) → Result (List A) ScheduleFault
+all_or_fault [] = Ok []
+all_or_fault (r ∷ rs) = and_then r (λ a. and_then (all_or_fault rs) (λ more. Ok (a ∷ more)))
 
+-- the entries, each behind its number
+abbrev pub numbered : List Data → List (ℕ × Data)
+numbered ds = zip (range_with_len 0 (length ds)) ds
+
+-- the upset that an entry writes, if it names a net that may be struck
+abbrev pub named_upset : ℕ → Net → Entry → Option Upset
+named_upset version h e = option_map (λ net. record { cycle = e.cycle; net = record { 0 = net }; value = e.value }) (struck_named version h e.net)
+
+-- the upset that a value writes, if it is an entry of such a net
+abbrev pub upset_in : ℕ → Net → Data → Option Upset
+upset_in version h d = option_and_then (named_upset version h) (entry_of d)
+
+-- an entry with its number, after the upsets that the entries before it write
+abbrev pub numbered_upset : ℕ → Net → ℕ → List Data → ℕ × Data → Result Upset ScheduleFault
+numbered_upset version h cycles ds e = upset_of version h cycles e.0 (filter_map (upset_in version h) (take e.0 ds)) (entry_of e.1)
+
+-- the upsets that the entries are, or the fault of the first that is none
+abbrev pub listed_upsets : ℕ → Net → ℕ → List Data → Result (List Upset) ScheduleFault
+listed_upsets version h cycles ds = all_or_fault (map (numbered_upset version h cycles ds) (numbered ds))
+
+-- row t, or the fault that it is none
 abbrev pub row_or_fault : ℕ → Option (List Bool) → Result (List Bool) ScheduleFault
 row_or_fault t None = Err (fault.Row t)
 row_or_fault t (Some row) = Ok row
 
--- the earlier rows and those that the entries are, counted from t
-abbrev pub rows_from : ℕ → ℕ → List (List Bool) → List Data → Result (List (List Bool)) ScheduleFault
-rows_from width t earlier [] = Ok earlier
-rows_from width t earlier (d ∷ ds) = and_then (row_or_fault t (row_of width d)) (λ row. rows_from width (t + 1) (earlier ++ row ∷ []) ds)
+-- a row with its number
+abbrev pub numbered_row : ℕ → ℕ × Data → Result (List Bool) ScheduleFault
+numbered_row width e = row_or_fault e.0 (row_of width e.1)
 
+-- the rows that the entries are, or the fault of the first that is none
+abbrev pub listed_rows : ℕ → List Data → Result (List (List Bool)) ScheduleFault
+listed_rows width ds = all_or_fault (map (numbered_row width) (numbered ds))
+
+-- the start values, or the fault that they are none
 abbrev pub starts_or_fault : Option (List Bool) → Result (List Bool) ScheduleFault
 starts_or_fault None = Err fault.Start
 starts_or_fault (Some starts) = Ok starts
@@ -152,13 +180,15 @@ pub record Listed : Type 0 where
   pub starts : List Bool
   pub upsets : List Upset
 
+-- what the entries say, or the first fault: too many entries, then the start values, the rows and the upsets
 abbrev pub listed : ℕ → Net → Net → Option (List Bool) → List Data → List Data → Result Listed ScheduleFault
 listed version n h starts rows ups =
     if nat_lt 1048576 (length rows) || nat_lt 1048576 (length ups) then Err fault.TooMany
     else and_then (starts_or_fault starts) (λ ss.
-    and_then (rows_from (length n.inputs) 0 [] rows) (λ rs.
-    and_then (upsets_from version h (length rs) 0 [] ups) (λ us. Ok (record { rows = rs; starts = ss; upsets = us }))))
+    and_then (listed_rows (length n.inputs) rows) (λ rs.
+    and_then (listed_upsets version h (length rs) ups) (λ us. Ok (record { rows = rs; starts = ss; upsets = us }))))
 
+-- the same, or the fault that a key holds no array
 abbrev pub arrays_listed : ℕ → Net → Net → Option (List Bool) → Option Items → Option Items → Result Listed ScheduleFault
 arrays_listed version n h starts None ups = Err fault.Top
 arrays_listed version n h starts (Some rows) None = Err fault.Top

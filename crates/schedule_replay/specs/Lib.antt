@@ -4,6 +4,7 @@ pub mod Entries
 pub mod Gives
 pub mod Many
 pub mod Outcome
+pub mod Private
 pub mod OutcomeView
 pub mod Reading
 pub mod Running

@@ -101,10 +101,6 @@ pub record PlainOutcome : Type 0 where
   pub wrong : ℕ
   pub late : ℕ
 
--- one difference more, of which the first 1,000 are kept
-abbrev pub first_more : List Difference → Difference → List Difference
-first_more first d = if nat_lt (length first) 1000 then first ++ d ∷ [] else first
-
 -- the numbers of a list of outputs
 pub record Counts (ds : List Difference) (first : List Difference) (differences wrong : ℕ) : Type 0 where
   pub first_are : first ≡ take 1000 (filter differs ds)
@@ -128,8 +124,3 @@ pub record IsReplayOf (n : Net) (f w : List Bool) (h : Net) (g u : List Bool) (k
 -- the same with the marks that count by the certificate, where the marked registers have the schedule's start values
 abbrev pub IsFreeReplay : Net → List Bool → Net → List Bool → PlainCert → PlainSchedule → PlainOutcome → Type 0
 IsFreeReplay n f h g k s o = IsReplayOf n (counted k f) (given_starts k f s) h (counted k g) (spread_start k (given_starts k f s)) k s o
-
--- the cycle behind the last upset of each partition, up to cycle t, tells whether the partition is quiet
-abbrev pub TellQuiet : PlainCert → List Upset → ℕ → List ℕ → Type 0
-TellQuiet k s t lasts = (p : ℕ) → p < length k.depth
-    → is_quiet k s p t ≡ (nat_eq (slice_index lasts p) 0 || nat_le (slice_index lasts p + depth_of k p) t)

@@ -36,7 +36,7 @@ pub record HasCounted (n h : Net) (k : PlainCert) (us : List Upset) (tr ft : Lis
   pub late : o.late ≡ late_until n k us tr ft t
 
 -- numbers that fit
-pub record IsBounded (t : ℕ) (o : Outcome) : Type 0 where
+pub record CountsFit (t : ℕ) (o : Outcome) : Type 0 where
   pub differences : o.differences ≤ t * 4294967295
   pub wrong : o.wrong ≤ t * 4294967295
   pub late : o.late ≤ t * 12884901885

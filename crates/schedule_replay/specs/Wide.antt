@@ -11,9 +11,10 @@ use Rattle.schedule_replay.specs.declared.outcome.Outcome.{Outcome}
 use Rattle.schedule_replay.specs.declared.wide_rows.Progress.{Progress}
 use Rattle.schedule_replay.specs.declared.wide_comparing.FourWords.{FourWords}
 use Rattle.schedule_replay.specs.declared.wide_running.WideRunning.{WideRunning}
-use Rattle.schedule_replay.specs.Outcome.{Counts, TellQuiet, bits_differ, one_if}
+use Rattle.schedule_replay.specs.Outcome.{Counts, bits_differ, one_if}
 use Rattle.schedule_replay.specs.Schedule.{PlainSchedule}
 use Rattle.schedule_replay.specs.Striking.{IsTaken, AreLatest}
+use Rattle.schedule_replay.specs.Private.Telling.{TellQuiet}
 
 -- a run has taken its upsets before cycle t
 pub record HasTaken (k : PlainCert) (us : List Upset) (t : ℕ) (p : Progress) : Type 0 where

@@ -5,7 +5,8 @@ ghost use Rattle.flat_net.specs.Net.{net_count};
 ghost use Rattle.net_meaning.specs.Meaning.{row_at};
 ghost use Rattle.certificate.specs.Cert.{Fits, part_of};
 ghost use Rattle.schedule_replay.specs.declared.outcome.Difference.{Difference};
-ghost use Rattle.schedule_replay.specs.Outcome.{Counts, output_at, outputs_in, late_at, late_in, TellQuiet};
+ghost use Rattle.schedule_replay.specs.Outcome.{Counts, output_at, outputs_in, late_at, late_in};
+ghost use Rattle.schedule_replay.specs.Private.Telling.{TellQuiet};
 
 use crate::Difference;
 use crate::outcome::{Outcome, note};

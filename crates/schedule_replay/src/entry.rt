@@ -3,8 +3,8 @@ ghost use Rattle.std.specs.Prelude.{◌≡◌, ◌<◌, ◌≤◌, IfOk, IfSome,
 ghost use Rattle.toml.specs.View.{view, table_view};
 ghost use Rattle.flat_net.specs.Nodes.{number_of};
 ghost use Rattle.schedule_replay.specs.Document.{entry_of, entry_in as entry_in_of, struck_named};
-ghost use Rattle.schedule_replay.specs.Entries.{plain_entry};
-ghost use Rattle.schedule_replay.specs.Reading.{CanBeStruck};
+ghost use Rattle.schedule_replay.specs.Private.Entries.{plain_entry};
+ghost use Rattle.schedule_replay.specs.Private.Reading.{CanBeStruck};
 
 use crate::document::{bit_at, has_upset_keys, number_at, text_at};
 use flat_net::FlatNet;

@@ -1,7 +1,8 @@
 //! What a replay finds.
 ghost use Rattle.std.specs.Prelude.{◌≡◌, ◌++◌, ◌∷◌, [], ◌+◌, ◌<◌, ◌≤◌, ℕ, List, OnOk, count_by, length};
-ghost use Rattle.schedule_replay.specs.Outcome.{Counts, bits_differ, first_more, count_wrong as count_wrong_of};
+ghost use Rattle.schedule_replay.specs.Outcome.{Counts, bits_differ, count_wrong as count_wrong_of};
 ghost use Rattle.schedule_replay.specs.declared.outcome.Difference.{Difference};
+ghost use Rattle.schedule_replay.specs.Private.Telling.{first_more};
 
 use std::alloc::Global;
 use tmr_base::OutOfMemory;

@@ -5,13 +5,14 @@ ghost use Rattle.net_meaning.specs.Meaning.{upset_at};
 ghost use Rattle.tmr_base.specs.declared.ids.Upset.{Upset};
 ghost use Rattle.flat_net.specs.Net.{net_count};
 ghost use Rattle.certificate.specs.Cert.{Fits};
-ghost use Rattle.schedule_replay.specs.Document.{document, rows_from, row_or_fault, row_of, upset_of, upsets_from, entry_of, listed, sched_of, starts_of, starts_or_fault, document_listed};
-ghost use Rattle.schedule_replay.specs.Entries.{Holds, place_cmp, upset_of_entry};
+ghost use Rattle.schedule_replay.specs.Document.{document, listed_rows, listed_upsets, row_or_fault, row_of, upset_of, entry_of, listed, sched_of, starts_of, starts_or_fault, document_listed};
 ghost use Rattle.std.specs.Map.{keys_of};
 ghost use Rattle.std.specs.List.Sorted.{IsStrictlySortedBy};
 ghost use Rattle.std.specs.BTreeMap as tree;
 ghost use Rattle.schedule_replay.specs.Gives.{Gives, Fails};
-ghost use Rattle.schedule_replay.specs.Reading.{PushesRow, ListsUpsets, IsReadAs, IsNodeOf, CanBeStruck};
+ghost use Rattle.schedule_replay.specs.Reading.{IsReadAs, IsNodeOf};
+ghost use Rattle.schedule_replay.specs.Private.Reading.{PushesRow, ListsUpsets, CanBeStruck};
+ghost use Rattle.schedule_replay.specs.Private.Entries.{Holds, place_cmp, upset_of_entry};
 
 use crate::document::{has_file_keys, inputs, read_document, read_row, read_starts, upsets};
 use crate::entry::{find_net, read_entry};
@@ -47,6 +48,7 @@ fn push_row(
 }
 
 /// Adds all rows.
+#[tactic(auto, using(crate::proofs::Steps::rows_are_listed))]
 fn read_rows(
     alloc: Global,
     rows: &[Value],
@@ -56,7 +58,7 @@ fn read_rows(
     requires inputs { s.old.inputs ≡ width }
     requires none { s.old.rows ≡ [] }
     requires few { length rows.now ≤ 1048576 }
-    ensures rows { Gives (λ _. s.new.rows) result (rows_from width 0 [] (map view rows.now)) }
+    ensures rows { Gives (λ _. s.new.rows) result (listed_rows width (map view rows.now)) }
     ensures inputs { OnOk result (s.new.inputs ≡ width) }
     ensures upsets { OnOk result (s.new.upsets ≡ s.old.upsets) }
     ensures starts { OnOk result (s.new.starts ≡ s.old.starts) }
@@ -111,6 +113,7 @@ fn read_upset(
 }
 
 /// The upsets by cycle and net.
+#[tactic(auto, using(crate::proofs::Steps::upsets_are_listed))]
 fn read_upsets(
     alloc: Global,
     version: u8,
@@ -120,7 +123,7 @@ fn read_upsets(
 ) -> Result<BTreeMap<(u32, u32), bool>, ScheduleFault>
     requires { length entries.now ≤ 1048576 }
     ensures ok { IfOk result (λ m. ListsUpsets version h.now.net cycles (map view entries.now) m) }
-    ensures err { IfErr result (λ f. Fails f (upsets_from version h.now.net cycles 0 [] (map view entries.now))) }
+    ensures err { IfErr result (λ f. Fails f (listed_upsets version h.now.net cycles (map view entries.now))) }
 {
     let mut seen = BTreeMap::new(alloc);
     for j in 0..entries.len() {

@@ -7,7 +7,7 @@ ghost use Rattle.validator.specs.Masking.{Masks, FreeMasks};
 ghost use Rattle.schedule_replay.specs.Outcome.{IsReplayOf, IsFreeReplay};
 ghost use Rattle.schedule_replay.specs.Reading.{IsNodeOf};
 ghost use Rattle.schedule_replay.specs.OutcomeView.{plain_outcome};
-ghost use Rattle.schedule_replay.specs.Running.{IsReady, HasRun, HasCounted, IsBounded};
+ghost use Rattle.schedule_replay.specs.Running.{IsReady, HasRun, HasCounted, CountsFit};
 ghost use Rattle.schedule_replay.specs.Starts.{MarksRegisters, AreStarts};
 
 use crate::comparing::{compare_nodes, compare_outputs};
@@ -37,13 +37,13 @@ fn count_cycle(
     requires nets { All (λ u. u.net.0 < net_count h.now.net) s.now.upsets }
     requires t { t < length s.now.rows }
     requires ready { IsReady n.now.net h.now.net c.now s.now.upsets t r.old }
-    requires bounded { IsBounded t o.old }
+    requires bounded { CountsFit t o.old }
     ensures ready { OnOk result (IsReady n.now.net h.now.net c.now s.now.upsets (t + 1) r.new) }
     ensures ran { OnOk result ((f w g u : List Bool) (tr ft : List (List Bool)) → MarksRegisters n.now.net f → MarksRegisters h.now.net g → IsFreeTrace n.now.net f w s.now.rows tr → IsFreeFaultTrace h.now.net g u (spread s.now.rows) s.now.upsets ft →
         HasRun n.now.net f w h.now.net g u tr ft t r.old → HasRun n.now.net f w h.now.net g u tr ft (t + 1) r.new) }
     ensures counted { OnOk result ((f w g u : List Bool) (tr ft : List (List Bool)) → HasRun n.now.net f w h.now.net g u tr ft (t + 1) r.new →
         HasCounted n.now.net h.now.net c.now s.now.upsets tr ft t o.old → HasCounted n.now.net h.now.net c.now s.now.upsets tr ft (t + 1) o.new) }
-    ensures bounded { OnOk result (IsBounded (t + 1) o.new) }
+    ensures bounded { OnOk result (CountsFit (t + 1) o.new) }
     ensures allowed { OnOk result (o.new.allowed ≡ o.old.allowed) }
 {
     let _known = (s.cycles(), n.input_count());

@@ -3,9 +3,9 @@ ghost use Rattle.std.specs.Prelude.{◌≡◌, ◌+◌, ◌*◌, ◌<◌, ◌≤
 ghost use Rattle.flat_net.specs.Net.{net_count};
 ghost use Rattle.certificate.specs.Cert.{Fits};
 ghost use Rattle.net_meaning.specs.Meaning.{IsFreeTrace, IsFreeFaultTrace, spread};
-ghost use Rattle.schedule_replay.specs.Outcome.{TellQuiet};
 ghost use Rattle.schedule_replay.specs.Running.{IsReady, HasRun};
 ghost use Rattle.schedule_replay.specs.Starts.{MarksRegisters};
+ghost use Rattle.schedule_replay.specs.Private.Telling.{TellQuiet};
 
 use crate::Schedule;
 use crate::rows::{add_starts, take_upsets, write_row};

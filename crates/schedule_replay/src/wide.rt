@@ -8,7 +8,7 @@ ghost use Rattle.validator.specs.Masking.{Masks};
 ghost use Rattle.schedule_replay.specs.declared.outcome.Outcome.{Outcome as AnOutcome};
 ghost use Rattle.schedule_replay.specs.Many.{HaveOneLength, AreReplaysOf};
 ghost use Rattle.schedule_replay.specs.Reading.{IsNodeOf};
-ghost use Rattle.schedule_replay.specs.Running.{HasCounted, IsBounded};
+ghost use Rattle.schedule_replay.specs.Running.{HasCounted, CountsFit};
 ghost use Rattle.schedule_replay.specs.Schedule.{PlainSchedule, IsPlainSchedule};
 ghost use Rattle.schedule_replay.specs.Wide.{HaveTaken, IsWideReady, HasRunWide, HasBegun, HaveBegun, IsFresh};
 
@@ -45,11 +45,11 @@ fn count_cycle_wide(
     requires ready { IsWideReady n.now.net h.now.net r.old }
     requires taken { HaveTaken c.now list.now t runs.old.items }
     requires long { length o.old.items ≡ length list.now }
-    requires bounded { All (λ a. IsBounded t a) o.old.items }
+    requires bounded { All (λ a. CountsFit t a) o.old.items }
     ensures ready { OnOk result (IsWideReady n.now.net h.now.net r.new) }
     ensures taken { OnOk result (HaveTaken c.now list.now (t + 1) runs.new.items) }
     ensures long { OnOk result (length o.new.items ≡ length list.now) }
-    ensures bounded { OnOk result (All (λ a. IsBounded (t + 1) a) o.new.items) }
+    ensures bounded { OnOk result (All (λ a. CountsFit (t + 1) a) o.new.items) }
     ensures counted { OnOk result ((j : ℕ) (s : PlainSchedule) (a b : AnOutcome) (tr ft : List (List Bool)) → slice_get list.now j ≡ Some s → slice_get o.old.items j ≡ Some a → slice_get o.new.items j ≡ Some b →
         IsFreeTrace n.now.net [] [] s.rows tr → IsFreeFaultTrace h.now.net [] [] (spread s.rows) s.upsets ft →
         HasRunWide tr ft t j r.old → HasCounted n.now.net h.now.net c.now s.upsets tr ft t a →

@@ -3,9 +3,9 @@ ghost use Rattle.std.specs.Prelude.{◌≡◌, ◌≢◌, ◌+◌, ◌*◌, ◌/
 ghost use Rattle.table_cover.specs.Words.{word_bit, bits_of};
 ghost use Rattle.net_meaning.specs.Meaning.{row_at, spread_row, value_at, upset_at};
 ghost use Rattle.net_simulator.specs.Cycle.{forced_to, forced_in};
-ghost use Rattle.schedule_replay.specs.Outcome.{TellQuiet};
 ghost use Rattle.schedule_replay.specs.Schedule.{PlainSchedule};
 ghost use Rattle.schedule_replay.specs.Wide.{HasTaken, HaveTaken, AreToldQuiet};
+ghost use Rattle.schedule_replay.specs.Private.Telling.{TellQuiet};
 
 use crate::Schedule;
 use crate::rows::take_upsets;

@@ -22,7 +22,7 @@ use Rattle.schedule_replay.proofs.Quiet.{three_outputs}
 use Rattle.schedule_replay.proofs.Unharmed.{plain_unharmed}
 use Rattle.tmr_outside.specs.Contents.{Contents}
 use Rattle.tmr_trial.specs.Designs.{design_of}
-use Rattle.tmr_trial.specs.Schedules.{IsScheduleOf}
+use Rattle.tmr_trial.specs.Schedules.{IsDrawnSchedule}
 use Rattle.tmr_trial.proofs.NodeLaws.{pins_few}
 use Rattle.tmr_trial.proofs.Valid.{count_is}
 use Rattle.tmr_top.specs.declared.decision.Work.{Work}
@@ -64,7 +64,7 @@ pub ruleset checks = (form_fits, form_version, none_fails)
 
 -- ---- the schedules
 
-pub cycles_drawn : (number : ℕ) (n h : Net) (k : PlainCert) (cycles : ℕ) (s : PlainSchedule) → IsScheduleOf number n h k cycles s → length s.rows ≡ cycles
+pub cycles_drawn : (number : ℕ) (n h : Net) (k : PlainCert) (cycles : ℕ) (s : PlainSchedule) → IsDrawnSchedule number n h k cycles s → length s.rows ≡ cycles
 cycles_drawn number n h k cycles s is = ap length is.rows ∙ length-map-range_with_len _ 0 cycles
 
 runnable_at : (n h : Net) (k : PlainCert) (list : List PlainSchedule) → All (λ s. IsRunnable n h k s) list → (j : ℕ) (s : PlainSchedule) → slice_get list j ≡ Some s → IsRunnable n h k s
@@ -80,16 +80,16 @@ one_length n h k list all i j s r at there = cycles i s at ∙ sym (cycles j r t
 
 -- one schedule more
 pub drawn_more : (number : ℕ) (n h : Net) (k : PlainCert) (old new : List PlainSchedule) (s : PlainSchedule) (i next : ℕ)
-    → ((j : ℕ) (r : PlainSchedule) → slice_get old j ≡ Some r → IsScheduleOf ((number + (j + 1)) % 2 ^ 64) n h k 64 r)
-    → length old ≡ i → new ≡ old ++ s ∷ [] → next ≡ (number + (i + 1)) % 2 ^ 64 → IsScheduleOf next n h k 64 s
-    → (j : ℕ) (r : PlainSchedule) → slice_get new j ≡ Some r → IsScheduleOf ((number + (j + 1)) % 2 ^ 64) n h k 64 r
+    → ((j : ℕ) (r : PlainSchedule) → slice_get old j ≡ Some r → IsDrawnSchedule ((number + (j + 1)) % 2 ^ 64) n h k 64 r)
+    → length old ≡ i → new ≡ old ++ s ∷ [] → next ≡ (number + (i + 1)) % 2 ^ 64 → IsDrawnSchedule next n h k 64 s
+    → (j : ℕ) (r : PlainSchedule) → slice_get new j ≡ Some r → IsDrawnSchedule ((number + (j + 1)) % 2 ^ 64) n h k 64 r
 drawn_more number n h k old new s i next before long pushed is drawn j r there = go (append_cases old s r j (subst (λ (ss : List PlainSchedule). slice_get ss j ≡ Some r) pushed there))
   where
-    go : (slice_get old j ≡ Some r) ⊎ ((j ≡ length old) × (r ≡ s)) → IsScheduleOf ((number + (j + 1)) % 2 ^ 64) n h k 64 r
+    go : (slice_get old j ≡ Some r) ⊎ ((j ≡ length old) × (r ≡ s)) → IsDrawnSchedule ((number + (j + 1)) % 2 ^ 64) n h k 64 r
     go (inl earlier) = before j r earlier
     go (inr (last, same)) =
         let number_is : next ≡ (number + (j + 1)) % 2 ^ 64 = is ∙ ap (λ (m : ℕ). (number + (m + 1)) % 2 ^ 64) (sym (last ∙ long)) in
-        subst (λ (q : PlainSchedule). IsScheduleOf ((number + (j + 1)) % 2 ^ 64) n h k 64 q) (sym same) (subst (λ (m : ℕ). IsScheduleOf m n h k 64 s) number_is drawn)
+        subst (λ (q : PlainSchedule). IsDrawnSchedule ((number + (j + 1)) % 2 ^ 64) n h k 64 q) (sym same) (subst (λ (m : ℕ). IsDrawnSchedule m n h k 64 s) number_is drawn)
 
 -- ---- the outcomes
 
@@ -136,7 +136,7 @@ calm_at outcomes j o all within is = subst (λ (x : Outcome). IsCalm x) (sym is)
 -- ---- the work
 
 pub summed : (number : ℕ) (n h : Net) (k : PlainCert) (list : List PlainSchedule) (outcomes : List Outcome) (sums : RunSums) → length list ≡ 64
-    → ((j : ℕ) (s : PlainSchedule) → slice_get list j ≡ Some s → IsScheduleOf ((number + (j + 1)) % 2 ^ 64) n h k 64 s) → AreReplaysOf n h k list outcomes
+    → ((j : ℕ) (s : PlainSchedule) → slice_get list j ≡ Some s → IsDrawnSchedule ((number + (j + 1)) % 2 ^ 64) n h k 64 s) → AreReplaysOf n h k list outcomes
     → sums.upsets ≡ sum_by (λ s. length s.upsets) list → sums.differences ≡ sum_by (λ o. o.differences) outcomes → sums.wrong ≡ sum_by (λ o. o.wrong) outcomes → sums.late ≡ sum_by (λ o. o.late) outcomes
     → sums.wrong ≡ 0 → sums.late ≡ 0 → AreSums number n h k sums
 summed number n h k list outcomes sums many drawn replays upsets differences wrong late none_wrong none_late = record {

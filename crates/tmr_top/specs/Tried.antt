@@ -8,7 +8,7 @@ use Rattle.schedule_replay.specs.declared.outcome.Outcome.{Outcome}
 use Rattle.schedule_replay.specs.Schedule.{PlainSchedule}
 use Rattle.schedule_replay.specs.Many.{AreReplaysOf}
 use Rattle.tmr_trial.specs.Designs.{design_of}
-use Rattle.tmr_trial.specs.Schedules.{IsScheduleOf}
+use Rattle.tmr_trial.specs.Schedules.{IsDrawnSchedule}
 use Rattle.tmr_top.specs.declared.decision.Verdict.{Verdict}
 use Rattle.tmr_top.specs.declared.decision.Verdict.TheVariants.{Done, NotAccepted, Refused}
 use Rattle.tmr_top.specs.declared.form_text.FormNumbers.{FormNumbers}
@@ -22,7 +22,7 @@ use Rattle.tmr_top.specs.Trials.{Trial}
 pub record AreSums (number : ℕ) (n h : Net) (k : PlainCert) (sums : RunSums) : Type 0 where
   pub schedules : List PlainSchedule
   pub many : length schedules ≡ 64
-  pub drawn : (j : ℕ) (s : PlainSchedule) → slice_get schedules j ≡ Some s → IsScheduleOf ((number + (j + 1)) % 2 ^ 64) n h k 64 s
+  pub drawn : (j : ℕ) (s : PlainSchedule) → slice_get schedules j ≡ Some s → IsDrawnSchedule ((number + (j + 1)) % 2 ^ 64) n h k 64 s
   pub outcomes : List Outcome
   pub replays : AreReplaysOf n h k schedules outcomes
   pub upsets : sums.upsets ≡ sum_by (λ s. length s.upsets) schedules

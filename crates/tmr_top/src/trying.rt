@@ -5,7 +5,7 @@ ghost use Rattle.schedule_replay.specs.Many.{AreReplaysOf};
 ghost use Rattle.schedule_replay.specs.Schedule.{PlainSchedule};
 ghost use Rattle.tmr_outside.specs.Contents.{Contents};
 ghost use Rattle.tmr_trial.specs.Designs.{design_of};
-ghost use Rattle.tmr_trial.specs.Schedules.{IsScheduleOf};
+ghost use Rattle.tmr_trial.specs.Schedules.{IsDrawnSchedule};
 ghost use Rattle.triplicate.specs.Result.{IsHardened};
 ghost use Rattle.validator.specs.Masking.{Masks};
 ghost use Rattle.tmr_top.specs.FormText.{form_numbers};
@@ -76,7 +76,7 @@ fn draw_schedule(
     c: &Certificate,
 ) -> Result<Schedule, OutOfMemory>
     requires { Fits n.now.net h.now.net c.now }
-    ensures drawn { IfOk result (λ s. IsScheduleOf number n.now.net h.now.net c.now 64 s) }
+    ensures drawn { IfOk result (λ s. IsDrawnSchedule number n.now.net h.now.net c.now 64 s) }
     ensures runnable { IfOk result (λ s. IsRunnable n.now.net h.now.net c.now s) }
 {
     let s = schedule(alloc, number, n, h, c, 64)?;
@@ -96,7 +96,7 @@ fn draw_schedules(
     requires { Fits n.now.net h.now.net c.now }
     ensures many { IfOk result (λ list. length list.items ≡ 64) }
     ensures drawn { IfOk result (λ list. (j : ℕ) (s : PlainSchedule) → slice_get list.items j ≡ Some s
-        → IsScheduleOf ((number + (j + 1)) % 2 ^ 64) n.now.net h.now.net c.now 64 s) }
+        → IsDrawnSchedule ((number + (j + 1)) % 2 ^ 64) n.now.net h.now.net c.now 64 s) }
     ensures runnable { IfOk result (λ list. All (λ s. IsRunnable n.now.net h.now.net c.now s) list.items) }
 {
     let mut list = Vec::new(alloc);

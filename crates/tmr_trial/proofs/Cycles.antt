@@ -13,7 +13,7 @@ use Rattle.certificate.specs.Schedules.{Allowed}
 use Rattle.schedule_replay.specs.Schedule.{PlainSchedule}
 use Rattle.tmr_trial.specs.declared.strikes.Strike.{Strike}
 use Rattle.tmr_trial.specs.Numbers.{next_state, state_after, drawn, draw}
-use Rattle.tmr_trial.specs.Schedules.{cycle_draws, state_before, row_drawn, upset_drawn, IsAdded, AreAdded, IsScheduleOf}
+use Rattle.tmr_trial.specs.Schedules.{cycle_draws, state_before, row_drawn, upset_drawn, IsAdded, AreAdded, IsDrawnSchedule}
 use Rattle.tmr_trial.specs.Strikes.{AreStrikes}
 use Rattle.tmr_trial.specs.Drawing.{IsOfNode, HasDrawn, IsNext}
 

@@ -6,7 +6,7 @@ use Rattle.certificate.specs.Cert.{PlainCert}
 use Rattle.certificate.specs.Schedules.{Allowed}
 use Rattle.schedule_replay.specs.Schedule.{PlainSchedule}
 use Rattle.tmr_trial.specs.declared.strikes.Strike.{Strike}
-use Rattle.tmr_trial.specs.Schedules.{IsScheduleOf, state_before}
+use Rattle.tmr_trial.specs.Schedules.{IsDrawnSchedule, state_before}
 use Rattle.tmr_trial.specs.Strikes.{AreStrikes}
 
 -- the upset is of a hardened node
@@ -16,7 +16,7 @@ IsOfNode k u = (k.hardened_inputs ≤ u.net.0) × (u.net.0 < k.hardened_inputs +
 -- t cycles are drawn
 pub record HasDrawn (number : ℕ) (n h : Net) (k : PlainCert) (t state : ℕ) (strikes : List (Option Strike)) (s : PlainSchedule) : Type 0 where
   pub state_is : state ≡ state_before n h number t
-  pub schedule : IsScheduleOf number n h k t s
+  pub schedule : IsDrawnSchedule number n h k t s
   pub long : length s.rows ≡ t
   pub allowed : Allowed s.upsets k
   pub earlier : All (λ u. u.cycle < t) s.upsets

@@ -44,7 +44,7 @@ AreAdded n h k number (suc t) us =
     (before : List Upset) × AreAdded n h k number t before × IsAdded k before (upset_drawn n h t (state_before n h number t)) us
 
 -- the schedule of so many cycles that is drawn from this number
-pub record IsScheduleOf (number : ℕ) (n h : Net) (k : PlainCert) (cycles : ℕ) (s : PlainSchedule) : Type 0 where
+pub record IsDrawnSchedule (number : ℕ) (n h : Net) (k : PlainCert) (cycles : ℕ) (s : PlainSchedule) : Type 0 where
   pub inputs : s.inputs ≡ length n.inputs
   pub starts : s.starts ≡ []
   pub rows : s.rows ≡ map (λ t. row_drawn (length n.inputs) (state_before n h number t)) (range_with_len 0 cycles)

@@ -3,7 +3,7 @@ ghost use Rattle.std.specs.Prelude.{◌≡◌, ◌==◌, ◌+◌, ◌<◌, ◌�
 ghost use Rattle.certificate.specs.Cert.{Fits};
 ghost use Rattle.certificate.specs.Schedules.{Allowed};
 ghost use Rattle.tmr_trial.specs.Numbers.{state_after, draw};
-ghost use Rattle.tmr_trial.specs.Schedules.{row_drawn, IsAdded, IsScheduleOf};
+ghost use Rattle.tmr_trial.specs.Schedules.{row_drawn, IsAdded, IsDrawnSchedule};
 ghost use Rattle.tmr_trial.specs.Strikes.{AreStrikes};
 ghost use Rattle.tmr_trial.specs.Drawing.{HasDrawn, IsNext};
 
@@ -117,7 +117,7 @@ pub fn schedule(
     requires fits { Fits n.now.net h.now.net c.now }
     requires few { cycles ≤ 1048576 }
     // The schedule that the number gives.
-    ensures exact { IfOk result (λ s. IsScheduleOf number n.now.net h.now.net c.now cycles s) }
+    ensures exact { IfOk result (λ s. IsDrawnSchedule number n.now.net h.now.net c.now cycles s) }
     // The certificate allows it.
     ensures allowed { IfOk result (λ s. Allowed s.upsets c.now) }
     // Its upsets are of hardened nodes.

@@ -1,7 +1,8 @@
 use Rattle.std.proofs.Common.{◌≡◌, ◌*◌, ◌≤◌, List, Bool, Some}
 use Rattle.tmr_base.specs.declared.ids.Upset.{Upset}
 use Rattle.net_meaning.specs.Meaning.{row_at}
-use Rattle.schedule_replay.specs.Outcome.{late_in, TellQuiet}
+use Rattle.schedule_replay.specs.Outcome.{late_in}
+use Rattle.schedule_replay.specs.Private.Telling.{TellQuiet}
 use Rattle.schedule_replay.proofs.comparing.compare_nodes.Given as goal
 
 abbrev pub invariant-loop-i : goal.invariant-loop-i

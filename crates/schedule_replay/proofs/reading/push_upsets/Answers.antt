@@ -1,7 +1,7 @@
 use Rattle.std.proofs.Common.{◌<◌, ◌-◌, length, slice_get, get_or, sym, subst, false}
 use Rattle.std.specs.Prelude.{IfSome}
-use Rattle.schedule_replay.specs.Entries.{upset_of_entry}
 use Rattle.schedule_replay.specs.Schedule.{PlainSchedule, IsBefore}
+use Rattle.schedule_replay.specs.Private.Entries.{upset_of_entry}
 use Rattle.schedule_replay.proofs.Places.{cycle_in_range, entry_in_order}
 use Rattle.schedule_replay.proofs.reading.push_upsets.Goals as goal
 

@@ -4,8 +4,8 @@ use Rattle.std.specs.Map.{keys_of}
 use Rattle.std.proofs.lemmas.List.{length-map}
 use Rattle.toml.specs.View.{view, table_view}
 use Rattle.schedule_replay.specs.Schedule.{PlainSchedule}
-use Rattle.schedule_replay.specs.Document.{rows_from, starts_of, starts_or_fault}
-use Rattle.schedule_replay.specs.Reading.{ListsUpsets, CanBeStruck}
+use Rattle.schedule_replay.specs.Document.{listed_rows, starts_of, starts_or_fault}
+use Rattle.schedule_replay.specs.Private.Reading.{ListsUpsets, CanBeStruck}
 use Rattle.schedule_replay.proofs.Places.{upsets_nets}
 use Rattle.schedule_replay.proofs.Listing.{all_read}
 use Rattle.schedule_replay.proofs.reading.read_arrays.Goals as goal
@@ -23,7 +23,7 @@ returns-in-Ok-push_upsets-clause-ok c =
     (omega (arith, length-map c.args.rows.now view)) (omega (arith, length-map c.args.upsets.now view))
     c.in-Ok-read_upsets.map c.deref.result.now s c.push_upsets.new.s
     (subst (λ (bits : List Bool). starts_or_fault (starts_of c.args.count (table_view c.args.top.now)) ≡ Ok bits) (sym c.in-Ok-read_rows.ensures.starts) c.in-Ok.ensures.starts)
-    (subst (λ (w : ℕ). rows_from w 0 [] (map view c.args.rows.now) ≡ Ok s.rows) c.input_count-inputs.ensures.count c.in-Ok-read_rows.ensures.rows)
+    (subst (λ (w : ℕ). listed_rows w (map view c.args.rows.now) ≡ Ok s.rows) c.input_count-inputs.ensures.count c.in-Ok-read_rows.ensures.rows)
     (subst (λ (k : ℕ). ListsUpsets c.args.version c.args.h.now.net k (map view c.args.upsets.now) c.in-Ok-read_upsets.map) c.cycles.ensures.count c.in-Ok-read_upsets.ensures.ok)
     (c.deref.ensures.value ∙ c.in-Ok-entries_of.ensures) (c.in-Ok-read_rows.ensures.inputs ∙ c.input_count-inputs.ensures.count) c.in-Ok-push_upsets.ensures c.cycles-cycles.ensures.plain
 

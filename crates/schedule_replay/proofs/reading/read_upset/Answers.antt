@@ -1,6 +1,6 @@
 use Rattle.std.proofs.Common.{◌≡◌, ◌<◌, ◌∙◌, Some, sym, arith}
 use Rattle.schedule_replay.specs.Document.{struck_named}
-use Rattle.schedule_replay.specs.Entries.{plain_entry}
+use Rattle.schedule_replay.specs.Private.Entries.{plain_entry}
 use Rattle.schedule_replay.proofs.Places.{doubled, fresh}
 use Rattle.schedule_replay.proofs.reading.read_upset.Goals as goal
 

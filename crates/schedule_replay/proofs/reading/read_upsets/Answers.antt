@@ -7,8 +7,8 @@ use Rattle.toml.specs.View.{view}
 use Rattle.toml.specs.declared.value.Value.{Value}
 use Rattle.tmr_base.specs.declared.ids.Upset.{Upset}
 use Rattle.schedule_replay.specs.Document.{upset_of, entry_of}
-use Rattle.schedule_replay.specs.Entries.{place_cmp}
-use Rattle.schedule_replay.specs.Reading.{CanBeStruck}
+use Rattle.schedule_replay.specs.Private.Entries.{place_cmp}
+use Rattle.schedule_replay.specs.Private.Reading.{CanBeStruck}
 use Rattle.schedule_replay.proofs.Places.{upsets_step, holds_more}
 use Rattle.schedule_replay.proofs.Members.{distinct_more}
 use Rattle.schedule_replay.proofs.reading.read_upsets.Goals as goal

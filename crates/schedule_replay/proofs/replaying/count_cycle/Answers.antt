@@ -1,7 +1,8 @@
 use Rattle.std.proofs.Common.{◌≡◌, ◌∙◌, ℕ, suc, ◌+◌, List, sym, ap, subst, arith}
 use Rattle.tmr_base.specs.declared.ids.Upset.{Upset}
 use Rattle.net_simulator.proofs.OneCycle.{before_cycle}
-use Rattle.schedule_replay.specs.Outcome.{outputs_until, late_until, TellQuiet}
+use Rattle.schedule_replay.specs.Outcome.{outputs_until, late_until}
+use Rattle.schedule_replay.specs.Private.Telling.{TellQuiet}
 use Rattle.schedule_replay.proofs.replaying.count_cycle.Goals as goal
 
 pub returns-clause-counted : goal.returns-clause-counted

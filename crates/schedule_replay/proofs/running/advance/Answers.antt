@@ -5,10 +5,10 @@ use Rattle.tmr_base.specs.declared.ids.Upset.{Upset}
 use Rattle.net_meaning.specs.Meaning.{spread, spread_row, row_at}
 use Rattle.net_meaning.proofs.Lists.{row_at-spread}
 use Rattle.net_simulator.specs.Cycle.{forced_to}
-use Rattle.schedule_replay.specs.Outcome.{TellQuiet}
 use Rattle.schedule_replay.proofs.Quiet.{tell_quiet}
 use Rattle.schedule_replay.proofs.Starting.{step_row, both_forced, no_more_starts}
 use Rattle.schedule_replay.proofs.running.advance.Goals as goal
+use Rattle.schedule_replay.specs.Private.Telling.{TellQuiet}
 
 pub returns-clause-ran : goal.returns-clause-ran
 returns-clause-ran c = λ f w g u tr ft mf mg is_tr is_ft before.

@@ -5,7 +5,7 @@ use Rattle.flat_net.proofs.Slots.{slice_get_there}
 use Rattle.net_simulator.proofs.OneCycle.{before_cycle}
 use Rattle.schedule_replay.specs.declared.outcome.Outcome.{Outcome}
 use Rattle.schedule_replay.specs.declared.wide_rows.Progress.{Progress}
-use Rattle.schedule_replay.specs.Running.{IsBounded}
+use Rattle.schedule_replay.specs.Running.{CountsFit}
 use Rattle.schedule_replay.proofs.Turns.{at_place}
 use Rattle.schedule_replay.proofs.WideLaws.{cycle_counted, cycle_bounded}
 use Rattle.schedule_replay.proofs.wide.count_cycle_wide.Goals as goal
@@ -33,7 +33,7 @@ compare_nodes_wide-requires-clause-late c = λ j d l.
     let at_m : slice_get c.compare_outputs_wide.new.o.items j ≡ Some m = slice_get-get_or c.compare_outputs_wide.new.o.items j d l in
     let (a, at_a) = slice_get_there c.args.o.now.items j (let long = c.in_ok-compare_outputs_wide.ensures.long in omega arith) in
     let same = (c.in_ok-compare_outputs_wide.ensures.bounded j a m at_a at_m).late in
-    let is : a.late ≤ c.args.t * 12884901885 = (at_place (λ a. IsBounded c.args.t a) c.args.o.now.items j a c.requires.bounded at_a).late in
+    let is : a.late ≤ c.args.t * 12884901885 = (at_place (λ a. CountsFit c.args.t a) c.args.o.now.items j a c.requires.bounded at_a).late in
     let limit = c.requires.limit in
     omega arith
 
@@ -44,7 +44,7 @@ returns-clause-bounded c = λ j d l.
     let (m, at_m) = slice_get_there c.compare_outputs_wide.new.o.items j (let long = c.compare_nodes_wide.ensures.long in omega arith) in
     let (a, at_a) = slice_get_there c.args.o.now.items j (let long = c.compare_nodes_wide.ensures.long in let more = c.in_ok-compare_outputs_wide.ensures.long in omega arith) in
     let few : length c.args.n.now.net.nodes ≤ 4294967295 = omega arith in
-    cycle_bounded c.args.t (length c.args.n.now.net.nodes) a m b few (at_place (λ a. IsBounded c.args.t a) c.args.o.now.items j a c.requires.bounded at_a)
+    cycle_bounded c.args.t (length c.args.n.now.net.nodes) a m b few (at_place (λ a. CountsFit c.args.t a) c.args.o.now.items j a c.requires.bounded at_a)
     (c.in_ok-compare_outputs_wide.ensures.bounded j a m at_a at_m) (c.compare_nodes_wide.ensures.same j m b at_m at_b) (c.compare_nodes_wide.ensures.bound j m b at_m at_b)
 
 pub returns-clause-allowed : goal.returns-clause-allowed

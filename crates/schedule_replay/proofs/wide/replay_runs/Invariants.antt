@@ -3,7 +3,7 @@ use Rattle.std.specs.Prelude.{All, IsTrue, ◌↔◌}
 use Rattle.certificate.specs.Schedules.{Allowed}
 use Rattle.net_meaning.specs.Meaning.{IsFreeTrace, IsFreeFaultTrace, spread}
 use Rattle.schedule_replay.specs.declared.outcome.Outcome.{Outcome}
-use Rattle.schedule_replay.specs.Running.{HasCounted, IsBounded}
+use Rattle.schedule_replay.specs.Running.{HasCounted, CountsFit}
 use Rattle.schedule_replay.specs.Schedule.{PlainSchedule}
 use Rattle.schedule_replay.specs.Wide.{HaveTaken, IsWideReady, HasRunWide}
 use Rattle.schedule_replay.proofs.wide.replay_runs.Given as goal
@@ -13,7 +13,7 @@ invariant-loop-t l = record {
   ready : IsWideReady l.n.net l.h.net l.running;
   taken : HaveTaken l.c l.list l.t l.runs.items;
   long : length l.outcomes.items ≡ length l.list;
-  bounded : All (λ a. IsBounded l.t a) l.outcomes.items;
+  bounded : All (λ a. CountsFit l.t a) l.outcomes.items;
   allowed : (j : ℕ) (s : PlainSchedule) (o : Outcome) → slice_get l.list j ≡ Some s → slice_get l.outcomes.items j ≡ Some o → IsTrue o.allowed ↔ Allowed s.upsets l.c;
   counted : (j : ℕ) (s : PlainSchedule) (o : Outcome) (tr ft : List (List Bool)) → slice_get l.list j ≡ Some s → slice_get l.outcomes.items j ≡ Some o →
       IsFreeTrace l.n.net [] [] s.rows tr → IsFreeFaultTrace l.h.net [] [] (spread s.rows) s.upsets ft → HasRunWide tr ft l.t j l.running × HasCounted l.n.net l.h.net l.c s.upsets tr ft l.t o;

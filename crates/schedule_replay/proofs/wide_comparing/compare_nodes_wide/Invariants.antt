@@ -5,7 +5,8 @@ use Rattle.table_cover.specs.Words.{bits_of}
 use Rattle.net_meaning.specs.Meaning.{row_at}
 use Rattle.schedule_replay.specs.declared.outcome.Outcome.{Outcome}
 use Rattle.schedule_replay.specs.declared.wide_rows.Progress.{Progress}
-use Rattle.schedule_replay.specs.Outcome.{late_in, TellQuiet}
+use Rattle.schedule_replay.specs.Outcome.{late_in}
+use Rattle.schedule_replay.specs.Private.Telling.{TellQuiet}
 use Rattle.schedule_replay.proofs.wide_comparing.compare_nodes_wide.Given as goal
 
 abbrev pub invariant-loop-i : goal.invariant-loop-i

@@ -1,8 +1,8 @@
 use Rattle.std.proofs.Common.{◌≡◌, ℕ, List, length, sym, subst, arith}
 use Rattle.std.proofs.lemmas.List.{with_items_is}
-use Rattle.schedule_replay.specs.Outcome.{TellQuiet}
 use Rattle.schedule_replay.proofs.Quiet.{tell_quiet}
 use Rattle.schedule_replay.proofs.wide_rows.take_run.Goals as goal
+use Rattle.schedule_replay.specs.Private.Telling.{TellQuiet}
 
 pub returns-clause-quiet : goal.returns-clause-quiet
 returns-clause-quiet c =
