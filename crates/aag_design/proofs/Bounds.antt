@@ -23,7 +23,7 @@ use Rattle.aag_text.specs.declared.aig.Gate.{Gate}
 use Rattle.aag_text.specs.Aig.{PlainAig}
 use Rattle.aag_text.specs.Lines.{◌>>=◌, hold, word, is_line_feed, lines_from, lines_of, words_of, literal_of, literal_in, variable_in, input_of, start_of, latch_of, output_of, gate_of, AreOf, IsFile}
 use Rattle.aag_text.proofs.Spelling.{line_cons}
-use Rattle.aag_reader.specs.Faults.{defined}
+use Rattle.aag_text.specs.Variables.{defined}
 use Rattle.aag_design.specs.Draft.{map_from, numbered, aig_elements}
 use Rattle.aag_design.specs.Private.Drafting.{plain_draft, plain_marks}
 use Rattle.aag_design.proofs.Places.{some_is, map_from_first, map_get, length-map_from, node_total, IsPlace, AtZero, AtLatch, AtGate, AtNext, AtOutput, place_of}

@@ -4,10 +4,9 @@ use Rattle.flat_net.specs.Net.{Net, IsOrder, IsValid}
 use Rattle.flat_net.specs.Free.{FreeDesign, AreMarks}
 use Rattle.flat_net.specs.Draft.{PlainDraft, AreDistinct}
 use Rattle.flat_net.specs.Faults.{draft_reads, net_of_draft, IsDrivenOnce, IsCombLoop, IsFaultless}
-use Rattle.aag_text.specs.Aig.{PlainAig}
+use Rattle.aag_text.specs.Aig.{PlainAig, plain_aig}
 use Rattle.aag_design.specs.Draft.{numbered, aig_draft, aig_marks}
-use Rattle.aag_text.specs.Nets.{plain_aig}
-use Rattle.aag_reader.specs.Faults.{defined, IsDefinedOnce, IsDefined}
+use Rattle.aag_text.specs.Variables.{defined, IsDefinedOnce, IsDefined}
 use Rattle.aag_design.specs.Private.Drafting.{plain_draft, plain_marks, number_behind, IsTurnedFrom, IsGraph, IsSound, IsLoopOf}
 use Rattle.aag_design.specs.Loop.{IsLoop, HasNoLoop}
 use Rattle.aag_design.specs.Same.{DoesTheSame}

@@ -14,7 +14,7 @@ use Rattle.flat_net.specs.Faults.{is_among, draft_names, net_of_draft, IsDrivenO
 use Rattle.flat_net.proofs.Going.{taken_split}
 use Rattle.aag_text.specs.declared.aig.Gate.{Gate}
 use Rattle.aag_text.specs.Aig.{PlainAig}
-use Rattle.aag_reader.specs.Faults.{defined, IsDefinedOnce, IsDefined}
+use Rattle.aag_text.specs.Variables.{defined, IsDefinedOnce, IsDefined}
 use Rattle.aag_design.specs.Draft.{map_from, numbered, aig_elements}
 use Rattle.aag_design.specs.Private.Drafting.{plain_draft, plain_marks}
 use Rattle.aag_design.specs.Private.Drafting.{number_behind, IsTurnedFrom, IsSound}

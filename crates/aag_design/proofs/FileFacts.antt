@@ -7,12 +7,11 @@ use Rattle.blif_writer.specs.Text.{free_text}
 use Rattle.flat_net.specs.Free.{FreeDesign, AreMarks}
 use Rattle.flat_net.specs.Draft.{PlainDraft, AreDistinct}
 use Rattle.flat_net.specs.Faults.{draft_reads, net_of_draft, IsDrivenOnce, IsCombLoop, IsFaultless}
-use Rattle.aag_text.specs.Aig.{PlainAig}
+use Rattle.aag_text.specs.Aig.{PlainAig, plain_aig}
 use Rattle.aag_design.specs.Draft.{numbered, aig_draft, aig_marks}
-use Rattle.aag_text.specs.Nets.{plain_aig}
+use Rattle.aag_text.specs.Variables.{defined, IsDefinedOnce, IsDefined}
 use Rattle.aag_text.specs.Lines.{IsFile}
 use Rattle.aag_reader.specs.declared.file.Graph.{Graph}
-use Rattle.aag_reader.specs.Faults.{defined, IsDefinedOnce, IsDefined}
 use Rattle.aag_design.specs.declared.fault.AagFault.{AagFault}
 use Rattle.aag_design.specs.declared.fault.AagFault.TheVariants.{Line, Doubled, Undefined, Loop, TooLarge, Memory}
 use Rattle.aag_design.specs.declared.file.CountedDesign.{CountedDesign}

@@ -14,9 +14,8 @@ use Rattle.flat_net.proofs.ByPlace.{by_place}
 use Rattle.aag_text.specs.declared.aig.Literal.{Literal}
 use Rattle.aag_text.specs.declared.aig.Latch.{Latch}
 use Rattle.aag_text.specs.declared.aig.Gate.{Gate}
-use Rattle.aag_text.specs.Aig.{PlainAig}
-use Rattle.aag_text.specs.Nets.{positive}
-use Rattle.aag_reader.specs.Faults.{IsDefinedOnce, IsDefined}
+use Rattle.aag_text.specs.Aig.{PlainAig, positive}
+use Rattle.aag_text.specs.Variables.{IsDefinedOnce, IsDefined}
 use Rattle.aag_design.specs.Draft.{numbered, net_name}
 use Rattle.aag_design.specs.Private.Drafting.{plain_draft, plain_marks}
 use Rattle.aag_design.specs.Loop.{ReadsGate, IsLoop}
@@ -68,7 +67,7 @@ one_in : (x y : ℕ) → Contains (x ∷ []) y → x ≡ y
 one_in x y (zero, below, is) = is
 one_in x y (suc at, below, is) = absurd (omega arith)
 
-two_in : (u v y : ℕ) → Contains (u ∷ v ∷ []) y → (u ≡ y) ⊎ (v ≡ y)
+pub two_in : (u v y : ℕ) → Contains (u ∷ v ∷ []) y → (u ≡ y) ⊎ (v ≡ y)
 two_in u v y (zero, below, is) = inl is
 two_in u v y (suc zero, below, is) = inr is
 two_in u v y (suc (suc at), below, is) = absurd (omega arith)

@@ -19,9 +19,8 @@ use Rattle.flat_net.proofs.Slots.{slice_get_there}
 use Rattle.aag_text.specs.declared.aig.Literal.{Literal}
 use Rattle.aag_text.specs.declared.aig.Latch.{Latch}
 use Rattle.aag_text.specs.declared.aig.Gate.{Gate}
-use Rattle.aag_text.specs.Aig.{PlainAig}
-use Rattle.aag_text.specs.Nets.{positive}
-use Rattle.aag_reader.specs.Faults.{defined, is_among, read_variables, IsDefinedOnce, IsDefined}
+use Rattle.aag_text.specs.Aig.{PlainAig, positive}
+use Rattle.aag_text.specs.Variables.{defined, is_among, read_variables, IsDefinedOnce, IsDefined}
 use Rattle.aag_design.specs.Draft.{numbered, placed_name, net_name}
 use Rattle.aag_design.specs.Private.Drafting.{plain_draft, plain_marks}
 use Rattle.aag_design.specs.Same.{net_literals}

@@ -14,3 +14,4 @@ pub mod DraftFaults
 pub mod Designs
 pub mod FileFacts
 pub mod OneAnswer
+pub mod WrittenFiles

@@ -17,8 +17,7 @@ use Rattle.flat_net.proofs.Sound.{among_number}
 use Rattle.aag_text.specs.declared.aig.Literal.{Literal}
 use Rattle.aag_text.specs.declared.aig.Latch.{Latch}
 use Rattle.aag_text.specs.declared.aig.Gate.{Gate}
-use Rattle.aag_text.specs.Aig.{PlainAig}
-use Rattle.aag_text.specs.Nets.{positive}
+use Rattle.aag_text.specs.Aig.{PlainAig, positive}
 use Rattle.aag_design.specs.Draft.{map_from, each_node, numbered, table_of, zero_element, latch_element, gate_element, literal_element, aig_elements}
 use Rattle.aag_design.specs.Private.Drafting.{plain_draft, plain_marks}
 use Rattle.aag_design.specs.Same.{net_literals}

@@ -4,7 +4,7 @@ use Rattle.flat_net.specs.First.{IsFirst}
 use Rattle.flat_net.specs.Free.{FreeDesign}
 use Rattle.aag_text.specs.Aig.{PlainAig}
 use Rattle.aag_text.specs.Lines.{IsFile}
-use Rattle.aag_reader.specs.Faults.{defined, is_among, is_undefined, read_variables, IsDefinedOnce, IsDefined}
+use Rattle.aag_text.specs.Variables.{defined, is_among, is_undefined, read_variables, IsDefinedOnce, IsDefined}
 use Rattle.aag_reader.proofs.OneFile.{one_file, file_or_bad, none_or_first}
 use Rattle.aag_design.specs.declared.fault.AagFault.{AagFault}
 use Rattle.aag_design.specs.declared.fault.AagFault.TheVariants.{Line, Doubled, Undefined, Loop, TooLarge, Memory}

@@ -17,11 +17,10 @@ use Rattle.net_meaning.proofs.OneTrace.{one_trace}
 use Rattle.aag_text.specs.declared.aig.Literal.{Literal}
 use Rattle.aag_text.specs.declared.aig.Latch.{Latch}
 use Rattle.aag_text.specs.declared.aig.Gate.{Gate}
-use Rattle.aag_text.specs.Aig.{PlainAig, literal_value, IsMet}
+use Rattle.aag_text.specs.Aig.{PlainAig, literal_value, IsMet, positive}
 use Rattle.aag_text.specs.Traces.{start_value, latch_value, IsAigTrace}
 use Rattle.aag_text.specs.Same.{latch_bits}
-use Rattle.aag_text.specs.Nets.{positive}
-use Rattle.aag_reader.specs.Faults.{IsDefinedOnce, IsDefined}
+use Rattle.aag_text.specs.Variables.{IsDefinedOnce, IsDefined}
 use Rattle.aag_design.specs.Draft.{numbered, net_name, starts_with_1}
 use Rattle.aag_design.specs.Private.Drafting.{plain_draft, plain_marks}
 use Rattle.aag_design.specs.Same.{net_literals, DoesTheSame}

@@ -19,11 +19,10 @@ use Rattle.aag_text.specs.declared.aig.Latch.{Latch}
 use Rattle.aag_text.specs.declared.aig.Gate.{Gate}
 use Rattle.aag_text.specs.declared.aig.Start.{Start}
 use Rattle.aag_text.specs.declared.aig.Start.TheVariants.{Zero, One, Free}
-use Rattle.aag_text.specs.Aig.{PlainAig, literal_value, IsMet}
+use Rattle.aag_text.specs.Aig.{PlainAig, literal_value, IsMet, positive}
 use Rattle.aag_text.specs.Traces.{start_value, latch_value, IsAigTrace}
 use Rattle.aag_text.specs.Same.{registers, registers_from, latch_bits}
-use Rattle.aag_text.specs.Nets.{positive}
-use Rattle.aag_reader.specs.Faults.{IsDefinedOnce, IsDefined}
+use Rattle.aag_text.specs.Variables.{IsDefinedOnce, IsDefined}
 use Rattle.aag_design.specs.Draft.{map_from, mark_of, literals_cover, latch_element, gate_element, literal_element, net_name, starts_with_1, starts_free}
 use Rattle.aag_design.specs.Private.Drafting.{plain_draft, plain_marks}
 use Rattle.aag_design.specs.Same.{net_literals}

@@ -10,7 +10,7 @@ use Rattle.aag_text.specs.declared.aig.Gate.{Gate}
 use Rattle.aag_text.specs.declared.aig.Start.{Start}
 use Rattle.aag_text.specs.declared.aig.Start.TheVariants.{Zero, One, Free}
 use Rattle.aag_text.specs.Aig.{PlainAig}
-use Rattle.aag_reader.specs.Faults.{defined}
+use Rattle.aag_text.specs.Variables.{defined}
 
 -- what f gives for each entry and its number, from k on
 abbrev pub map_from : {A B : Type 0} → (ℕ → A → B) → ℕ → List A → List B

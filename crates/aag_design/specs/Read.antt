@@ -7,7 +7,7 @@ use Rattle.blif_writer.specs.Text.{free_text}
 use Rattle.aag_text.specs.Aig.{PlainAig}
 use Rattle.aag_text.specs.Lines.{IsFile}
 use Rattle.aag_reader.specs.BadLine.{IsFirstBadLine}
-use Rattle.aag_reader.specs.Faults.{defined, is_among, is_undefined, read_variables, IsDefinedOnce, IsDefined}
+use Rattle.aag_text.specs.Variables.{defined, is_among, is_undefined, read_variables, IsDefinedOnce, IsDefined}
 use Rattle.aag_design.specs.declared.fault.AagFault.{AagFault}
 use Rattle.aag_design.specs.declared.fault.AagFault.TheVariants.{Line, Doubled, Undefined, Loop, TooLarge, Memory}
 use Rattle.aag_design.specs.declared.file.CountedDesign.{CountedDesign}

@@ -5,8 +5,7 @@ use Rattle.net_meaning.specs.Meaning.{row_at, AreRows, IsFreeTrace}
 use Rattle.aag_text.specs.declared.aig.Literal.{Literal}
 use Rattle.aag_text.specs.declared.aig.Latch.{Latch}
 use Rattle.aag_text.specs.declared.aig.Gate.{Gate}
-use Rattle.aag_text.specs.Aig.{PlainAig, literal_value}
-use Rattle.aag_text.specs.Nets.{positive}
+use Rattle.aag_text.specs.Aig.{PlainAig, literal_value, positive}
 use Rattle.aag_text.specs.Traces.{IsAigTrace}
 use Rattle.aag_text.specs.Same.{latch_bits}
 use Rattle.aag_design.specs.Draft.{each_node}

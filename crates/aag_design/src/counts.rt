@@ -1,6 +1,6 @@
 //! How many entries a graph has.
 ghost use Rattle.std.specs.Prelude.{◌≡◌, count_by};
-ghost use Rattle.aag_text.specs.Nets.{plain_aig};
+ghost use Rattle.aag_text.specs.Aig.{plain_aig};
 ghost use Rattle.aag_design.specs.Counts.{is_free, counts_of};
 
 use crate::marks::starts_free;

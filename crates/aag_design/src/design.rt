@@ -1,7 +1,7 @@
 //! The design of a graph.
 ghost use Rattle.std.specs.Prelude.{◌≡◌, IfOk, OnOk, IfErr};
 ghost use Rattle.flat_net.specs.Faults.{net_of_draft};
-ghost use Rattle.aag_text.specs.Nets.{plain_aig};
+ghost use Rattle.aag_text.specs.Aig.{plain_aig};
 ghost use Rattle.aag_design.specs.Draft.{aig_draft};
 ghost use Rattle.aag_design.specs.Private.Drafting.{IsGraph, IsSound, IsLoopOf};
 ghost use Rattle.aag_design.specs.Loop.{HasNoLoop};

@@ -3,8 +3,8 @@ ghost use Rattle.std.specs.Prelude.{◌≡◌, ◌<◌, ◌++◌, ◌∷◌, [],
 ghost use Rattle.flat_net.specs.Draft.{TableOf};
 ghost use Rattle.tmr_base.specs.Names.{is_name_byte};
 ghost use Rattle.aag_text.specs.declared.aig.Latch.{Latch};
-ghost use Rattle.aag_text.specs.Nets.{plain_aig};
-ghost use Rattle.aag_reader.specs.Faults.{defined};
+ghost use Rattle.aag_text.specs.Aig.{plain_aig};
+ghost use Rattle.aag_text.specs.Variables.{defined};
 ghost use Rattle.aag_design.specs.Draft.{map_from, net_name, numbered, mark_of, literals_cover, table_of, zero_element, starts_with_1, latch_element, gate_element, literal_element, aig_elements, aig_draft};
 ghost use Rattle.aag_design.specs.Private.Drafting.{IsGraph};
 

@@ -1,8 +1,7 @@
 //! The design of a file.
 ghost use Rattle.std.specs.Prelude.{◌≡◌, ◌≤◌, ℕ, IfOk, IfErr, length};
 ghost use Rattle.flat_net.specs.Faults.{net_of_draft};
-ghost use Rattle.aag_text.specs.Aig.{PlainAig};
-ghost use Rattle.aag_text.specs.Nets.{plain_aig};
+ghost use Rattle.aag_text.specs.Aig.{PlainAig, plain_aig};
 ghost use Rattle.aag_design.specs.Draft.{aig_draft, aig_marks};
 ghost use Rattle.aag_design.specs.Private.Drafting.{IsGraph, IsSound};
 ghost use Rattle.aag_design.specs.Loop.{HasNoLoop};

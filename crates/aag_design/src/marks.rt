@@ -1,6 +1,6 @@
 //! The marks of a graph's design.
 ghost use Rattle.std.specs.Prelude.{◌≡◌, ◌++◌, false, map, replicate, IfOk, OnOk};
-ghost use Rattle.aag_text.specs.Nets.{plain_aig};
+ghost use Rattle.aag_text.specs.Aig.{plain_aig};
 ghost use Rattle.aag_design.specs.Draft.{starts_free, aig_marks};
 
 use aag_text::{Aig, Latch, Start};

@@ -2,8 +2,8 @@
 ghost use Rattle.std.specs.Prelude.{◌≡◌, ◌+◌, ◌<◌, ◌≤◌, ℕ, true, length, position, nat_eq, IfOk};
 ghost use Rattle.std.specs.Option.{unwrap_or};
 ghost use Rattle.tmr_base.specs.Names.{is_name, is_name_byte};
-ghost use Rattle.aag_text.specs.Nets.{plain_aig};
-ghost use Rattle.aag_reader.specs.Faults.{defined};
+ghost use Rattle.aag_text.specs.Aig.{plain_aig};
+ghost use Rattle.aag_text.specs.Variables.{defined};
 ghost use Rattle.aag_design.specs.Draft.{numbered, placed_name, net_name};
 
 use aag_reader::Graph;

@@ -4,7 +4,8 @@ use Rattle.aag_reader.specs.declared.fault.GraphFault.{GraphFault}
 use Rattle.aag_reader.specs.declared.fault.GraphFault.TheVariants.{Line, Doubled, Undefined, Memory}
 use Rattle.aag_text.specs.Aig.{PlainAig}
 use Rattle.aag_text.specs.Lines.{IsFile}
-use Rattle.aag_reader.specs.Faults.{defined, read_variables, IsDefinedOnce, IsGraphFault}
+use Rattle.aag_reader.specs.Faults.{IsGraphFault}
+use Rattle.aag_text.specs.Variables.{defined, read_variables, IsDefinedOnce}
 use Rattle.aag_reader.specs.Private.Sections.{IsLineFault}
 use Rattle.aag_reader.specs.Private.Found.{IsDoubledIn, IsUndefinedIn}
 

@@ -5,7 +5,7 @@ use Rattle.flat_net.specs.First.{HasNone, IsFirst}
 use Rattle.flat_net.proofs.Firsts.{none_nil, none_push, first_here}
 use Rattle.aag_reader.specs.declared.fault.GraphFault.{GraphFault}
 use Rattle.aag_reader.specs.declared.fault.GraphFault.TheVariants.{Line, Doubled, Undefined, Memory}
-use Rattle.aag_reader.specs.Faults.{is_among}
+use Rattle.aag_text.specs.Variables.{is_among}
 use Rattle.aag_reader.specs.Private.Found.{IsTwice, IsDoubledIn}
 
 module _ (test : List ℕ → ℕ → Bool) (all : List ℕ) where

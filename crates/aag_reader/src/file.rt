@@ -1,8 +1,9 @@
 //! The graph of a file.
 ghost use Rattle.std.specs.Prelude.{◌≡◌, ◌+◌, ◌<◌, ◌^◌, length, IfOk, IfErr};
 ghost use Rattle.aag_text.specs.Lines.{IsFile};
-ghost use Rattle.aag_reader.specs.Faults.{defined, IsDefinedOnce, IsDefined, IsGraphFault};
-ghost use Rattle.aag_text.specs.Nets.{plain_aig};
+ghost use Rattle.aag_reader.specs.Faults.{IsGraphFault};
+ghost use Rattle.aag_text.specs.Variables.{defined, IsDefinedOnce, IsDefined};
+ghost use Rattle.aag_text.specs.Aig.{plain_aig};
 
 use crate::GraphFault;
 use crate::reading::aig_of_text;

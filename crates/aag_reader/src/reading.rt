@@ -1,6 +1,6 @@
 //! Reading a file, section by section.
 ghost use Rattle.std.specs.Prelude.{◌≡◌, ◌+◌, ◌<◌, ◌^◌, length, true, OnOk, IfOk, IfErr};
-ghost use Rattle.aag_text.specs.Nets.{plain_aig};
+ghost use Rattle.aag_text.specs.Aig.{plain_aig};
 ghost use Rattle.aag_reader.specs.Private.Words.{texts};
 ghost use Rattle.aag_text.specs.Lines.{header_of, IsFile};
 ghost use Rattle.aag_reader.specs.Private.Sections.{HasWords, HasNoWords, HasNext, HasNoNext, HasSection, StopsIn, NextSymbol, HasNoSymbol, HasSymbols, StopsInSymbols, IsLineFault};

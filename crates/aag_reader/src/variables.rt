@@ -2,9 +2,9 @@
 ghost use Rattle.std.specs.Prelude.{◌≡◌, ◌++◌, ◌∷◌, [], ℕ, Bool, false, true, not, ◌||◌, nat_eq, map, OnOk, IfOk, IfErr};
 ghost use Rattle.std.specs.List.{flat_map};
 ghost use Rattle.flat_net.specs.First.{HasNone, IsFirst};
-ghost use Rattle.aag_reader.specs.Faults.{defined, is_among, read_variables, is_undefined, IsDefinedOnce, IsDefined};
+ghost use Rattle.aag_text.specs.Variables.{defined, is_among, read_variables, is_undefined, IsDefinedOnce, IsDefined};
+ghost use Rattle.aag_text.specs.Aig.{plain_aig};
 ghost use Rattle.aag_reader.specs.Private.Found.{IsTwice, IsDoubledIn, IsUndefinedIn, gate_reads};
-ghost use Rattle.aag_text.specs.Nets.{plain_aig};
 
 use crate::GraphFault;
 use aag_text::{Aig, Gate, Latch, Literal};

@@ -17,11 +17,11 @@ use Rattle.net_meaning.proofs.Lists.{map_agree}
 use Rattle.aag_text.specs.declared.aig.Literal.{Literal}
 use Rattle.aag_text.specs.declared.aig.Latch.{Latch}
 use Rattle.aag_text.specs.declared.aig.Gate.{Gate}
-use Rattle.aag_text.specs.Aig.{PlainAig, literal_value, IsMet}
+use Rattle.aag_text.specs.Aig.{PlainAig, literal_value, IsMet, positive}
 use Rattle.aag_text.specs.Traces.{start_value, latch_value, IsAigTrace}
 use Rattle.aag_text.specs.Same.{registers, registers_from, latch_bits, AgreesAt, register_start}
-use Rattle.aag_text.specs.Gates.{AreMet}
-use Rattle.aag_text.specs.Nets.{positive, literal_at, first_literals, input_literals, node_literals, is_register_at, IsCycle, IsMade, table_value, pin_of, latch_at, IsGraphOf}
+use Rattle.aag_text.specs.Private.Gates.{AreMet}
+use Rattle.aag_text.specs.Private.Nets.{literal_at, first_literals, input_literals, node_literals, is_register_at, IsCycle, IsMade, table_value, pin_of, latch_at, IsGraphOf}
 
 pub met_from : (values : ℕ → Bool) (gates : List Gate) → ((k : ℕ) (h : Gate) → slice_get gates k ≡ Some h → IsMet values h) → AreMet values gates
 unfolding AreMet

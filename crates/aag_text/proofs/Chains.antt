@@ -6,7 +6,7 @@ use Rattle.std.proofs.lemmas.Option.{slice_get_within, get_or_from_slice_get}
 use Rattle.table_cover.specs.Cover.{mark_fits}
 use Rattle.aag_text.specs.declared.aig.Literal.{Literal}
 use Rattle.aag_text.specs.Aig.{literal_value}
-use Rattle.aag_text.specs.Gates.{PlainGates, Grows, all_value, any_value, row_value, rows_value}
+use Rattle.aag_text.specs.Private.Gates.{PlainGates, Grows, all_value, any_value, row_value, rows_value}
 
 pub grows_then : (i k : ℕ) (a b c : PlainGates) → Grows i a b → Grows k b c → Grows (i + k) a c
 grows_then i k a b c one two = record {

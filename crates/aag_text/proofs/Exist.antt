@@ -12,11 +12,11 @@ use Rattle.net_meaning.specs.Meaning.{bit, value_at}
 use Rattle.aag_text.specs.declared.aig.Literal.{Literal}
 use Rattle.aag_text.specs.declared.aig.Latch.{Latch}
 use Rattle.aag_text.specs.declared.aig.Gate.{Gate}
-use Rattle.aag_text.specs.Aig.{PlainAig, literal_value, IsMet}
+use Rattle.aag_text.specs.Aig.{PlainAig, literal_value, IsMet, positive}
 use Rattle.aag_text.specs.Traces.{start_value, latch_value, IsAigTrace}
 use Rattle.aag_text.specs.Same.{registers, registers_from, latch_bits}
-use Rattle.aag_text.specs.Gates.{AreMet, AreStacked}
-use Rattle.aag_text.specs.Nets.{positive, literal_at, first_literals, input_literals, node_literals, latch_at, IsGraphOf}
+use Rattle.aag_text.specs.Private.Gates.{AreMet, AreStacked}
+use Rattle.aag_text.specs.Private.Nets.{literal_at, first_literals, input_literals, node_literals, latch_at, IsGraphOf}
 use Rattle.aag_text.proofs.Firsts.{firsts_below}
 use Rattle.aag_text.proofs.Agree.{registers_are, node_there}
 
@@ -40,7 +40,7 @@ extend_below f next [] u s l = refl
 extend_below f next (g ∷ gates) u s l =
     let own : g.variable ≡ next = s.0 in
     let other : u ≢ g.variable = λ e. absurd (omega (arith, e, l, own)) in
-    extend_below (put f g.variable (literal_value f g.left && literal_value f g.right)) (suc next) gates u s.3 (omega (arith, l)) ∙ put_other f g.variable u _ other
+    extend_below (put f g.variable (literal_value f g.left && literal_value f g.right)) (suc next) gates u s.4 (omega (arith, l)) ∙ put_other f g.variable u _ other
 
 same_literal : (f h : ℕ → Bool) (m : Literal) → f m.variable ≡ h m.variable → literal_value f m ≡ literal_value h m
 same_literal f h m e = ap (λ (b : Bool). if m.negated then not b else b) e
@@ -53,10 +53,10 @@ extend_met f next (g ∷ gates) s =
     let more : ℕ → Bool = put f g.variable b in
     let all : ℕ → Bool = extend more gates in
     let own : g.variable ≡ next = s.0 in
-    let value : all g.variable ≡ b = extend_below more (suc next) gates g.variable s.3 (omega (arith, own)) ∙ put_own f g.variable g.variable b refl in
-    let left : all g.left.variable ≡ f g.left.variable = extend_below more (suc next) gates g.left.variable s.3 (omega (arith, s.1)) ∙ put_other f g.variable g.left.variable b (λ e. absurd (omega (arith, e, s.1, own))) in
-    let right : all g.right.variable ≡ f g.right.variable = extend_below more (suc next) gates g.right.variable s.3 (omega (arith, s.2)) ∙ put_other f g.variable g.right.variable b (λ e. absurd (omega (arith, e, s.2, own))) in
-    (value ∙ (ap (λ (c : Bool). c && literal_value f g.right) (sym (same_literal all f g.left left)) ∙ ap (λ (c : Bool). literal_value all g.left && c) (sym (same_literal all f g.right right))), extend_met more (suc next) gates s.3)
+    let value : all g.variable ≡ b = extend_below more (suc next) gates g.variable s.4 (omega (arith, own)) ∙ put_own f g.variable g.variable b refl in
+    let left : all g.left.variable ≡ f g.left.variable = extend_below more (suc next) gates g.left.variable s.4 (omega (arith, s.1)) ∙ put_other f g.variable g.left.variable b (λ e. absurd (omega (arith, e, s.1, own))) in
+    let right : all g.right.variable ≡ f g.right.variable = extend_below more (suc next) gates g.right.variable s.4 (omega (arith, s.2)) ∙ put_other f g.variable g.right.variable b (λ e. absurd (omega (arith, e, s.2, own))) in
+    (value ∙ (ap (λ (c : Bool). c && literal_value f g.right) (sym (same_literal all f g.left left)) ∙ ap (λ (c : Bool). literal_value all g.left && c) (sym (same_literal all f g.right right))), extend_met more (suc next) gates s.4)
 
 some_gate : (x y : Gate) → Some x ≡ Some y → x ≡ y
 some_gate x y e = cc

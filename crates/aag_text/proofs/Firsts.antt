@@ -10,7 +10,8 @@ use Rattle.std.proofs.lemmas.List.FromFn.{map-range_with_len_more}
 use Rattle.flat_net.specs.Net.{net_count, register_count, Net, Node, Table, Register, node_of, is_register}
 use Rattle.blif_writer.proofs.NodeLines.{node_at}
 use Rattle.aag_text.specs.declared.aig.Literal.{Literal}
-use Rattle.aag_text.specs.Nets.{positive, is_register_at, node_literals, input_literals, first_literals}
+use Rattle.aag_text.specs.Private.Nets.{is_register_at, node_literals, input_literals, first_literals}
+use Rattle.aag_text.specs.Aig.{positive}
 
 pub inputs_more : (i : ℕ) (out : List Literal) → out ≡ input_literals i → out ++ positive (i + 1) ∷ [] ≡ input_literals (i + 1)
 inputs_more i out e = ap (λ (o : List Literal). o ++ positive (i + 1) ∷ []) e ∙ sym (map-range_with_len_more (λ k. positive (k + 1)) 0 i i (omega arith))

@@ -7,7 +7,7 @@ use Rattle.blif_writer.proofs.NodeLines.{node_at}
 use Rattle.aag_text.specs.declared.aig.Literal.{Literal}
 use Rattle.aag_text.specs.declared.aig.Latch.{Latch}
 use Rattle.aag_text.specs.Same.{registers_from, init_of}
-use Rattle.aag_text.specs.Nets.{literal_at, is_register_at, pin_of, latch_at, latches_at}
+use Rattle.aag_text.specs.Private.Nets.{literal_at, is_register_at, pin_of, latch_at, latches_at}
 
 pub init_is : (o : Option Node) (b : Bool) → IsInitOf o b → init_of o ≡ b
 init_is None b is = absurd is

@@ -6,6 +6,9 @@ pub mod Latches
 pub mod Agree
 pub mod Exist
 pub mod Puts
+pub mod Totals
 pub mod Rows
+pub mod Counts
+pub mod Defined
 pub mod Spelling
 pub mod Within

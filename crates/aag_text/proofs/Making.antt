@@ -10,8 +10,8 @@ use Rattle.net_meaning.specs.Meaning.{bit}
 use Rattle.net_meaning.proofs.Lists.{map_agree}
 use Rattle.aag_text.specs.declared.aig.Literal.{Literal}
 use Rattle.aag_text.specs.Aig.{literal_value}
-use Rattle.aag_text.specs.Gates.{PlainGates, AreMet}
-use Rattle.aag_text.specs.Nets.{literal_at, table_value, IsCycle, IsMade, AreRight, OnlyTables, IsMadeAt}
+use Rattle.aag_text.specs.Private.Gates.{PlainGates, AreMet}
+use Rattle.aag_text.specs.Private.Nets.{literal_at, table_value, IsCycle, IsMade, AreRight, OnlyTables, IsMadeAt}
 
 -- x is no table
 pub unmade : (n : Net) (x : ℕ) (old : List Literal) (gates : PlainGates) → (IsTable (node_of n x) → ⊥) → IsMadeAt n x old old gates

@@ -12,8 +12,8 @@ use Rattle.std.proofs.lemmas.Option.{slice_get_within, get_or_from_slice_get}
 use Rattle.flat_net.specs.Net.{Net, Node, Table, Register, node_of, name_of}
 use Rattle.blif_writer.proofs.NodeLines.{node_at, input_name}
 use Rattle.aag_text.specs.Same.{registers, registers_from}
-use Rattle.aag_text.specs.Nets.{is_register_at}
-use Rattle.aag_text.specs.Puts.{symbol_line, register_symbols, next_symbol}
+use Rattle.aag_text.specs.Private.Nets.{is_register_at}
+use Rattle.aag_text.specs.Private.Puts.{symbol_line, register_symbols, next_symbol}
 use Rattle.aag_text.specs.Aig.{PlainAig}
 use Rattle.aag_text.specs.Text.{variable_word, literal_word, header, header_line, latch_line, gate_line, aig_lines, symbol_lines, design_symbols, aag_text}
 

@@ -1,16 +1,16 @@
 -- One gate more.
-use Rattle.std.proofs.Common.{◌≡◌, ℕ, suc, ◌+◌, ◌<◌, Bool, true, false, List, [], ◌∷◌, ◌++◌, length, refl, sym, ◌∙◌, ap, subst, arith, length-append}
+use Rattle.std.proofs.Common.{◌≡◌, ℕ, suc, ◌+◌, ◌<◌, ◌≤◌, Bool, true, false, List, [], ◌∷◌, ◌++◌, length, refl, sym, ◌∙◌, ap, subst, arith, length-append}
 use Rattle.std.specs.Prelude.{◌&&◌, Result, Ok, Err, OnOk, IfOk}
 use Rattle.aag_text.specs.declared.aig.Literal.{Literal}
 use Rattle.aag_text.specs.declared.aig.Gate.{Gate}
-use Rattle.aag_text.specs.Aig.{literal_value, IsMet}
-use Rattle.aag_text.specs.Gates.{PlainGates, next_of, AreMet, AreStacked, Grows}
+use Rattle.aag_text.specs.Aig.{literal_value, literal_number, IsMet}
+use Rattle.aag_text.specs.Private.Gates.{PlainGates, next_of, AreMet, AreStacked, Grows}
 
-pub stacked_append : (next : ℕ) (gates : List Gate) (g : Gate) → AreStacked next gates → g.variable ≡ next + length gates → g.left.variable < next + length gates → g.right.variable < next + length gates → AreStacked next (gates ++ g ∷ [])
+pub stacked_append : (next : ℕ) (gates : List Gate) (g : Gate) → AreStacked next gates → g.variable ≡ next + length gates → g.left.variable < next + length gates → g.right.variable < next + length gates → literal_number g.right ≤ literal_number g.left → AreStacked next (gates ++ g ∷ [])
 unfolding AreStacked
-stacked_append next [] g s v l r = (omega (arith, v), omega (arith, l), omega (arith, r), tt)
-stacked_append next (h ∷ gates) g s v l r =
-    (s.0, s.1, s.2, stacked_append (suc next) gates g s.3 (omega (arith, v)) (omega (arith, l)) (omega (arith, r)))
+stacked_append next [] g s v l r first = (omega (arith, v), omega (arith, l), omega (arith, r), first, tt)
+stacked_append next (h ∷ gates) g s v l r first =
+    (s.0, s.1, s.2, s.3, stacked_append (suc next) gates g s.4 (omega (arith, v)) (omega (arith, l)) (omega (arith, r)) first)
 
 pub met_before : (values : ℕ → Bool) (gates : List Gate) (g : Gate) → AreMet values (gates ++ g ∷ []) → AreMet values gates
 unfolding AreMet
@@ -55,3 +55,8 @@ conjoined (Err x) old new a b e is = tt
 pub conjoined_back : {E : Type 0} (r : Result Literal E) (old new : PlainGates) (a b : Literal) → OnOk r (new ≡ record { first = old.first; list = old.list ++ record { variable = next_of old; left = b; right = a } ∷ [] }) → IfOk r (λ l. l ≡ record { variable = next_of old; negated = false }) → IfOk r (λ l. (values : ℕ → Bool) → AreMet values new.list → literal_value values l ≡ (literal_value values a && literal_value values b))
 conjoined_back (Ok l) old new a b e is = λ values m. own_value old new b a l e is values m ∙ and_commutes (literal_value values b) (literal_value values a)
 conjoined_back (Err x) old new a b e is = tt
+
+-- one gate more
+pub one_longer : {E : Type 0} (r : Result Literal E) (old new : PlainGates) (g : Gate) → OnOk r (new ≡ record { first = old.first; list = old.list ++ g ∷ [] }) → OnOk r (length new.list ≡ length old.list + 1)
+one_longer (Ok l) old new g e = ap (λ (n : PlainGates). length n.list) e ∙ length-append old.list (g ∷ [])
+one_longer (Err x) old new g e = tt

@@ -15,12 +15,12 @@ use Rattle.hierarchy.specs.Sizes.{row_total}
 use Rattle.aag_text.specs.declared.aig.Literal.{Literal}
 use Rattle.aag_text.specs.declared.aig.Latch.{Latch}
 use Rattle.aag_text.specs.declared.aig.Gate.{Gate}
-use Rattle.aag_text.specs.Aig.{PlainAig}
+use Rattle.aag_text.specs.Aig.{PlainAig, positive}
 use Rattle.aag_text.specs.Same.{registers, registers_from}
 use Rattle.aag_text.specs.Text.{header, symbol_lines, design_symbols, aag_text}
 use Rattle.aag_text.specs.Lines.{AreSymbols, IsFile}
-use Rattle.aag_text.specs.Gates.{next_of, AreStacked, AreBelow}
-use Rattle.aag_text.specs.Nets.{positive, literal_at, latch_at, IsGraphOf}
+use Rattle.aag_text.specs.Private.Gates.{next_of, AreStacked, AreBelow}
+use Rattle.aag_text.specs.Private.Nets.{literal_at, latch_at, IsGraphOf}
 use Rattle.aag_text.proofs.Agree.{registers_are}
 use Rattle.aag_text.proofs.Exist.{latch_numbered}
 use Rattle.aag_text.proofs.Spelling.{IsWord, AreWords, AreLines, AreVariables, AreLatches, AreLiterals, AreGates, IsWithin, lines_join, map_both, symbols_plain, symbols_are, symbols_both, file_spelled}
@@ -104,13 +104,13 @@ gates_from : (m next : ℕ) (gates : List Gate) → 0 < next → next + length g
 unfolding AreStacked
 gates_from m next [] some within stacked = tt
 gates_from m next (g ∷ gates) some within stacked =
-    (omega (arith, some, stacked.0), omega (arith, within, stacked.0), omega (arith, within, stacked.1), omega (arith, within, stacked.2), gates_from m (suc next) gates (omega (arith, some)) (omega (arith, within)) stacked.3)
+    (omega (arith, some, stacked.0), omega (arith, within, stacked.0), omega (arith, within, stacked.1), omega (arith, within, stacked.2), gates_from m (suc next) gates (omega (arith, some)) (omega (arith, within)) stacked.4)
 
 module _ (n : FreeDesign) (a : PlainAig) (v : IsValid n.design.net) (g : IsGraphOf n a) (few : net_count n.design.net ≤ 16777216) (small : row_total n.design.net ≤ 16777216) where
   abbrev m : ℕ
   m = length a.inputs + length a.latches + length a.gates
 
-  input_count : length a.inputs ≡ length n.design.net.inputs
+  pub input_count : length a.inputs ≡ length n.design.net.inputs
   input_count = ap length g.inputs ∙ length-map-range_with_len (λ i. i + 1) 0 (length n.design.net.inputs)
 
   latch_count : length a.latches ≡ length (registers n.design.net)
@@ -119,7 +119,7 @@ module _ (n : FreeDesign) (a : PlainAig) (v : IsValid n.design.net) (g : IsGraph
   output_count : length a.outputs ≡ length n.design.net.outputs
   output_count = ap length g.outputs ∙ length-map n.design.net.outputs (literal_at g.literals)
 
-  top : next_of g.gates ≡ m + 1
+  pub top : next_of g.gates ≡ m + 1
   top =
       let gates = ap length g.list in
       let latches = count_registers (length n.design.net.inputs) n.design.net.nodes in

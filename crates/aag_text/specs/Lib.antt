@@ -1,9 +1,9 @@
 pub mod Aig
+pub mod Variables
 pub mod Traces
 pub mod Same
+pub mod Taken
 pub mod Text
 pub mod Lines
-pub mod Gates
-pub mod Nets
-pub mod Puts
 pub mod Written
+pub mod Private

@@ -1,4 +1,6 @@
 //! And-inverter graphs.
+ghost use Rattle.std.specs.Prelude.{◌≡◌};
+ghost use Rattle.aag_text.specs.Aig.{literal_number};
 
 /// A variable, negated or not. Variable 0 is false.
 #[derive(Clone, Copy, Debug, PartialEq, Eq, Drop)]
@@ -49,4 +51,12 @@ pub struct Aig {
     pub latches: Vec<Latch>,
     pub outputs: Vec<Literal>,
     pub gates: Vec<Gate>,
+}
+
+/// The number of a literal: twice its variable, and 1 more where it is negated.
+pub fn literal_number(l: Literal) -> u64
+    ensures { result ≡ literal_number l }
+{
+    let number = 2 * l.variable as u64;
+    if l.negated { number + 1 } else { number }
 }

@@ -1,15 +1,17 @@
 //! And-gates, added one after the other, and the gates of one table.
-ghost use Rattle.std.specs.Prelude.{false, ◌≡◌, ◌+◌, ◌*◌, ◌<◌, ◌≤◌, ℕ, Bool, not, ◌&&◌, ◌||◌, [], ◌∷◌, ◌++◌, map, length, OnOk, IfOk, All};
+ghost use Rattle.std.specs.Prelude.{true, false, is_some, ◌≡◌, ◌+◌, ◌*◌, ◌<◌, ◌≤◌, ℕ, Bool, not, ◌&&◌, ◌||◌, [], ◌∷◌, ◌++◌, map, length, OnOk, IfOk, All};
 ghost use Rattle.table_cover.specs.Cover.{mark_fits, cover_value};
-ghost use Rattle.aag_text.specs.Aig.{literal_value, literal_number};
-ghost use Rattle.aag_text.specs.Gates.{next_of, AreMet, AreStacked, Grows, all_value, any_value, IsBelow, AreBelow, row_value, rows_value};
+ghost use Rattle.aag_text.specs.Aig.{literal_value, literal_number, IsGreaterFirst};
+ghost use Rattle.aag_text.specs.Taken.{is_given, row_gates, cover_gates};
+ghost use Rattle.aag_text.specs.Private.Gates.{next_of, AreMet, AreStacked, Grows, all_value, any_value, IsBelow, AreBelow, row_value, rows_value, joins};
 
+use crate::aig::literal_number;
 use crate::{Gate, Literal};
 use std::alloc::{AllocError, Global};
 use std::marker::Model;
 use table_cover::Cover;
 
-/// And-gates whose variables are numbered in order. Each reads lesser variables alone.
+/// And-gates whose variables are numbered in order. Each reads lesser variables alone, and its greater literal stands first.
 #[derive(Drop)]
 pub struct Gates {
     first: u32,
@@ -17,7 +19,7 @@ pub struct Gates {
 }
 
 impl Model for Gates {
-    ghost use Rattle.aag_text.specs.Gates.{PlainGates, AreStacked};
+    ghost use Rattle.aag_text.specs.Private.Gates.{PlainGates, AreStacked};
 
     ghost Value = { PlainGates };
 
@@ -37,14 +39,9 @@ pub fn negated(l: Literal) -> Literal
     }
 }
 
-/// Whether a has the greater number.
-fn is_greater(a: Literal, b: Literal) -> bool {
-    a.variable > b.variable || a.variable == b.variable && a.negated && !b.negated
-}
-
 impl Gates {
     /// No gates. The first one will have this variable.
-    #[tactic(auto, unfolding(crate::specs::Gates::AreStacked))]
+    #[tactic(auto, unfolding(crate::specs::Private::Gates::AreStacked))]
     pub fn new(alloc: Global, first: u32) -> Gates
         ensures { result ≡ record { first = first; list = [] } }
     {
@@ -82,6 +79,7 @@ impl Gates {
     fn push(&mut self, left: Literal, right: Literal) -> Result<Literal, AllocError>
         requires left { left.variable < next_of self.old }
         requires right { right.variable < next_of self.old }
+        requires greater { literal_number right ≤ literal_number left }
         requires room { next_of self.old < 2147483648 }
         ensures gates { OnOk result (self.new ≡ record { first = self.old.first; list = self.old.list ++ record { variable = next_of self.old; left = left; right = right } ∷ [] }) }
         ensures own { IfOk result (λ l. l ≡ record { variable = next_of self.old; negated = false }) }
@@ -99,16 +97,17 @@ impl Gates {
     }
 
     /// The conjunction of two literals: one gate more. The literal with the greater number comes first.
-    #[tactic(auto, using(crate::proofs::Stacks::grown, crate::proofs::Stacks::conjoined, crate::proofs::Stacks::conjoined_back))]
+    #[tactic(auto, using(crate::proofs::Stacks::grown, crate::proofs::Stacks::one_longer, crate::proofs::Stacks::conjoined, crate::proofs::Stacks::conjoined_back))]
     pub fn and(&mut self, a: Literal, b: Literal) -> Result<Literal, AllocError>
         requires left { a.variable < next_of self.old }
         requires right { b.variable < next_of self.old }
         requires room { next_of self.old < 2147483648 }
         ensures grows { OnOk result (Grows 1 self.old self.new) }
+        ensures count { OnOk result (length self.new.list ≡ length self.old.list + 1) }
         ensures below { IfOk result (λ l. l.variable < next_of self.new) }
         ensures value { IfOk result (λ l. (values : ℕ → Bool) → AreMet values self.new.list → literal_value values l ≡ (literal_value values a && literal_value values b)) }
     {
-        if is_greater(b, a) {
+        if literal_number(a) < literal_number(b) {
             self.push(b, a)
         } else {
             self.push(a, b)
@@ -123,6 +122,7 @@ fn with_literal(gates: &mut Gates, all: Option<Literal>, l: Literal) -> Result<L
     requires literal { l.variable < next_of gates.old }
     requires room { next_of gates.old < 2147483648 }
     ensures grows { OnOk result (Grows 1 gates.old gates.new) }
+    ensures count { OnOk result (length gates.new.list ≡ length gates.old.list + joins all true) }
     ensures below { IfOk result (λ r. r.variable < next_of gates.new) }
     ensures value { IfOk result (λ r. (values : ℕ → Bool) → AreMet values gates.new.list → literal_value values r ≡ (all_value values all && literal_value values l)) }
 {
@@ -144,6 +144,8 @@ fn with_mark(
     requires pin { pin.variable < next_of gates.old }
     requires room { next_of gates.old < 2147483648 }
     ensures grows { OnOk result (Grows 1 gates.old gates.new) }
+    ensures count { OnOk result (length gates.new.list ≡ length gates.old.list + joins all (is_given mark)) }
+    ensures some { IfOk result (λ r. is_some r ≡ (is_some all || is_given mark)) }
     ensures below { IfOk result (λ r. IsBelow (next_of gates.new) r) }
     ensures value { IfOk result (λ r. (values : ℕ → Bool) → AreMet values gates.new.list → all_value values r ≡ (all_value values all && mark_fits mark (literal_value values pin))) }
 {
@@ -161,6 +163,7 @@ fn row_literal(gates: &mut Gates, row: &[u8], pins: &[Literal]) -> Result<Litera
     requires zero { 0 < next_of gates.old }
     requires room { next_of gates.old + length row.now ≤ 2147483648 }
     ensures grows { OnOk result (Grows (length row.now) gates.old gates.new) }
+    ensures count { OnOk result (length gates.new.list ≡ length gates.old.list + row_gates row.now) }
     ensures below { IfOk result (λ r. r.variable < next_of gates.new) }
     ensures value { IfOk result (λ r. (values : ℕ → Bool) → values 0 ≡ false → AreMet values gates.new.list → literal_value values r ≡ row_value values row.now pins.now) }
 {
@@ -184,6 +187,7 @@ fn with_row(gates: &mut Gates, any: Option<Literal>, row: Literal) -> Result<Lit
     requires row { row.variable < next_of gates.old }
     requires room { next_of gates.old < 2147483648 }
     ensures grows { OnOk result (Grows 1 gates.old gates.new) }
+    ensures count { OnOk result (length gates.new.list ≡ length gates.old.list + joins any true) }
     ensures below { IfOk result (λ r. r.variable < next_of gates.new) }
     ensures value { IfOk result (λ r. (values : ℕ → Bool) → AreMet values gates.new.list → literal_value values r ≡ (any_value values any || literal_value values row)) }
 {
@@ -200,6 +204,7 @@ fn rows_literal(gates: &mut Gates, cover: &Cover, pins: &[Literal]) -> Result<Li
     requires zero { 0 < next_of gates.old }
     requires room { next_of gates.old + length cover.now.rows * (cover.now.width + 1) ≤ 2147483648 }
     ensures grows { OnOk result (Grows (length cover.now.rows * (cover.now.width + 1)) gates.old gates.new) }
+    ensures count { OnOk result (length gates.new.list ≡ length gates.old.list + cover_gates cover.now) }
     ensures below { IfOk result (λ r. r.variable < next_of gates.new) }
     ensures value { IfOk result (λ r. (values : ℕ → Bool) → values 0 ≡ false → AreMet values gates.new.list → literal_value values r ≡ rows_value values cover.now.rows pins.now) }
 {
@@ -219,7 +224,7 @@ fn rows_literal(gates: &mut Gates, cover: &Cover, pins: &[Literal]) -> Result<Li
 
 /// The literal with the value of the table on its pins: a chain of gates for each row, and one for the
 /// rows, negated where the rows tell where the table is 0.
-#[tactic(auto, unfolding(table_cover::specs::Cover::cover_value, crate::specs::Gates::rows_value))]
+#[tactic(auto, unfolding(table_cover::specs::Cover::cover_value, crate::specs::Private::Gates::rows_value))]
 pub fn table_literal(
     gates: &mut Gates,
     cover: &Cover,
@@ -230,6 +235,7 @@ pub fn table_literal(
     requires zero { 0 < next_of gates.old }
     requires room { next_of gates.old + length cover.now.rows * (cover.now.width + 1) ≤ 2147483648 }
     ensures grows { OnOk result (Grows (length cover.now.rows * (cover.now.width + 1)) gates.old gates.new) }
+    ensures count { OnOk result (length gates.new.list ≡ length gates.old.list + cover_gates cover.now) }
     ensures below { IfOk result (λ r. r.variable < next_of gates.new) }
     ensures value { IfOk result (λ r. (values : ℕ → Bool) → values 0 ≡ false → AreMet values gates.new.list → literal_value values r ≡ cover_value cover.now (map (literal_value values) pins.now)) }
 {

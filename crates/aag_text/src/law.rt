@@ -2,7 +2,7 @@
 ghost use Rattle.flat_net.specs.Net.{IsDesign};
 ghost use Rattle.flat_net.specs.Free.{FreeDesign};
 ghost use Rattle.aag_text.specs.Aig.{PlainAig};
-ghost use Rattle.aag_text.specs.Nets.{IsGraphOf};
+ghost use Rattle.aag_text.specs.Private.Nets.{IsGraphOf};
 ghost use Rattle.aag_text.specs.Same.{DoTheSame};
 
 /// The law: the graph of a design does the same as the design.

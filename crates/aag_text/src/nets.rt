@@ -6,8 +6,10 @@ ghost use Rattle.flat_net.specs.Net.{net_count, node_of, pins_at, IsTable, IsReg
 ghost use Rattle.flat_net.specs.Free.{node_bit};
 ghost use Rattle.aag_text.specs.Same.{registers, register_start};
 ghost use Rattle.hierarchy.specs.Sizes.{row_total};
-ghost use Rattle.aag_text.specs.Gates.{next_of, AreBelow, Grows, rows_at};
-ghost use Rattle.aag_text.specs.Nets.{literal_at, is_register_at, input_literals, first_literals, IsMadeAt, AreRight, OnlyTables, latch_at, latches_at, plain_aig, HasLiterals, IsGraphOf};
+ghost use Rattle.aag_text.specs.Private.Gates.{next_of, AreBelow, Grows, rows_at, gates_at};
+ghost use Rattle.aag_text.specs.Taken.{gate_total};
+ghost use Rattle.aag_text.specs.Private.Nets.{literal_at, is_register_at, input_literals, first_literals, IsMadeAt, AreRight, OnlyTables, latch_at, latches_at, HasLiterals, IsGraphOf};
+ghost use Rattle.aag_text.specs.Aig.{plain_aig};
 
 use crate::gates::{Gates, table_literal};
 use crate::{Aig, Latch, Literal, Start};
@@ -101,6 +103,7 @@ fn make_table(
     requires below { AreBelow (next_of gates.old) literals.old }
     requires room { next_of gates.old + rows_at (node_of n.now.net x.0) ≤ 2147483648 }
     ensures made { OnOk result (IsMadeAt n.now.net x.0 literals.old literals.new gates.new) }
+    ensures count { OnOk result (length gates.new.list ≡ length gates.old.list + gates_at (node_of n.now.net x.0)) }
     ensures below { OnOk result (AreBelow (next_of gates.new) literals.new) }
     ensures grows { OnOk result (Grows (rows_at (node_of n.now.net x.0)) gates.old gates.new) }
 {
@@ -122,7 +125,7 @@ fn is_table(n: &FlatNet, x: NetId) -> bool
 }
 
 /// Gives node x its literal where it is a table.
-#[tactic(auto, using(crate::proofs::Making::unmade, crate::proofs::Stacks::grows_none))]
+#[tactic(auto, using(crate::proofs::Making::unmade, crate::proofs::Stacks::grows_none, crate::proofs::Rows::takes_none))]
 fn make_node(
     alloc: Global,
     n: &FlatNet,
@@ -137,6 +140,7 @@ fn make_node(
     requires below { AreBelow (next_of gates.old) literals.old }
     requires room { next_of gates.old + rows_at (node_of n.now.net x.0) ≤ 2147483648 }
     ensures made { OnOk result (IsMadeAt n.now.net x.0 literals.old literals.new gates.new) }
+    ensures count { OnOk result (length gates.new.list ≡ length gates.old.list + gates_at (node_of n.now.net x.0)) }
     ensures below { OnOk result (AreBelow (next_of gates.new) literals.new) }
     ensures grows { OnOk result (Grows (rows_at (node_of n.now.net x.0)) gates.old gates.new) }
 {
@@ -160,6 +164,7 @@ fn make_tables(
     requires room { next_of gates.old + row_total n.now.net ≤ 2147483648 }
     ensures right { OnOk result (AreRight n.now.net n.now.order (length n.now.net.nodes) literals.old literals.new gates.new) }
     ensures others { OnOk result (OnlyTables n.now.net literals.old literals.new) }
+    ensures count { OnOk result (length gates.new.list ≡ length gates.old.list + gate_total n.now.net) }
     ensures below { OnOk result (AreBelow (next_of gates.new) literals.new) }
     ensures long { OnOk result (length literals.new ≡ length literals.old) }
     ensures grows { OnOk result (Grows (row_total n.now.net) gates.old gates.new) }

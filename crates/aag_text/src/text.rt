@@ -4,10 +4,11 @@ ghost use Rattle.std.specs.Fmt.{decimal};
 ghost use Rattle.flat_net.specs.Net.{net_count, node_of, name_of};
 ghost use Rattle.blif_writer.specs.Text.{line_text, lines_text};
 ghost use Rattle.aag_text.specs.Text.{variable_word, literal_word, start_words, header, header_line, latch_line, gate_line, aig_lines, symbol_lines, design_symbols, aag_text};
-ghost use Rattle.aag_text.specs.Nets.{plain_aig};
+ghost use Rattle.aag_text.specs.Aig.{plain_aig};
 ghost use Rattle.aag_text.specs.Same.{registers};
-ghost use Rattle.aag_text.specs.Puts.{symbol_line, register_symbols, next_symbol, spaced};
+ghost use Rattle.aag_text.specs.Private.Puts.{symbol_line, register_symbols, next_symbol, spaced};
 
+use crate::aig::literal_number;
 use crate::nets::is_register;
 use crate::{Aig, Gate, Header, Latch, Literal, Start};
 use flat_net::FlatNet;
@@ -31,8 +32,7 @@ fn put_variable(alloc: Global, out: &mut Vec<u8>, variable: u32) -> Result<(), A
 fn put_literal(alloc: Global, out: &mut Vec<u8>, l: Literal) -> Result<(), AllocError>
     ensures { OnOk result (out.new.items ≡ out.old.items ++ literal_word l) }
 {
-    let number = 2 * l.variable as u64;
-    put_number(alloc, out, if l.negated { number + 1 } else { number })
+    put_number(alloc, out, literal_number(l))
 }
 
 /// Puts a blank and the number.

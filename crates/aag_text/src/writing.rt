@@ -2,7 +2,7 @@
 ghost use Rattle.std.specs.Prelude.{◌≡◌, ◌+◌, ◌≤◌, length, IfOk};
 ghost use Rattle.flat_net.specs.Net.{net_count, pin_total};
 ghost use Rattle.hierarchy.specs.Sizes.{row_total};
-ghost use Rattle.aag_text.specs.Nets.{plain_aig};
+ghost use Rattle.aag_text.specs.Aig.{plain_aig};
 ghost use Rattle.aag_text.specs.Written.{IsFileOf, IsCountedFile};
 
 use crate::aig::Aig;

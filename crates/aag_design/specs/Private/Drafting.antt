@@ -3,10 +3,9 @@ use Rattle.std.specs.Prelude.{◌≡◌, ℕ, ◌+◌, ◌^◌, ◌<◌, ◌≤�
 use Rattle.tmr_base.specs.Numbers.{number_of}
 use Rattle.flat_net.specs.Draft.{PlainDraft}
 use Rattle.graph.specs.Turned.{IsTurned}
-use Rattle.aag_text.specs.Aig.{PlainAig}
-use Rattle.aag_text.specs.Nets.{plain_aig}
+use Rattle.aag_text.specs.Aig.{PlainAig, plain_aig}
+use Rattle.aag_text.specs.Variables.{defined, IsDefinedOnce, IsDefined}
 use Rattle.aag_reader.specs.declared.file.Graph.{Graph}
-use Rattle.aag_reader.specs.Faults.{defined, IsDefinedOnce, IsDefined}
 use Rattle.aag_design.specs.declared.fault.AagFault.{AagFault}
 use Rattle.aag_design.specs.declared.fault.AagFault.TheVariants.{Line, Doubled, Undefined, Loop, TooLarge, Memory}
 use Rattle.aag_design.specs.Draft.{map_from, each_node, numbered, starts_free, aig_elements}

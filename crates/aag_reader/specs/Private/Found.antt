@@ -4,7 +4,7 @@ use Rattle.flat_net.specs.First.{IsFirst}
 use Rattle.aag_text.specs.declared.aig.Gate.{Gate}
 use Rattle.aag_reader.specs.declared.fault.GraphFault.{GraphFault}
 use Rattle.aag_reader.specs.declared.fault.GraphFault.TheVariants.{Line, Doubled, Undefined, Memory}
-use Rattle.aag_reader.specs.Faults.{is_among}
+use Rattle.aag_text.specs.Variables.{is_among}
 
 abbrev pub gate_reads : Gate → List ℕ
 gate_reads g = g.left.variable ∷ g.right.variable ∷ []

@@ -1,6 +1,6 @@
 use Rattle.std.proofs.Common.{◌≡◌, ◌++◌, map, drop}
 use Rattle.aag_text.specs.declared.aig.Literal.{Literal}
-use Rattle.aag_text.specs.Nets.{plain_aig}
+use Rattle.aag_text.specs.Aig.{plain_aig}
 use Rattle.aag_design.specs.Draft.{net_name}
 use Rattle.aag_design.proofs.drafting.pins_of.Given as goal
 

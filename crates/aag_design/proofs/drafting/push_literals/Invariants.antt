@@ -1,5 +1,5 @@
 use Rattle.std.proofs.Common.{◌≡◌, ◌++◌, drop}
-use Rattle.aag_text.specs.Nets.{plain_aig}
+use Rattle.aag_text.specs.Aig.{plain_aig}
 use Rattle.aag_design.specs.Draft.{map_from, literal_element}
 use Rattle.aag_design.proofs.drafting.push_literals.Given as goal
 

@@ -1,4 +1,4 @@
-use Rattle.aag_text.specs.Nets.{plain_aig}
+use Rattle.aag_text.specs.Aig.{plain_aig}
 use Rattle.aag_design.proofs.FileFacts.{marks_fit}
 use Rattle.aag_design.proofs.file.marked.Goals as goal
 

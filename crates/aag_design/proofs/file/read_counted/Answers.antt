@@ -1,5 +1,5 @@
 use Rattle.std.proofs.Common.{◌∙◌, sym}
-use Rattle.aag_text.specs.Nets.{plain_aig}
+use Rattle.aag_text.specs.Aig.{plain_aig}
 use Rattle.aag_design.proofs.FileFacts.{small_text, large_text}
 use Rattle.aag_design.proofs.file.read_counted.Goals as goal
 

@@ -1,6 +1,6 @@
 use Rattle.std.proofs.Common.{◌≡◌, ◌∙◌, ◌++◌, ℕ, List, Bool, false, length, map, replicate, ap}
 use Rattle.aag_text.specs.declared.aig.Latch.{Latch}
-use Rattle.aag_text.specs.Nets.{plain_aig}
+use Rattle.aag_text.specs.Aig.{plain_aig}
 use Rattle.aag_design.specs.Draft.{starts_free}
 use Rattle.aag_design.proofs.MarkLists.{marks_join}
 use Rattle.aag_design.proofs.marks.marks_of.Goals as goal

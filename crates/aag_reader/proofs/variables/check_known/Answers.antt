@@ -1,5 +1,5 @@
 use Rattle.std.proofs.Common.{◌∙◌, sym, nat_eq, not, ◌||◌}
-use Rattle.aag_reader.specs.Faults.{is_among}
+use Rattle.aag_text.specs.Variables.{is_among}
 use Rattle.aag_reader.proofs.VariableLaws.{none_starts, none_goes, first_found}
 use Rattle.aag_reader.proofs.variables.check_known.Goals as goal
 

@@ -1,6 +1,6 @@
 use Rattle.std.proofs.Common.{nat_eq, take, not, ◌||◌}
 use Rattle.flat_net.specs.First.{HasNone}
-use Rattle.aag_reader.specs.Faults.{is_among}
+use Rattle.aag_text.specs.Variables.{is_among}
 use Rattle.aag_reader.proofs.variables.check_known.Given as goal
 
 abbrev pub invariant-loop-variable : goal.invariant-loop-variable

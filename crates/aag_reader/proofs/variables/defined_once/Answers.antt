@@ -1,5 +1,5 @@
 use Rattle.std.proofs.Common.{◌∙◌, ℕ, List, ap, sym, get_or}
-use Rattle.aag_reader.specs.Faults.{is_among}
+use Rattle.aag_text.specs.Variables.{is_among}
 use Rattle.aag_reader.proofs.VariableLaws.{keys_go, none_goes}
 use Rattle.aag_reader.proofs.variables.defined_once.Goals as goal
 

@@ -1,6 +1,6 @@
 use Rattle.std.proofs.Common.{◌≡◌, take}
 use Rattle.flat_net.specs.First.{HasNone}
-use Rattle.aag_reader.specs.Faults.{is_among}
+use Rattle.aag_text.specs.Variables.{is_among}
 use Rattle.aag_reader.proofs.variables.defined_once.Given as goal
 
 abbrev pub invariant-loop-variable : goal.invariant-loop-variable

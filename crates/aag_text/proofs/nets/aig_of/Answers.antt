@@ -4,7 +4,7 @@ use Rattle.flat_net.specs.Net.{Design, net_count}
 use Rattle.aag_text.specs.declared.aig.Literal.{Literal}
 use Rattle.aag_text.specs.Same.{registers}
 use Rattle.hierarchy.specs.Sizes.{row_total}
-use Rattle.aag_text.specs.Nets.{HasLiterals, literal_at, latch_at}
+use Rattle.aag_text.specs.Private.Nets.{HasLiterals, literal_at, latch_at}
 use Rattle.aag_text.proofs.Latches.{inputs_are}
 use Rattle.aag_text.proofs.nets.aig_of.Goals as goal
 

@@ -1,7 +1,7 @@
 use Rattle.std.proofs.Common.{◌∙◌, List, ap, sym, subst, length, arith}
 use Rattle.aag_text.specs.declared.aig.Literal.{Literal}
-use Rattle.aag_text.specs.Gates.{PlainGates, next_of}
-use Rattle.aag_text.specs.Nets.{HasLiterals, AreRight, OnlyTables}
+use Rattle.aag_text.specs.Private.Gates.{PlainGates, next_of}
+use Rattle.aag_text.specs.Private.Nets.{HasLiterals, AreRight, OnlyTables}
 use Rattle.aag_text.proofs.Firsts.{length-firsts, all_below, whole}
 use Rattle.aag_text.proofs.nets.all_literals.Goals as goal
 
@@ -25,6 +25,7 @@ returns c =
       right = subst (λ (f : List Literal). AreRight c.args.n.now.net c.args.n.now.order (length c.args.n.now.net.nodes) f c.make_tables.new.literals c.make_tables.new.gates) first c.in_ok-make_tables.ensures.right;
       others = subst (λ (f : List Literal). OnlyTables c.args.n.now.net f c.make_tables.new.literals) first c.in_ok-make_tables.ensures.others;
       first = omega (arith, grows.first, start, c.input_count-inputs.ensures.count, c.register_count.ensures);
+      count = let none = ap (λ (g : PlainGates). length g.list) c.new-gates.ensures in omega (arith, c.in_ok-make_tables.ensures.count, none);
       few = let none = ap (λ (g : PlainGates). length g.list) c.new-gates.ensures in omega (arith, grows.bound, none);
       below = c.in_ok-make_tables.ensures.below;
     })

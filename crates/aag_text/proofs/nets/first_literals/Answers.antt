@@ -1,7 +1,7 @@
 use Rattle.std.proofs.Common.{◌∙◌, ◌+◌, ◌++◌, List, ap, arith}
 use Rattle.std.specs.Prelude.{drop}
 use Rattle.aag_text.specs.declared.aig.Literal.{Literal}
-use Rattle.aag_text.specs.Nets.{node_literals}
+use Rattle.aag_text.specs.Private.Nets.{node_literals}
 use Rattle.aag_text.proofs.Firsts.{firsts_more, at_node, chosen_bound}
 use Rattle.aag_text.proofs.nets.first_literals.Goals as goal
 

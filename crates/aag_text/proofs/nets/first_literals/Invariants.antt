@@ -1,5 +1,5 @@
 use Rattle.std.proofs.Common.{◌≡◌, ◌+◌, ◌++◌, ◌≤◌, length, drop}
-use Rattle.aag_text.specs.Nets.{node_literals, first_literals}
+use Rattle.aag_text.specs.Private.Nets.{node_literals, first_literals}
 use Rattle.aag_text.proofs.nets.first_literals.Given as goal
 
 abbrev pub invariant-loop-i : goal.invariant-loop-i

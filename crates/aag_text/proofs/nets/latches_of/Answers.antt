@@ -1,5 +1,5 @@
 use Rattle.std.proofs.Common.{◌∙◌, ◌+◌, ◌++◌, ℕ, ap, arith}
-use Rattle.aag_text.specs.Nets.{latches_at}
+use Rattle.aag_text.specs.Private.Nets.{latches_at}
 use Rattle.aag_text.proofs.Latches.{latches_more, inputs_are, count_is}
 use Rattle.aag_text.proofs.nets.latches_of.Goals as goal
 

@@ -1,6 +1,6 @@
 use Rattle.std.proofs.Common.{◌≡◌, ◌+◌, ◌++◌, length, drop, map}
 use Rattle.aag_text.specs.Same.{registers, registers_from}
-use Rattle.aag_text.specs.Nets.{latch_at}
+use Rattle.aag_text.specs.Private.Nets.{latch_at}
 use Rattle.aag_text.proofs.nets.latches_of.Given as goal
 
 abbrev pub invariant-loop-i : goal.invariant-loop-i

@@ -1,7 +1,7 @@
 use Rattle.std.proofs.Common.{arith, ◌∙◌, ℕ, subst}
-use Rattle.aag_text.specs.Gates.{Grows}
+use Rattle.aag_text.specs.Private.Gates.{Grows}
 use Rattle.aag_text.proofs.Making.{made}
-use Rattle.aag_text.proofs.Rows.{cover_rows}
+use Rattle.aag_text.proofs.Rows.{cover_rows, cover_takes}
 use Rattle.aag_text.proofs.nets.make_table.Goals as goal
 
 pub table_literal-requires-clause-room : goal.table_literal-requires-clause-room
@@ -14,3 +14,6 @@ returns-clause-made c =
 
 pub returns-clause-grows : goal.returns-clause-grows
 returns-clause-grows c = subst (λ (count : ℕ). Grows count c.args.gates.now c.table_literal.new.gates) (cover_rows _ _ c.cover-cover.ensures.cover) c.in_ok-own.ensures.grows
+
+pub returns-clause-count : goal.returns-clause-count
+returns-clause-count c = let takes = cover_takes _ _ c.cover-cover.ensures.cover in omega (arith, takes, c.in_ok-own.ensures.count)

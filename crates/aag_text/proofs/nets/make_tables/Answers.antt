@@ -2,7 +2,8 @@ use Rattle.std.proofs.Common.{arith, refl, ◌∙◌}
 use Rattle.hierarchy.specs.Sizes.{row_total}
 use Rattle.aag_text.proofs.Stacks.{grows_none}
 use Rattle.aag_text.proofs.Making.{right_goes, only_goes, right_starts}
-use Rattle.aag_text.proofs.Rows.{all_rows, rows_more}
+use Rattle.aag_text.proofs.Rows.{all_rows, rows_more, all_gates, gates_more, gates_end}
+use Rattle.flat_net.proofs.Orders.{length-order}
 use Rattle.aag_text.proofs.nets.make_tables.Goals as goal
 
 pub loop-i-init : goal.loop-i-init
@@ -13,6 +14,7 @@ loop-i-init c = record {
   long = refl;
   zero = c.requires.zero;
   room = let rows = all_rows c.args.n.now.net c.args.n.now.order c.input_count.ensures.design.order in omega (arith, rows);
+  count = let gates = all_gates c.args.n.now.net c.args.n.now.order c.input_count.ensures.design.order in omega (arith, gates);
   grows = grows_none (row_total c.args.n.now.net) c.args.gates.now;
 }
 
@@ -33,6 +35,7 @@ loop-i-preserved c =
       long = c.in_ok-make_node.ensures.made.long ∙ c.loop-i.invariant.long;
       zero = omega (arith, c.loop-i.invariant.zero, grows.first, grows.longer);
       room = omega (arith, rows, c.loop-i.invariant.room, grows.first, grows.bound);
+      count = let more = gates_more c.args.n.now.net c.args.n.now.order c.loop-i.i c.ordered-x.result.0 c.ordered-x.ensures.ordered in omega (arith, more, c.loop-i.invariant.count, c.in_ok-make_node.ensures.count);
       grows = record {
         first = grows.first ∙ so_far.first;
         longer = omega (arith, so_far.longer, grows.longer);
@@ -40,3 +43,9 @@ loop-i-preserved c =
         met = λ values m. so_far.met values (grows.met values m);
       };
     }
+
+pub returns-clause-count : goal.returns-clause-count
+returns-clause-count c =
+    let long = length-order c.args.n.now.net c.args.n.now.order c.input_count.ensures.design.order in
+    let none = gates_end c.args.n.now.net c.args.n.now.order c.loop-i.i (omega (arith, long, c.loop-i-test.false, c.node_count-i-end.ensures)) in
+    omega (arith, none, c.loop-i.invariant.count)

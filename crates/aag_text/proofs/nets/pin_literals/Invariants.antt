@@ -1,7 +1,7 @@
 use Rattle.std.proofs.Common.{◌≡◌, ℕ, map, take}
 use Rattle.flat_net.specs.Net.{node_of, pins_at}
-use Rattle.aag_text.specs.Gates.{AreBelow}
-use Rattle.aag_text.specs.Nets.{literal_at}
+use Rattle.aag_text.specs.Private.Gates.{AreBelow}
+use Rattle.aag_text.specs.Private.Nets.{literal_at}
 use Rattle.aag_text.proofs.nets.pin_literals.Given as goal
 
 abbrev pub invariant-loop-j : goal.invariant-loop-j

@@ -5,7 +5,7 @@ use Rattle.aag_text.specs.declared.aig.Literal.{Literal}
 use Rattle.aag_text.specs.declared.aig.Latch.{Latch}
 use Rattle.aag_text.specs.declared.aig.Gate.{Gate}
 use Rattle.aag_text.specs.Text.{variable_word, literal_word, header_line, latch_line, gate_line}
-use Rattle.aag_text.specs.Nets.{plain_aig}
+use Rattle.aag_text.specs.Aig.{plain_aig}
 use Rattle.aag_text.proofs.Puts.{graph_put}
 use Rattle.aag_text.proofs.text.put_graph.Goals as goal
 

@@ -1,4 +1,4 @@
-use Rattle.aag_text.specs.Nets.{plain_aig}
+use Rattle.aag_text.specs.Aig.{plain_aig}
 use Rattle.aag_text.proofs.Puts.{file_put}
 use Rattle.aag_text.proofs.text.text_of.Goals as goal
 

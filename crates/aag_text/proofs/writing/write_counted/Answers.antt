@@ -3,9 +3,11 @@ use Rattle.flat_net.specs.Net.{Design, IsDesign}
 use Rattle.aag_text.specs.declared.aig.Latch.{Latch}
 use Rattle.aag_text.specs.Text.{aag_text}
 use Rattle.aag_text.specs.Lines.{IsFile}
-use Rattle.aag_text.specs.Nets.{plain_aig, latch_at}
+use Rattle.aag_text.specs.Private.Nets.{latch_at}
+use Rattle.aag_text.specs.Aig.{plain_aig}
 use Rattle.aag_text.specs.Same.{registers}
 use Rattle.aag_text.proofs.Agree.{map_map}
+use Rattle.aag_text.proofs.Defined.{well_defined, greater_first}
 use Rattle.aag_text.proofs.Within.{within, file_of}
 use Rattle.aag_text.proofs.writing.write_counted.Goals as goal
 
@@ -29,6 +31,9 @@ returns c =
         file = subst (λ (bytes : List ℕ). IsFile bytes a) (sym text) (file_of n a design.valid g (omega (arith, c.requires.few)) c.requires.small);
         inputs = g.inputs;
         starts = ap (map (λ (l : Latch). l.start)) g.latches ∙ map_map (λ (l : Latch). l.start) (latch_at n.design.net n.free g.literals) (registers n.design.net);
+        defined = well_defined n a design.valid g (omega (arith, c.requires.few)) c.requires.small;
+        gates = ap length g.list ∙ g.has.count;
+        greater = greater_first n a design.valid g (omega (arith, c.requires.few)) c.requires.small;
         same = c.does_the_same.ensures n a design g;
       };
       count = c.gate_count-gates.ensures;

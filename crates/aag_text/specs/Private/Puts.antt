@@ -1,7 +1,7 @@
--- For private functions alone: pieces of a graph's text.
+-- Pieces of a graph's text.
 use Rattle.std.specs.Prelude.{ℕ, ◌+◌, List, [], ◌∷◌, if◌then◌else◌}
 use Rattle.flat_net.specs.Net.{Net, node_of, name_of}
-use Rattle.aag_text.specs.Nets.{is_register_at}
+use Rattle.aag_text.specs.Private.Nets.{is_register_at}
 use Rattle.std.specs.List.{flat_map}
 use Rattle.std.specs.Fmt.{decimal}
 

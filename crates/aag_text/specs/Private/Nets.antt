@@ -1,4 +1,4 @@
--- For private functions alone: the literals of a design's nets, table by table.
+-- The literals of a design's nets, table by table.
 use Rattle.std.specs.Prelude.{◌≡◌, ℕ, ◌+◌, ◌<◌, ◌≤◌, Bool, false, List, [], ◌∷◌, ◌++◌, map, length, Option, Some, None, if◌then◌else◌, slice_index_or, slice_index}
 use Rattle.std.specs.List.{range_with_len}
 use Rattle.table_cover.specs.Cover.{cover_value}
@@ -7,15 +7,11 @@ use Rattle.flat_net.specs.Free.{FreeDesign, node_bit}
 use Rattle.net_meaning.specs.Meaning.{bit}
 use Rattle.aag_text.specs.declared.aig.Literal.{Literal}
 use Rattle.aag_text.specs.declared.aig.Latch.{Latch}
-use Rattle.aag_text.specs.Aig.{PlainAig, literal_value}
+use Rattle.aag_text.specs.Aig.{PlainAig, literal_value, positive}
 use Rattle.aag_text.specs.Same.{registers, register_start}
+use Rattle.aag_text.specs.Taken.{gate_total}
 use Rattle.hierarchy.specs.Sizes.{row_total}
-use Rattle.aag_text.specs.declared.aig.Aig.{Aig}
-use Rattle.aag_text.specs.Gates.{PlainGates, next_of, AreMet, AreStacked, AreBelow}
-
--- the literal of a variable as it is
-abbrev pub positive : ℕ → Literal
-positive v = record { variable = v; negated = false }
+use Rattle.aag_text.specs.Private.Gates.{PlainGates, next_of, AreMet, AreStacked, AreBelow}
 
 -- the literal of net x
 abbrev pub literal_at : List Literal → ℕ → Literal
@@ -88,10 +84,6 @@ latch_at n free literals x = record {
 abbrev pub latches_at : Net → List Bool → List Literal → ℕ → List Latch
 latches_at n free literals x = if is_register_at (node_of n x) then latch_at n free literals x ∷ [] else []
 
--- the lists of a graph
-abbrev pub plain_aig : Aig → PlainAig
-plain_aig a = record { inputs = a.inputs.items; latches = a.latches.items; outputs = a.outputs.items; gates = a.gates.items }
-
 -- the literals of all nets of a design, and the gates that they take
 pub record HasLiterals (d : Design) (literals : List Literal) (gates : PlainGates) : Type 0 where
   pub long : length literals ≡ net_count d.net
@@ -99,6 +91,7 @@ pub record HasLiterals (d : Design) (literals : List Literal) (gates : PlainGate
   pub others : OnlyTables d.net (first_literals d.net) literals
   pub first : gates.first ≡ length d.net.inputs + register_count d.net + 1
   pub few : length gates.list ≤ row_total d.net
+  pub count : length gates.list ≡ gate_total d.net
   pub below : AreBelow (next_of gates) literals
 
 -- the graph of a design, whose nets have these literals
