@@ -1,12 +1,15 @@
-//! Reads AIGER files, and prints the designs that they give.
+//! Reads and writes AIGER files.
 //!
-//! Standard input has a line for each case: the limit on the flat text, a blank, and the file, with `|` in place of each line's end.
-//! The line is printed again, and below it what it answers: the flat text of the design, written alike, and how many registers are
-//! free, or the first fault.
+//! Standard input has a line for each case: the limit on the flat text, a blank, and an AIGER file, with `|` in place of each line's end; or
+//! `write`, a blank, and a netlist, written alike. The line is printed again, and below it what it answers: the flat text of the file's
+//! design and how many registers are free, or the first fault; or the AIGER file of the netlist's design.
 #![tactic(auto)]
 
 ghost use Rattle.std.specs.Prelude.{◌≤◌, length};
 
+mod writing;
+
+use crate::writing::put_graph;
 use aag_design::{AagFault, read_aag};
 use blif_writer::write_free;
 use flat_net::FreeNet;
@@ -85,9 +88,13 @@ fn put_answer(
 /// What a case answers.
 fn answer(alloc: Global, case: &str) -> Result<String, AllocError> {
     let mut told = String::new(alloc);
-    let (limit, text) = case.split_once(' ').unwrap_or((case, ""));
+    let (word, text) = case.split_once(' ').unwrap_or((case, ""));
     let bytes = file_of(alloc, text)?;
-    match limit.parse::<u64>() {
+    if word == "write" {
+        put_graph(&mut told, alloc, bytes.as_slice())?;
+        return Ok(told);
+    }
+    match word.parse::<u64>() {
         Ok(limit) => put_answer(&mut told, alloc, bytes.as_slice(), limit)?,
         Err(_) => told.push_str("no limit")?,
     }

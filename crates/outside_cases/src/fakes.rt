@@ -7,13 +7,14 @@ use std::cell::Cell;
 use std::fmt::Display;
 use std::io;
 use std::io::{ErrorKind, Read};
-use tmr_outside::{Sink, StdSink, Taker, hand_out_within};
+use tmr_outside::{LONGEST_PIECE, Sink, StdSink, Taker, hand_out_within};
 
-/// Counts the bytes that it takes, and keeps none of them.
+/// Counts the bytes that it takes, and the pieces that are as long as a piece may be, and keeps none of them.
 #[derive(Drop)]
 pub struct ByteCount {
     pub count: u64,
     pub room: u64,
+    pub full: u64,
     ghost fits: { count + room < 2 ^ 64 },
 }
 
@@ -27,6 +28,9 @@ impl Taker for ByteCount {
     fn take(&mut self, piece: &[u8]) {
         self.room -= piece.len() as u64;
         self.count += piece.len() as u64;
+        if piece.len() == LONGEST_PIECE {
+            self.full = self.full.wrapping_add(1);
+        }
     }
 }
 
@@ -55,6 +59,7 @@ pub fn read_in_the_middle(alloc: Global, reads: u64, limit: u64) -> Result<Strin
     let mut taken = ByteCount {
         count: 0,
         room: limit,
+        full: 0,
     };
     let text = match hand_out_within(&mut file, limit, &mut taken) {
         Ok(()) => "whole",

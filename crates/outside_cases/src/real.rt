@@ -3,21 +3,54 @@ use crate::fakes::ByteCount;
 use crate::room::{load_fault, save_answer};
 use std::alloc::{AllocError, Global};
 use std::rt;
-use tmr_outside::{DiskFiles, Files};
+use tmr_outside::{DiskFiles, Files, LoadFault};
 
-/// What a load in pieces answers: how many bytes came.
-pub fn pieces<F: Files>(
+/// What came of a load in pieces.
+fn taken<F: Files>(
+    alloc: Global,
+    files: &mut F,
+    name: &str,
+    limit: u64,
+) -> Result<ByteCount, LoadFault> {
+    let mut taken = ByteCount {
+        count: 0,
+        room: limit,
+        full: 0,
+    };
+    match files.load_pieces(alloc, name, limit, &mut taken) {
+        Ok(()) => Ok(taken),
+        Err(fault) => Err(fault),
+    }
+}
+
+/// What a load in pieces answers: how many bytes came, and how many of the pieces were as long as a piece may be, where some were.
+pub fn full_pieces<F: Files>(
     alloc: Global,
     files: &mut F,
     name: &str,
     limit: u64,
 ) -> Result<String, AllocError> {
-    let mut taken = ByteCount {
-        count: 0,
-        room: limit,
-    };
-    match files.load_pieces(alloc, name, limit, &mut taken) {
-        Ok(()) => format!(in alloc; "{} bytes", taken.count),
+    match taken(alloc, files, name, limit) {
+        Ok(taken) => {
+            if taken.full > 0 {
+                format!(in alloc; "{} bytes, {} full pieces", taken.count, taken.full)
+            } else {
+                format!(in alloc; "{} bytes", taken.count)
+            }
+        }
+        Err(fault) => String::from_str(alloc, load_fault(fault)),
+    }
+}
+
+/// What a load in pieces answers: how many bytes came. How a real file is cut into pieces is not told.
+fn pieces<F: Files>(
+    alloc: Global,
+    files: &mut F,
+    name: &str,
+    limit: u64,
+) -> Result<String, AllocError> {
+    match taken(alloc, files, name, limit) {
+        Ok(taken) => format!(in alloc; "{} bytes", taken.count),
         Err(fault) => String::from_str(alloc, load_fault(fault)),
     }
 }

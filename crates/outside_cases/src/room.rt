@@ -1,6 +1,6 @@
 //! What the lines speak of.
 use crate::fakes::{part_of_a_put, read_in_the_middle};
-use crate::real::{pieces, real_file};
+use crate::real::{full_pieces, real_file};
 use std::alloc::{AllocError, Global};
 use std::{rt, str};
 use tmr_base::read_u64;
@@ -137,7 +137,7 @@ pub fn answer<R: rt::Files>(
             alloc,
             hold_long(alloc, &mut room.files, name, number(line, 2)),
         ),
-        "pieces" => pieces(alloc, &mut room.files, name, number(line, 2)),
+        "pieces" => full_pieces(alloc, &mut room.files, name, number(line, 2)),
         "read" => read_in_the_middle(alloc, number(line, 1), number(line, 2)),
         "out" => part_of_a_put(alloc, name, word(line, 2)),
         "disk" => real_file(rt, alloc, name, number(line, 2), number(line, 3)),
