@@ -33,7 +33,9 @@ fn design_answer(alloc: Global, texts: &Texts, verb: &str, rest: &str) -> Result
         "design" | "flatten" | "free" | "find" | "heads" => {
             designs::answer(alloc, texts, verb, rest)
         }
-        "parts" | "loops" | "depths" | "bound" => cuts::answer(alloc, texts, verb, rest),
+        "parts" | "loops" | "registers" | "depths" | "bound" => cuts::answer(
+            alloc, texts, verb, rest,
+        ),
         "partition" => partitions::answer(alloc, texts, rest),
         "clusters" => partitions::cluster_answer(alloc, texts, rest),
         "cert" | "certheads" | "check" | "least" => {
