@@ -3,7 +3,7 @@
 use crate::keeping::{Texts, keep};
 use crate::stop::{Stop, bad_case};
 use crate::words::first_word;
-use crate::{certificates, covers, cuts, designs, drafts, names, partitions, reading};
+use crate::{certificates, covers, cuts, designs, drafts, hardenings, names, partitions, reading};
 use std::alloc::Global;
 
 /// What the case of this line answers. A line without words and one of `#` answer nothing.
@@ -33,9 +33,12 @@ fn design_answer(alloc: Global, texts: &Texts, verb: &str, rest: &str) -> Result
         "design" | "flatten" | "free" | "find" | "heads" => {
             designs::answer(alloc, texts, verb, rest)
         }
-        "parts" | "loops" | "depths" | "bound" => cuts::answer(alloc, texts, verb, rest),
+        "parts" | "loops" | "registers" | "depths" | "bound" => cuts::answer(
+            alloc, texts, verb, rest,
+        ),
         "partition" => partitions::answer(alloc, texts, rest),
         "clusters" => partitions::cluster_answer(alloc, texts, rest),
+        "harden_free" | "harden_deep" => hardenings::answer(alloc, texts, verb, rest),
         "cert" | "certheads" | "check" | "least" => {
             certificates::answer(alloc, texts, verb, rest)
         }

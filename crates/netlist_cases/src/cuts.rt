@@ -9,7 +9,7 @@ use crate::designs::{design_of, node_id};
 use crate::keeping::Texts;
 use crate::stop::{Stop, bad_case};
 use crate::words::{first_word, number};
-use feedback_cut::{CutPins, LoopGroups, components, cut};
+use feedback_cut::{CutPins, LoopGroups, components, cut, cut_registers};
 use flat_net::FlatNet;
 use recovery_depth::{DepthTable, Extra, bound, depths};
 use std::alloc::{AllocError, Global};
@@ -71,6 +71,15 @@ fn cut_pins(alloc: Global, n: &FlatNet, parts: &Parts) -> Result<CutPins, Stop>
     ensures { IfOk result (λ pins. CutsLoops n.now.net parts.now pins) }
 {
     Ok(cut(alloc, n, parts)?)
+}
+
+/// The pins that are cut at registers.
+fn register_pins(alloc: Global, n: &FlatNet, parts: &Parts) -> Result<CutPins, Stop>
+    requires { length parts.now.of ≡ length n.now.net.nodes }
+    ensures { IfOk result (λ pins. CutsLoops n.now.net parts.now pins) }
+{
+    let found = cut_registers(alloc, n, parts)?;
+    Ok(found.cut)
 }
 
 /// The component of each node.
@@ -151,12 +160,27 @@ fn loops_of(
     Ok(text)
 }
 
-fn loops_text(alloc: Global, n: &FlatNet, parts: &Parts) -> Result<String, Stop>
-    requires { length parts.now.of ≡ length n.now.net.nodes }
+/// The same with the components counted anew.
+fn loops_text(alloc: Global, n: &FlatNet, parts: &Parts, pins: &CutPins) -> Result<String, Stop>
+    requires parts { length parts.now.of ≡ length n.now.net.nodes }
+    requires pins { CutsLoops n.now.net parts.now pins.now }
 {
     let groups = groups_of(alloc, n, parts)?;
+    Ok(loops_of(alloc, n, &groups, pins, parts)?)
+}
+
+fn cut_text(alloc: Global, n: &FlatNet, parts: &Parts) -> Result<String, Stop>
+    requires { length parts.now.of ≡ length n.now.net.nodes }
+{
     let pins = cut_pins(alloc, n, parts)?;
-    Ok(loops_of(alloc, n, &groups, &pins, parts)?)
+    loops_text(alloc, n, parts, &pins)
+}
+
+fn registers_text(alloc: Global, n: &FlatNet, parts: &Parts) -> Result<String, Stop>
+    requires { length parts.now.of ≡ length n.now.net.nodes }
+{
+    let pins = register_pins(alloc, n, parts)?;
+    loops_text(alloc, n, parts, &pins)
 }
 
 /// The labels of all nodes and the depths of all partitions.
@@ -258,7 +282,8 @@ fn answer_of(
 {
     let parts = parts_of(alloc, count, digits, n.node_count())?;
     match verb {
-        "loops" => loops_text(alloc, n, &parts),
+        "loops" => cut_text(alloc, n, &parts),
+        "registers" => registers_text(alloc, n, &parts),
         _ => depths_text(alloc, n, &parts),
     }
 }
@@ -339,7 +364,7 @@ fn bounded(alloc: Global, texts: &Texts, rest: &str) -> Result<String, Stop> {
     bound_answer(alloc, bytes.as_slice(), most, count, digits.as_bytes())
 }
 
-/// `parts COUNT DIGITS`, `loops COUNT DIGITS TEXT`, `depths COUNT DIGITS TEXT` and `bound MOST COUNT DIGITS TEXT`.
+/// `parts COUNT DIGITS`, `loops COUNT DIGITS TEXT`, `registers COUNT DIGITS TEXT`, `depths COUNT DIGITS TEXT` and `bound MOST COUNT DIGITS TEXT`.
 pub fn answer(alloc: Global, texts: &Texts, verb: &str, rest: &str) -> Result<String, Stop> {
     match verb {
         "bound" => bounded(alloc, texts, rest),
