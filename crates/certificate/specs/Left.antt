@@ -1,4 +1,4 @@
--- What is still to be written of a certificate's text.
+-- What is still to be written of a certificate's text. Private functions alone cite it.
 use Rattle.std.specs.Prelude.{ℕ, ◌+◌, List, drop}
 use Rattle.std.specs.List.{flat_map}
 use Rattle.flat_net.specs.Net.{Net}

@@ -1,4 +1,4 @@
--- What is read, without where it lies in memory.
+-- What is read, without where it lies in memory. Private functions alone cite it.
 use Rattle.std.specs.Prelude.{◌≡◌, ℕ, ◌<◌, ◌≤◌, List, map, length}
 use Rattle.tmr_base.specs.Copies.{Three}
 use Rattle.flat_net.specs.Net.{Net, net_count}

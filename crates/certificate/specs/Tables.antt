@@ -1,4 +1,4 @@
--- What the tables that reading fills say, with what is left of the text.
+-- What the tables that reading fills say, with what is left of the text. Private functions alone cite it.
 use Rattle.std.specs.Prelude.{ℕ, List, map}
 use Rattle.certificate.specs.declared.role.Role.{Role}
 use Rattle.certificate.specs.declared.reading.NodeTable.{NodeTable}

@@ -17,7 +17,7 @@ pub record SameFrame (a b : Net) : Type 0 where
 
 -- the least rule that fails, and the first place where it does: rule 1 is the frame, which has no place; rule 2 the nodes, whose
 -- place counts among nodes; rule 3 the outputs
-pub record FailsFirst (a b : Net) (rule at : ℕ) : Type 0 where
+pub record BreaksFirst (a b : Net) (rule at : ℕ) : Type 0 where
   pub known : (0 < rule) × (rule < 4)
   pub frame : rule ≡ 1 → (at ≡ 0) × (SameFrame a b → ⊥)
   pub later : 1 < rule → SameFrame a b
@@ -27,4 +27,4 @@ pub record FailsFirst (a b : Net) (rule at : ℕ) : Type 0 where
 -- the answer to whether b is a
 abbrev pub IsAnswer : Net → Net → GuardAnswer → Type 0
 IsAnswer a b Guarded = a ≡ b
-IsAnswer a b (Not rule at) = FailsFirst a b rule at
+IsAnswer a b (Not rule at) = BreaksFirst a b rule at

@@ -20,9 +20,8 @@ use tmr_base::OutOfMemory;
 /// roles, and the original registers of a longest chain, first to last. The rules are those of the
 /// certificate's version, and no register counts as marked.
 ///
-/// The depth is the most registers of a walk of copies in the partition. The chain lies in the lowest copy
-/// that has one, ends in the register of least number, and has before each register the one of least
-/// number that is possible.
+/// The depth is the most registers of a walk of copies in the partition. Of several longest chains it takes one that lies
+/// in the lowest copy and goes through registers of low numbers; no clause says which.
 pub fn least(
     alloc: Global,
     n: &FlatNet,

@@ -16,8 +16,8 @@ use Rattle.feedback_cut.specs.Components.{PlainGroups, component_of, has_loop}
 use Rattle.recovery_depth.specs.Walks.{is_marked}
 use Rattle.partitioner.specs.Below.{count_below, one_if}
 use Rattle.partitioner.proofs.BelowLaws.{count_none, count_same, count_le}
-use Rattle.reports.specs.Counts.{partitions, heads_loop}
-use Rattle.reports.specs.Private.Left.{AreCountsOf}
+use Rattle.reports.specs.Counts.{partitions}
+use Rattle.reports.specs.Private.Left.{AreCountsOf, heads_loop}
 
 -- ---- numbers of a partition
 

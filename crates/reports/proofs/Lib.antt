@@ -2,3 +2,4 @@ pub mod CountLaws
 pub mod WordLaws
 pub mod LineLaws
 pub mod ChainLaws
+pub mod LoopCounts

@@ -9,7 +9,7 @@ use Rattle.flat_net.specs.Net.{Net}
 use Rattle.certificate.specs.Cert.{PlainCert, depth_of}
 use Rattle.recovery_depth.specs.Depths.{is_register_at}
 use Rattle.reports.specs.declared.writing.PartCounts.{PartCounts}
-use Rattle.reports.specs.Counts.{count_in, any_node, heads_loop}
+use Rattle.reports.specs.Counts.{count_in, any_node, loops_in}
 use Rattle.certificate.specs.Text.{line_text}
 use Rattle.feedback_cut.specs.Components.{PlainGroups}
 use Rattle.recovery_depth.specs.declared.deep.Deep.{Deep}
@@ -46,5 +46,5 @@ pub words_are : (n : Net) (k : PlainCert) (counts : PartCounts) (p a b c e : ℕ
 words_are n k counts p a b c e d is h ea eb ec ee =
     let x : a ≡ count_in k any_node p = ea ∙ is.nodes.count p h in
     let y : b ≡ count_in k (is_register_at n) p = eb ∙ is.registers.count p h in
-    let z : c ≡ count_in k (heads_loop counts.groups) p = ec ∙ is.loops.count p h in
+    let z : c ≡ loops_in k counts.groups p = ec ∙ is.loops.count p h in
     λ i. decimal p ∷ codes "nodes" ∷ decimal (x i) ∷ codes "registers" ∷ decimal (y i) ∷ codes "loops" ∷ decimal (z i) ∷ codes "depth" ∷ decimal (ee i) ∷ codes "least" ∷ decimal d.depth ∷ codes "chain" ∷ []

@@ -1,6 +1,6 @@
 -- What a report counts. k is the certificate of a hardened design; nodes of the original are counted from 0, in their order.
-use Rattle.std.specs.Prelude.{ℕ, ◌==◌, Bool, true, false, not, ◌&&◌, length, take, slice_index, Option, Some, None, nat_eq}
-use Rattle.std.specs.List.{list_any}
+use Rattle.std.specs.Prelude.{ℕ, ◌==◌, Bool, true, false, not, ◌&&◌, length, slice_index, Option, Some, None}
+use Rattle.std.specs.List.{list_any, range_with_len}
 use Rattle.tmr_base.specs.Parts.{PlainParts}
 use Rattle.certificate.specs.declared.role.Role.{Role}
 use Rattle.certificate.specs.declared.role.Role.TheVariants.{Copy, Voter}
@@ -47,6 +47,10 @@ count_in k test p = count_below (length k.part) (λ x. slice_index k.part x == p
 abbrev pub any_node : ℕ → Bool
 any_node x = true
 
--- the component of node x has a loop, and x is the first of its nodes: each component with a loop has one such node
-abbrev pub heads_loop : PlainGroups → ℕ → Bool
-heads_loop g x = has_loop g (component_of g x) && not (list_any (nat_eq (component_of g x)) (take x g.of))
+-- some node of partition p stands in component j
+abbrev pub stands_in : PlainCert → PlainGroups → ℕ → ℕ → Bool
+stands_in k g p j = list_any (λ x. slice_index k.part x == p && component_of g x == j) (range_with_len 0 (length k.part))
+
+-- how many components of partition p have a loop
+abbrev pub loops_in : PlainCert → PlainGroups → ℕ → ℕ
+loops_in k g p = count_below (length g.loops) (λ j. has_loop g j && stands_in k g p j)

@@ -11,7 +11,7 @@ use Rattle.recovery_depth.specs.declared.deep.Deep.{Deep}
 use Rattle.recovery_depth.specs.Depths.{is_register_at}
 use Rattle.recovery_depth.specs.Least.{AreDeep, AreLeast, AreAdmitted}
 use Rattle.partitioner.specs.Cost.{cost}
-use Rattle.reports.specs.Counts.{partitions, is_border_voter, is_feedback_voter, is_input_voter, count_in, any_node, heads_loop}
+use Rattle.reports.specs.Counts.{partitions, is_border_voter, is_feedback_voter, is_input_voter, count_in, any_node, loops_in}
 
 -- in version 2 inputs have voters too
 abbrev pub input_words : PlainCert → List (List ℕ)
@@ -35,7 +35,7 @@ part_words n k g p d =
     decimal p ∷
     codes "nodes" ∷ decimal (count_in k any_node p) ∷
     codes "registers" ∷ decimal (count_in k (is_register_at n) p) ∷
-    codes "loops" ∷ decimal (count_in k (heads_loop g) p) ∷
+    codes "loops" ∷ decimal (loops_in k g p) ∷
     codes "depth" ∷ decimal (depth_of k p) ∷
     codes "least" ∷ decimal d.depth ∷
     codes "chain" ∷ []

@@ -2,7 +2,7 @@
 ghost use Rattle.std.specs.Prelude.{◌≡◌, ◌&&◌, ◌<◌, ℕ, not, length, map, IfOk};
 ghost use Rattle.std.specs.List.{range_with_len};
 ghost use Rattle.feedback_cut.specs.Components.{component_of};
-ghost use Rattle.reports.specs.Counts.{heads_loop};
+ghost use Rattle.reports.specs.Private.Left.{heads_loop};
 
 use feedback_cut::LoopGroups;
 use std::alloc::Global;

@@ -8,7 +8,7 @@ ghost use Rattle.certificate.specs.Cert.{Fits};
 ghost use Rattle.certificate.specs.Text.{line_text};
 ghost use Rattle.recovery_depth.specs.Depths.{is_register_at};
 ghost use Rattle.partitioner.specs.Cost.{cost as cost_of};
-ghost use Rattle.reports.specs.Counts.{partitions, is_border_voter, is_feedback_voter, is_input_voter, count_in, any_node, heads_loop};
+ghost use Rattle.reports.specs.Counts.{partitions, is_border_voter, is_feedback_voter, is_input_voter, count_in, any_node, loops_in};
 ghost use Rattle.reports.specs.Report.{head_lines, input_words, voters_line, part_line, part_words, chain_words};
 ghost use Rattle.reports.specs.Private.Left.{spaced, parts_left, AreCounted, AreNets};
 

@@ -3,7 +3,7 @@ use Rattle.std.proofs.Common.{◌≡◌, ℕ, zero, suc, Bool, List, [], ◌∷�
 use Rattle.std.specs.Prelude.{count_by, slice_get}
 use Rattle.flat_net.specs.Net.{Net}
 use Rattle.blif_writer.specs.Text.{flat_text}
-use Rattle.dwc.specs.Answer.{FailsFirst}
+use Rattle.dwc.specs.Answer.{BreaksFirst}
 use Rattle.dwc.specs.Guard.{guard_net}
 use Rattle.dwc.specs.Tells.{Guards}
 use Rattle.tmr_outside.specs.Contents.{Contents}
@@ -52,7 +52,7 @@ module _ (held : Contents) (w : Guarding) (n g : Net) (a b : List Bool) (r : Wor
       )
       (λ p is. cc)
 
-  pub no_guard_work : (rule place : ℕ) → FailsFirst (guard_net n) g rule place → r.verdict ≡ NotAccepted → r.text.items ≡ not_guarded_line rule place → IsWork (CheckGuard w) held r
+  pub no_guard_work : (rule place : ℕ) → BreaksFirst (guard_net n) g rule place → r.verdict ≡ NotAccepted → r.text.items ≡ not_guarded_line rule place → IsWork (CheckGuard w) held r
   no_guard_work rule place first is says =
       outcome_work (CheckGuard w) held r NotAccepted is
       (record {
@@ -79,7 +79,7 @@ original_unread_work held w reason r unread refused says =
 pub ruleset original_texts = (original_unread_work)
 
 -- a design differs nowhere from itself
-pub no_failure : (a b : Net) (rule place : ℕ) → a ≡ b → FailsFirst a b rule place → ⊥
+pub no_failure : (a b : Net) (rule place : ℕ) → a ≡ b → BreaksFirst a b rule place → ⊥
 no_failure a b zero place is fails = absurd (omega (arith, fails.known.0))
 no_failure a b (suc zero) place is fails = (fails.frame refl).1 (record { model = ap (λ (d : Net). d.model) is; inputs = ap (λ (d : Net). d.inputs) is; clock = ap (λ (d : Net). d.clock) is })
 no_failure a b (suc (suc zero)) place is fails = (fails.nodes refl).differ (ap (λ (d : Net). slice_get d.nodes place) is)

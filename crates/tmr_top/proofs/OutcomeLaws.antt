@@ -14,7 +14,7 @@ use Rattle.tmr_top.specs.Flattened.{Flattened}
 use Rattle.tmr_top.specs.Reported.{Reported}
 use Rattle.tmr_top.specs.Guarded.{Guarded, GuardChecked, IsUnguarded, IsGuardUnread, ReadGuard}
 use Rattle.tmr_top.specs.Graphed.{Graphed}
-use Rattle.dwc.specs.Answer.{FailsFirst}
+use Rattle.dwc.specs.Answer.{BreaksFirst}
 use Rattle.dwc.specs.Guard.{guard_net}
 use Rattle.tmr_top.specs.Outcomes.{Outcome}
 use Rattle.tmr_top.proofs.GuardLaws.{no_failure}
@@ -142,7 +142,7 @@ module _ (w : Guarding) (held : Contents) where
   guard_or_unread text one (inr unread) = design_or_none held (hardened_file w.guarded) one.guarded one.guarded_free unread.reason one.guarded_read unread.unread
 
   -- a guarded design is no other one
-  guard_or_other : (one other : ReadGuard w held) (rule place : ℕ) → guard_net one.original ≡ one.guarded → FailsFirst (guard_net other.original) other.guarded rule place → ⊥
+  guard_or_other : (one other : ReadGuard w held) (rule place : ℕ) → guard_net one.original ≡ one.guarded → BreaksFirst (guard_net other.original) other.guarded rule place → ⊥
   guard_or_other one other rule place is fails =
       let original = one_design held (original_file w.original) one.original other.original one.free other.free one.original_read other.original_read in
       let guarded = one_design held (hardened_file w.guarded) one.guarded other.guarded one.guarded_free other.guarded_free one.guarded_read other.guarded_read in

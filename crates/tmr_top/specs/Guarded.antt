@@ -2,7 +2,7 @@
 use Rattle.std.specs.Prelude.{◌≡◌, ◌⊎◌, ℕ, Bool, List, [], ◌∷◌, count_by}
 use Rattle.flat_net.specs.Net.{Net}
 use Rattle.blif_writer.specs.Text.{flat_text}
-use Rattle.dwc.specs.Answer.{FailsFirst}
+use Rattle.dwc.specs.Answer.{BreaksFirst}
 use Rattle.dwc.specs.Guard.{guard_net}
 use Rattle.dwc.specs.Tells.{Guards}
 use Rattle.tmr_outside.specs.Contents.{Contents}
@@ -54,7 +54,7 @@ pub record IsNoGuard (w : Guarding) (held : Contents) (text : List ℕ) : Type 0
   pub files : ReadGuard w held
   pub rule : ℕ
   pub place : ℕ
-  pub first : FailsFirst (guard_net files.original) files.guarded rule place
+  pub first : BreaksFirst (guard_net files.original) files.guarded rule place
   pub says : text ≡ not_guarded_line rule place
 
 -- the original is read, and the other file is no design

@@ -1,4 +1,4 @@
--- The first number that fails.
+-- The first number that fails. Private functions alone cite it.
 use Rattle.std.specs.Prelude.{ℕ, ◌<◌, Option, Some, None}
 
 -- the first number of which P does not hold; None where it holds of all

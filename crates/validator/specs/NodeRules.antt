@@ -1,4 +1,4 @@
--- The rules of single nodes. f and g are the marks of n and h.
+-- The rules of single nodes. f and g are the marks of n and h. Private functions alone cite it.
 use Rattle.std.specs.Prelude.{ℕ, Bool, List}
 use Rattle.flat_net.specs.Net.{Net}
 use Rattle.certificate.specs.Cert.{PlainCert}

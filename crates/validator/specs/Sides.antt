@@ -1,4 +1,4 @@
--- One of the two designs, and the marks of it that count.
+-- One of the two designs, and the marks of it that count. Private functions alone cite it.
 use Rattle.std.specs.Prelude.{Bool, List, []}
 use Rattle.flat_net.specs.Net.{Net}
 use Rattle.validator.specs.declared.side.Side.{Side}

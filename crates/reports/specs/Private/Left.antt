@@ -1,16 +1,16 @@
 -- Pieces of a report that is being written.
-use Rattle.std.specs.Prelude.{◌≡◌, ℕ, ◌<◌, Bool, List, [], ◌∷◌, ◌++◌, drop, length, map, All, slice_get, slice_index, Some}
-use Rattle.std.specs.List.{flat_map}
+use Rattle.std.specs.Prelude.{◌≡◌, ℕ, ◌<◌, ◌&&◌, Bool, not, nat_eq, take, List, [], ◌∷◌, ◌++◌, drop, length, map, All, slice_get, slice_index, Some}
+use Rattle.std.specs.List.{flat_map, list_any}
 use Rattle.tmr_base.specs.declared.ids.PartId.{PartId}
 use Rattle.flat_net.specs.Net.{Net, net_count}
 use Rattle.flat_net.specs.Nodes.{number_of}
 use Rattle.certificate.specs.Cert.{PlainCert}
 use Rattle.certificate.specs.Text.{line_text}
-use Rattle.feedback_cut.specs.Components.{PlainGroups}
+use Rattle.feedback_cut.specs.Components.{PlainGroups, component_of, has_loop}
 use Rattle.recovery_depth.specs.declared.deep.Deep.{Deep}
 use Rattle.recovery_depth.specs.Depths.{is_register_at}
 use Rattle.reports.specs.declared.writing.PartCounts.{PartCounts}
-use Rattle.reports.specs.Counts.{count_in, any_node, heads_loop}
+use Rattle.reports.specs.Counts.{count_in, any_node, loops_in}
 use Rattle.reports.specs.Report.{part_lines}
 
 -- words, a blank before each
@@ -30,11 +30,20 @@ pub record AreCountsOf (k : PlainCert) (test : ℕ → Bool) (counts : List ℕ)
   pub long : length counts ≡ length k.depth
   pub count : (p : ℕ) → p < length k.depth → slice_index counts p ≡ count_in k test p
 
+-- the component of node x has a loop, and x is the first of its nodes: each component with a loop has one such node
+abbrev pub heads_loop : PlainGroups → ℕ → Bool
+heads_loop g x = has_loop g (component_of g x) && not (list_any (nat_eq (component_of g x)) (take x g.of))
+
+-- a number for each partition, which counts its components with a loop
+pub record AreLoopsOf (k : PlainCert) (g : PlainGroups) (counts : List ℕ) : Type 0 where
+  pub long : length counts ≡ length k.depth
+  pub count : (p : ℕ) → p < length k.depth → slice_index counts p ≡ loops_in k g p
+
 -- the numbers count the nodes, the registers and the loops
 pub record AreCounted (n : Net) (k : PlainCert) (counts : PartCounts) : Type 0 where
   pub nodes : AreCountsOf k any_node counts.nodes.items
   pub registers : AreCountsOf k (is_register_at n) counts.registers.items
-  pub loops : AreCountsOf k (heads_loop counts.groups) counts.loops.items
+  pub loops : AreLoopsOf k counts.groups counts.loops.items
 
 -- chains are of nets
 abbrev pub AreNets : Net → List Deep → Type 0

@@ -1,7 +1,7 @@
 use Rattle.std.proofs.Common.{◌≡◌, refl, sym, ap, subst, ◌∙◌}
 use Rattle.flat_net.specs.Net.{Design}
 use Rattle.dwc.specs.declared.check.GuardAnswer.{GuardAnswer}
-use Rattle.dwc.specs.Answer.{FailsFirst, IsAnswer}
+use Rattle.dwc.specs.Answer.{BreaksFirst, IsAnswer}
 use Rattle.dwc.specs.Guard.{guard_net}
 use Rattle.dwc.specs.Tells.{Guards}
 use Rattle.tmr_top.specs.FileWords.{guarding_in, texts_in}
@@ -23,9 +23,9 @@ pub returns-in_ok-text-in-Not-clause-work : goal.returns-in_ok-text-in-Not-claus
 returns-in_ok-text-in-Not-clause-work c = λ held one other.
     let n = c.args.n.now.design.net in
     let g = c.args.g.now.design.net in
-    let found : FailsFirst (guard_net c.net.result.now.net) c.net-2.result.now.net c.in-Not.rule c.in-Not.at =
+    let found : BreaksFirst (guard_net c.net.result.now.net) c.net-2.result.now.net c.in-Not.rule c.in-Not.at =
     subst (λ (a : GuardAnswer). IsAnswer (guard_net c.net.result.now.net) c.net-2.result.now.net a) c.in-Not.is c.in_ok-check_guard.ensures.answer in
-    let first : FailsFirst (guard_net n) g c.in-Not.rule c.in-Not.at =
-    subst (λ (d : Design). FailsFirst (guard_net n) d.net c.in-Not.rule c.in-Not.at) c.net-2.ensures.net
-    (subst (λ (d : Design). FailsFirst (guard_net d.net) c.net-2.result.now.net c.in-Not.rule c.in-Not.at) c.net.ensures.net found) in
+    let first : BreaksFirst (guard_net n) g c.in-Not.rule c.in-Not.at =
+    subst (λ (d : Design). BreaksFirst (guard_net n) d.net c.in-Not.rule c.in-Not.at) c.net-2.ensures.net
+    (subst (λ (d : Design). BreaksFirst (guard_net d.net) c.net-2.result.now.net c.in-Not.rule c.in-Not.at) c.net.ensures.net found) in
     no_guard_work held (guarding_in c.args.words.now) n g c.args.n.now.free c.args.g.now.free _ one other c.in-Not.rule c.in-Not.at first refl c.in_ok-text-in-Not.ensures
