@@ -51,7 +51,7 @@ rounded_up m size pos = grind (arith)
 -- neither form has more partitions than the size asks for
 parts_count : (kind : Form) (n : Net) (size : ℕ) (parts : PlainParts) → ArePartsOf kind n size parts → parts.count ≤ div_ceil (length n.nodes) size
 parts_count Plain n size parts e = omega (arith, ap (λ (p : PlainParts). p.count) e ∙ refined_keeps_count n size (plain_parts n size) 8)
-parts_count Lean n size parts e = omega (arith, ap (λ (p : PlainParts). p.count) e.exact ∙ refined_keeps_count n size e.start 8, e.keeps.count)
+parts_count Lean n size parts e = e.keeps.count
 
 few_parts : (kind : Form) (n : Net) (k : PlainCert) (size : ℕ) → 0 < size → ArePartsOf kind n size (parts_of k) → length k.depth ≤ length n.nodes
 few_parts kind n k size pos e = omega (arith, parts_count kind n size (parts_of k) e, rounded_up (length n.nodes) size pos)

@@ -1,5 +1,5 @@
 -- What hardening makes is made from what it has to be.
-use Rattle.std.proofs.Common.{◌≡◌, ◌+◌, ◌<◌, ◌≤◌, ℕ, Bool, List, length, sym, subst, arith}
+use Rattle.std.proofs.Common.{◌≡◌, ◌+◌, ◌≤◌, ℕ, Bool, List, length, sym, subst, arith}
 use Rattle.tmr_base.specs.Parts.{PlainParts, AreParts}
 use Rattle.flat_net.specs.Net.{Net, net_count, pin_total, IsValid}
 use Rattle.flat_net.specs.Free.{AreMarks}

@@ -1,7 +1,6 @@
-use Rattle.std.proofs.Common.{◌≡◌, length, sym, ◌∙◌, ap}
+use Rattle.std.proofs.Common.{length, ◌∙◌, ap}
 use Rattle.tmr_base.specs.Parts.{PlainParts}
 use Rattle.partitioner.specs.Cost.{cost}
-use Rattle.partitioner.specs.Sizes.{plain_parts}
 use Rattle.partitioner.specs.Refining.{refined}
 use Rattle.partitioner.proofs.RefineLaws.{refined_keeps}
 use Rattle.triplicate.proofs.choosing.plain_partitions.Goals as goal
