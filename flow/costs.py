@@ -70,7 +70,7 @@ def place(work: Work, args: argparse.Namespace) -> Placed:
         run(["yosys", "-q", "-s", args.recipe], folder)
         found = measured(run(["nextpnr-ice40", "--" + args.device, "--package", args.package, "--json", "hard.json",
                               "--asc", "hard.asc", "--seed", str(work.seed)], folder))
-    print("seed %d %s: %d cells, %.1f MHz" % (work.seed, " ".join(work.words or ("original",)), *found), file=sys.stderr)
+    print("seed %s %s: %d cells, %.1f MHz" % (work.seed, " ".join(work.words or ("original",)), *found), file=sys.stderr)
     return found
 
 

@@ -203,7 +203,7 @@ class Count:
         if key[0] == "extra":
             return "a pad onto a clock network"
         x, y, at = key
-        found = {what[0] if what[0] not in SWITCHES else re.sub(r"\d+", "#", what[2])
+        found = {re.sub(r"\d+", "#", what[2] if what[0] in SWITCHES else ".".join(what))
                  for ones, zeros, what in self.chip.of(x, y) if (ones | zeros) >> at & 1}
         return ", ".join(sorted(found))
 
