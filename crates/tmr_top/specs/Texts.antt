@@ -83,8 +83,21 @@ line_reason line kind = joined (codes "line " ∷ decimal line ∷ codes ": " �
 unfoldable pub save_fault_line : List ℕ → List ℕ
 save_fault_line file = joined (codes "fault: save " ∷ file ∷ codes "\n" ∷ [])
 
+-- how the program is called
 unfoldable pub usage_text : List ℕ
-usage_text = codes "usage: tmr validate ORIG HARD CERT\n       tmr harden ORIG HARD CERT [--size S] [--cert V] [--depth D]\n       tmr flatten ORIG FLAT\n       tmr replay ORIG HARD CERT SCHED\n       tmr report ORIG HARD CERT\n       tmr trial NUMBER NODES\n       tmr guard ORIG GUARDED\n       tmr guarded ORIG GUARDED\n       tmr to-aag ORIG AAG\n       tmr from-aag AAG FLAT\n       tmr wave ORIG HARD CERT SCHED VCD\n"
+usage_text = joined (
+    codes "usage: tmr validate ORIG HARD CERT\n"
+    ∷ codes "       tmr harden ORIG HARD CERT [--size S] [--cert V] [--depth D] [--form F]\n"
+    ∷ codes "       tmr flatten ORIG FLAT\n"
+    ∷ codes "       tmr replay ORIG HARD CERT SCHED\n"
+    ∷ codes "       tmr report ORIG HARD CERT\n"
+    ∷ codes "       tmr trial NUMBER NODES\n"
+    ∷ codes "       tmr guard ORIG GUARDED\n"
+    ∷ codes "       tmr guarded ORIG GUARDED\n"
+    ∷ codes "       tmr to-aag ORIG AAG\n"
+    ∷ codes "       tmr from-aag AAG FLAT\n"
+    ∷ codes "       tmr wave ORIG HARD CERT SCHED VCD\n"
+    ∷ [])
 
 unfoldable pub memory_text : List ℕ
 memory_text = codes "want of memory\n"
