@@ -1,7 +1,8 @@
 //! Partitions made of clusters: nodes that nets tie together stand in one partition.
 //!
-//! The layers above may rely on this: `clusters` keeps the rule of sizes. Which nodes stand together is no clause; their cost tells what
-//! that is worth. So of all but the last pass (`settling`) it is proved that it is safe and ends, and nothing else.
+//! The layers above may rely on this: `clusters` and `settled_parts` keep the rule of sizes. Which nodes stand together is no clause;
+//! their cost tells what that is worth. So of all but the last pass (`settling`) it is proved that it is safe and ends, and nothing
+//! else. `numbers` has the look-ups of such a search, for the layers above too.
 //!
 //! Nodes are joined to groups, and these to larger ones, level by level (`levels`, `joining`). The groups of the highest level fill
 //! partitions (`filling`). From there down to the nodes the groups of each level move (`moving`). Each of these looks at a net once for each
@@ -14,7 +15,8 @@ mod levels;
 mod moving;
 mod multilevel;
 mod numberings;
-mod numbers;
+pub mod numbers;
 mod settling;
 
 pub use multilevel::clusters;
+pub use settling::settled_parts;

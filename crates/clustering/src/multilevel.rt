@@ -6,9 +6,8 @@ use crate::filling::filled;
 use crate::joining::join_groups;
 use crate::levels::{Level, level_above, lowest_level};
 use crate::moving::move_groups;
-use crate::numberings::numbering_of;
 use crate::numbers::at;
-use crate::settling::{part_count, settled};
+use crate::settling::settled_parts;
 use flat_net::{FlatNet, nodes_of};
 use std::alloc::Global;
 use tmr_base::{OutOfMemory, Parts};
@@ -85,8 +84,6 @@ pub fn clusters(alloc: Global, n: &FlatNet, size: u32) -> Result<Parts, OutOfMem
     let nodes = nodes_of(n);
     let levels = levels_of(alloc, n, size / 4)?;
     let wanted = wanted(alloc, levels.as_slice(), size, nodes.div_ceil(size))?;
-    let used = numbering_of(alloc, wanted.as_slice())?;
-    let parts = part_count(nodes, size, used.count);
-    let of = settled(alloc, used.of.as_slice(), nodes, size, parts)?;
-    Ok(Parts::make(parts, of))
+    let parts = settled_parts(alloc, n, wanted.as_slice(), size)?;
+    Ok(parts)
 }

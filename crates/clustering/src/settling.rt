@@ -1,12 +1,14 @@
 //! The last pass: partitions that keep the rule of sizes, whatever was wanted.
 ghost use Rattle.std.specs.Prelude.{◌≡◌, ◌<◌, ◌≤◌, ◌+◌, ◌*◌, ℕ, All, length, sum, slice_index, IfOk, OnOk};
 ghost use Rattle.std.specs.Int.{div_ceil};
-ghost use Rattle.partitioner.specs.Sizes.{capacity, held};
+ghost use Rattle.partitioner.specs.Sizes.{capacity, held, KeepsSize};
 ghost use Rattle.clustering.specs.Private.Settling.{AreSettled, KeepsRoom};
 
+use crate::numberings::numbering_of;
 use crate::numbers::at;
+use flat_net::{FlatNet, nodes_of};
 use std::alloc::Global;
-use tmr_base::OutOfMemory;
+use tmr_base::{OutOfMemory, Parts};
 
 /// The most nodes that a partition may hold.
 pub fn room_of(size: u32) -> u64
@@ -133,4 +135,22 @@ pub fn settled(
         first = settle_node(&mut of, &mut holds, room, first, at(wanted, i))?;
     }
     Ok(of)
+}
+
+/// Partitions that keep the rule of sizes. Each node stands in the wanted partition while there is room, else in the first that has room.
+/// The partitions are numbered anew in the order of their first nodes, so none is empty where the wanted ones keep the rule.
+pub fn settled_parts(
+    alloc: Global,
+    n: &FlatNet,
+    wanted: &[u32],
+    size: u32,
+) -> Result<Parts, OutOfMemory>
+    requires { 0 < size }
+    ensures { IfOk result (λ parts. KeepsSize n.now.net size parts) }
+{
+    let nodes = nodes_of(n);
+    let used = numbering_of(alloc, wanted)?;
+    let parts = part_count(nodes, size, used.count);
+    let of = settled(alloc, used.of.as_slice(), nodes, size, parts)?;
+    Ok(Parts::make(parts, of))
 }

@@ -1,5 +1,5 @@
 use Rattle.clustering.proofs.SettleLaws.{size_kept}
-use Rattle.clustering.proofs.multilevel.clusters.Goals as goal
+use Rattle.clustering.proofs.settling.settled_parts.Goals as goal
 
 pub returns : goal.returns
 returns c =
