@@ -1,0 +1,228 @@
+//! Levels: how many tables and voters stand on the longest path to each node.
+
+use crate::design::{Circuit, bit};
+use clustering::numbers::{at, count, put, row};
+use std::cmp::Reverse;
+use std::collections::BinaryHeap;
+use tmr_base::OutOfMemory;
+
+/// A change of levels that computes more of them is refused: it would cost more time than it is worth.
+const MOST_COMPUTED: u32 = 2000;
+
+/// So many levels below the worst, a path counts no more.
+const SEEN: u32 = 8;
+
+/// The level of a node before a trial.
+#[derive(Clone, Copy, Drop)]
+pub struct Change {
+    pub node: u32,
+    pub level: u32,
+}
+
+/// For each node how many tables and voters stand on the longest path to it, the node itself counted if it is a table, and whether it is a
+/// register that is fed back. `worst` is the worst level of a path's end when the round began, and `weight` the weight of all ends.
+/// `changes` tells what a trial changed, `waiting` has the ranks of nodes whose level is to be computed, and `computed` counts those that
+/// were, `spent` in all trials of a round.
+#[derive(Drop)]
+pub struct Levels {
+    pub of: Vec<u32>,
+    pub fed: Vec<bool>,
+    pub worst: u32,
+    pub weight: u64,
+    pub changes: Vec<Change>,
+    pub waiting: BinaryHeap<Reverse<u32>>,
+    pub computed: u32,
+    pub spent: u32,
+}
+
+/// The level at which node y sees node x: what x gives, and one more for a voter between them.
+pub fn seen_level(circuit: &Circuit, levels: &Levels, parts: &[u32], x: u32, y: u32) -> u32 {
+    let given = if bit(circuit.registers.as_slice(), x) {
+        0
+    } else {
+        at(levels.of.as_slice(), x)
+    };
+    if at(parts, x) != at(parts, y) || bit(levels.fed.as_slice(), y) {
+        given.saturating_add(1)
+    } else {
+        given
+    }
+}
+
+/// The level of node y, from those of what it reads.
+fn computed_level(circuit: &Circuit, levels: &Levels, parts: &[u32], y: u32) -> u32 {
+    let mut most = 0;
+    for x in row(&circuit.sources, y) {
+        let level = seen_level(circuit, levels, parts, *x, y);
+        if level > most {
+            most = level;
+        }
+    }
+    if bit(circuit.registers.as_slice(), y) {
+        most
+    } else {
+        most.saturating_add(1)
+    }
+}
+
+/// How many paths end at node y: at the pin of a register, or at outputs.
+pub fn ends_at(circuit: &Circuit, y: u32) -> u32 {
+    if bit(circuit.registers.as_slice(), y) {
+        1
+    } else {
+        at(circuit.outputs.as_slice(), y)
+    }
+}
+
+/// The weight of so many ends at a level: four times as much for each level more.
+fn end_weight(worst: u32, level: u32, ends: u32) -> u64 {
+    let above = level.saturating_add(SEEN);
+    if ends == 0 || above < worst {
+        return 0;
+    }
+    let mut weight: u64 = 1;
+    for _turn in 0..(above - worst).min(20) {
+        weight = weight.saturating_mul(4);
+    }
+    weight.saturating_mul(u64::from(ends))
+}
+
+/// Computes all levels, and what is told of their ends.
+pub fn compute_all(circuit: &Circuit, levels: &mut Levels, parts: &[u32]) {
+    for y in &circuit.order {
+        let level = computed_level(circuit, levels, parts, *y);
+        put(&mut levels.of, *y, level);
+    }
+    for y in &circuit.order {
+        if bit(circuit.registers.as_slice(), *y) {
+            let level = computed_level(circuit, levels, parts, *y);
+            put(&mut levels.of, *y, level);
+        }
+    }
+}
+
+/// The worst level of an end.
+fn worst_level(circuit: &Circuit, levels: &Levels) -> u32 {
+    let mut worst = 0;
+    for y in 0..count(levels.of.as_slice()) {
+        let level = at(levels.of.as_slice(), y);
+        if level > worst && ends_at(circuit, y) > 0 {
+            worst = level;
+        }
+    }
+    worst
+}
+
+/// Begins a round: finds the worst level of an end, and the weight of all ends.
+pub fn weigh_ends(circuit: &Circuit, levels: &mut Levels) {
+    let worst = worst_level(circuit, levels);
+    let mut weight: u64 = 0;
+    for y in 0..count(levels.of.as_slice()) {
+        let level = at(levels.of.as_slice(), y);
+        if level.saturating_add(SEEN) >= worst {
+            weight = weight.saturating_add(end_weight(worst, level, ends_at(circuit, y)));
+        }
+    }
+    levels.worst = worst;
+    levels.weight = weight;
+    levels.spent = 0;
+}
+
+/// The level of node x, and of those that read it, is to be computed.
+pub fn wait_for(circuit: &Circuit, levels: &mut Levels, x: u32) -> Result<(), OutOfMemory> {
+    levels
+        .waiting
+        .push(Reverse(at(circuit.ranks.as_slice(), x)))?;
+    wait_for_readers(circuit, levels, x)
+}
+
+/// The levels of those that read node x are to be computed. Where too many do, the trial ends by what it has computed.
+fn wait_for_readers(circuit: &Circuit, levels: &mut Levels, x: u32) -> Result<(), OutOfMemory> {
+    let readers = row(&circuit.readers, x);
+    if readers.len() > MOST_COMPUTED as usize {
+        levels.computed = levels.computed.saturating_add(MOST_COMPUTED);
+        return Ok(());
+    }
+    for y in readers {
+        levels
+            .waiting
+            .push(Reverse(at(circuit.ranks.as_slice(), *y)))?;
+    }
+    Ok(())
+}
+
+/// Node y has this level from now on.
+fn set_level(
+    circuit: &Circuit,
+    levels: &mut Levels,
+    y: u32,
+    level: u32,
+) -> Result<(), OutOfMemory> {
+    let was = at(levels.of.as_slice(), y);
+    let ends = ends_at(circuit, y);
+    levels.changes.push(Change {
+        node: y,
+        level: was,
+    })?;
+    put(&mut levels.of, y, level);
+    let less = levels
+        .weight
+        .saturating_sub(end_weight(levels.worst, was, ends));
+    levels.weight = less.saturating_add(end_weight(levels.worst, level, ends));
+    Ok(())
+}
+
+/// Computes the level of node y, and has those that read it wait if it changed.
+fn compute_level(
+    circuit: &Circuit,
+    levels: &mut Levels,
+    parts: &[u32],
+    y: u32,
+) -> Result<(), OutOfMemory> {
+    let work = u32::try_from(row(&circuit.sources, y).len() / 8).unwrap_or(u32::MAX);
+    levels.computed = levels.computed.saturating_add(work).saturating_add(1);
+    let level = computed_level(circuit, levels, parts, y);
+    if level == at(levels.of.as_slice(), y) {
+        return Ok(());
+    }
+    set_level(circuit, levels, y, level)?;
+    if bit(circuit.registers.as_slice(), y) {
+        return Ok(());
+    }
+    wait_for_readers(circuit, levels, y)
+}
+
+/// Computes the levels that are to be computed, those of lower rank first. Says whether that is done; else it would take too long.
+pub fn follow(circuit: &Circuit, levels: &mut Levels, parts: &[u32]) -> Result<bool, OutOfMemory> {
+    let mut last = u32::MAX;
+    for _turn in 0..32 * MOST_COMPUTED {
+        let Some(Reverse(rank)) = levels.waiting.pop() else {
+            return Ok(levels.computed <= MOST_COMPUTED);
+        };
+        if rank != last {
+            compute_level(circuit, levels, parts, at(circuit.order.as_slice(), rank))?;
+            last = rank;
+        }
+        if levels.computed > MOST_COMPUTED {
+            return Ok(false);
+        }
+    }
+    Ok(false)
+}
+
+/// The levels of before the trial, and the weight that they had.
+pub fn take_back(levels: &mut Levels, weight: u64) {
+    for change in levels.changes.iter().rev() {
+        put(&mut levels.of, change.node, change.level);
+    }
+    levels.weight = weight;
+    forget(levels);
+}
+
+/// What a trial changed stays.
+pub fn forget(levels: &mut Levels) {
+    levels.spent = levels.spent.saturating_add(levels.computed);
+    levels.changes.clear();
+    levels.waiting.clear();
+    levels.computed = 0;
+}
