@@ -4,10 +4,11 @@ ghost use Rattle.feedback_cut.specs.Cut.{CutsLoops, OrdersUncut};
 ghost use Rattle.feedback_cut.specs.Inner.{inner_rows};
 ghost use Rattle.partitioner.specs.Sizes.{KeepsSize};
 ghost use Rattle.triplicate.specs.Choices.{IsCutOf};
-ghost use Rattle.triplicate.specs.Private.Chosen.{AreChosen};
+ghost use Rattle.triplicate.specs.Private.Chosen.{AreChosen, AreTold};
 
 use crate::form::Form;
 use clustering::clusters;
+use critical_paths::shortened;
 use feedback_cut::{OrderedCut, cut_in_order, cut_registers};
 use flat_net::FlatNet;
 use partitioner::{Refined, plain, refine_counted};
@@ -46,16 +47,46 @@ fn cheaper(first: Refined, second: Refined) -> Refined
     }
 }
 
-/// Partitions refined from clusters, or those refined from the plain cut where these cost no more.
+/// The first of two partitionings if it costs at most so much, else the second.
+fn within(most: u64, first: Refined, second: Refined) -> Refined
+    requires { second.cost ≤ most }
+    ensures given { (result ≡ first) ⊎ (result ≡ second) }
+    ensures most { result.cost ≤ most }
+{
+    if first.cost <= most { first } else { second }
+}
+
+/// What refining gives from a start that keeps the rule of sizes.
+fn refined_from(
+    alloc: Global,
+    n: &FlatNet,
+    start: &Parts,
+    size: u32,
+    passes: u32,
+) -> Result<Refined, OutOfMemory>
+    requires size { 0 < size }
+    requires start { KeepsSize n.now.net size start.now }
+    ensures { IfOk result (λ r. AreTold n.now.net size r) }
+{
+    let refined = refine_counted(alloc, n, start, size, passes)?;
+    Ok(refined)
+}
+
+/// Partitions refined from clusters, and then moved off long paths, where these cost no more than those refined from the plain cut; else
+/// the cheaper of both as they were refined. No pass follows the moves: it would take them back.
 fn lean_partitions(alloc: Global, n: &FlatNet, size: u32) -> Result<Refined, OutOfMemory>
     requires { 0 < size }
     ensures { IfOk result (λ r. AreChosen Form.Lean n.now.net size r) }
 {
     let standard = plain_partitions(alloc, n, size)?;
     let before = standard.before;
+    let most = standard.cost;
     let start = clustered(alloc, n, size)?;
-    let lean = refine_counted(alloc, n, &start, size, 8)?;
-    let chosen = cheaper(standard, lean);
+    let lean = refined_from(alloc, n, &start, size, 8)?;
+    let short = shortened(alloc, n, &lean.parts, size)?;
+    let fast = refined_from(alloc, n, &short, size, 0)?;
+    let other = cheaper(standard, lean);
+    let chosen = within(most, fast, other);
     Ok(Refined {
         parts: chosen.parts,
         cost: chosen.cost,
