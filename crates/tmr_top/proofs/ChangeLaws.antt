@@ -6,7 +6,8 @@ use Rattle.std.proofs.lemmas.Slice.Eq.{bytes_eq-Decides}
 use Rattle.tmr_outside.specs.Contents.{Contents, SameElsewhere}
 use Rattle.tmr_outside.specs.Counts.{RoseOf, NoneFell, NoneRose, OthersStay}
 use Rattle.tmr_outside.specs.Seen.{FilesSeen, IsTold}
-use Rattle.tmr_top.specs.Changes.{IsNone, HeldElsewhere, ChangesOnly}
+use Rattle.tmr_top.specs.Loads.{Load}
+use Rattle.tmr_top.specs.Changes.{LoadFailed, SaveRose, SaveFailed, IsNone, HeldElsewhere, ChangesOnly, NoneFailed}
 
 pub told_as_before : (old mid : Option Contents) → mid ≡ old → IsSome old → IsSome mid
 told_as_before old mid same told = subst (λ (c : Option Contents). IsSome c) (sym same) told
@@ -18,6 +19,23 @@ rose_since (Some held) a b c h rose = omega arith
 
 pub none_since : (a b c : List ℕ → ℕ) → NoneRose a b → NoneRose b c → NoneRose a c
 none_since a b c one other name = other name ∙ one name
+
+-- a load that failed later failed since before, where nothing failed in between
+pub load_failed_since : (a b c : FilesSeen) (load : Load) → b.contents ≡ a.contents → NoneFell a.load_count b.load_count → (IsTold a → NoneFailed a b) → LoadFailed b c load → LoadFailed a c load
+load_failed_since a b c load same fell quiet failed = record {
+  rose = rose_since a.contents (a.load_count load.name) (b.load_count load.name) (c.load_count load.name) (fell load.name)
+      (subst (λ (o : Option Contents). RoseOf o (b.load_count load.name) (c.load_count load.name)) same failed.rose);
+  other_loads = λ told other differs. failed.other_loads (told_as_before a.contents b.contents same told) other differs ∙ (quiet told).loads other;
+  no_saves = λ told name. failed.no_saves (told_as_before a.contents b.contents same told) name ∙ (quiet told).saves name;
+}
+
+-- the same of a save
+pub save_failed_since : (a b c : FilesSeen) (name : List ℕ) → (IsTold a → IsTold b) → SaveRose a c name → (IsTold a → NoneFailed a b) → SaveFailed b c name → SaveFailed a c name
+save_failed_since a b c name stays rose quiet failed = record {
+  rose = rose;
+  other_saves = λ told other differs. failed.other_saves (stays told) other differs ∙ (quiet told).saves other;
+  no_loads = λ told other. failed.no_loads (stays told) other ∙ (quiet told).loads other;
+}
 
 -- where no other count rose, nor this one, none did
 pub none_rose : (name : List ℕ) (before now : List ℕ → ℕ) → OthersStay name before now → now name ≡ before name → NoneRose before now

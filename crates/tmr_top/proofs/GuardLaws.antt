@@ -1,7 +1,8 @@
 -- What a guarded design comes to, and its check.
-use Rattle.std.proofs.Common.{◌≡◌, ℕ, zero, suc, Bool, List, [], ◌∷◌, inl, inr, refl, ap, subst, ◌∙◌, arith}
+use Rattle.std.proofs.Common.{◌≡◌, ℕ, ◌≤◌, zero, suc, Bool, List, [], ◌∷◌, length, inl, inr, refl, ap, subst, ◌∙◌, arith}
 use Rattle.std.specs.Prelude.{count_by, slice_get}
 use Rattle.flat_net.specs.Net.{Net}
+use Rattle.blif_writer.specs.NetOf.{IsNetOf}
 use Rattle.blif_writer.specs.Text.{flat_text}
 use Rattle.dwc.specs.Answer.{BreaksFirst}
 use Rattle.dwc.specs.Guard.{guard_net}
@@ -17,8 +18,8 @@ use Rattle.tmr_top.specs.Texts.{guard_line, guarded_line, not_guarded_line, refu
 use Rattle.tmr_top.specs.Works.{IsWork}
 use Rattle.tmr_top.proofs.PairLaws.{outcome_work}
 
-pub guarded_work : (held : Contents) (w : Guarding) (n g : Net) (a : List Bool) (text : List ℕ) (r : Work) → HoldsDesign held (original_file w.original) n a → g ≡ guard_net n → Guards n g → text ≡ flat_text g → r.verdict ≡ Done → texts_in r.saves.items ≡ text ∷ [] → r.text.items ≡ guard_line n g (count_by (λ bit. bit) a) → IsWork (Guard w) held r
-guarded_work held w n g a text r holds is guards text_is done saves says =
+pub guarded_work : (held : Contents) (w : Guarding) (n g : Net) (a : List Bool) (text : List ℕ) (r : Work) → HoldsDesign held (original_file w.original) n a → g ≡ guard_net n → Guards n g → text ≡ flat_text g → length text ≤ 1073741824 → IsNetOf text 1073741824 g 0 → r.verdict ≡ Done → texts_in r.saves.items ≡ text ∷ [] → r.text.items ≡ guard_line n g (count_by (λ bit. bit) a) → IsWork (Guard w) held r
+guarded_work held w n g a text r holds is guards text_is keeps read done saves says =
     outcome_work (Guard w) held r Done done
     (record {
       original = n;
@@ -26,9 +27,14 @@ guarded_work held w n g a text r holds is guards text_is done saves says =
       holds = holds;
       guards = subst (Guards n) is guards;
       saves = saves ∙ (ap (λ (t : List ℕ). t ∷ []) text_is ∙ ap (λ (d : Net). flat_text d ∷ []) is);
+      keeps = subst (λ (t : List ℕ). length t ≤ 1073741824) same keeps;
+      read = subst (λ (d : Net). IsNetOf (flat_text (guard_net n)) 1073741824 d 0) is (subst (λ (t : List ℕ). IsNetOf t 1073741824 g 0) same read);
       says = says ∙ ap (λ (d : Net). guard_line n d (count_by (λ bit. bit) a)) is;
     })
     (λ p is. cc)
+  where
+    same : text ≡ flat_text (guard_net n)
+    same = text_is ∙ ap flat_text is
 
 pub ruleset making = (guarded_work)
 

@@ -1,13 +1,13 @@
 -- What a hardening comes to.
-use Rattle.std.proofs.Common.{◌≡◌, ℕ, zero, suc, ◌<◌, ◌≤◌, ◌⊎◌, Bool, List, [], ◌∷◌, length, Ok, inl, inr, refl, ap, subst, ◌∙◌, arith}
+use Rattle.std.proofs.Common.{◌≡◌, ℕ, zero, suc, ◌+◌, ◌<◌, ◌≤◌, ◌⊎◌, Bool, List, [], ◌∷◌, length, Ok, inl, inr, refl, ap, subst, ◌∙◌, arith}
 use Rattle.std.specs.Prelude.{◌↔◌, IsTrue, count_by, nat_eq}
-use Rattle.flat_net.specs.Net.{Net, IsValid}
+use Rattle.flat_net.specs.Net.{Net, IsValid, net_count, pin_total}
 use Rattle.blif_writer.specs.NetOf.{IsFreeNetOf}
 use Rattle.blif_writer.specs.Text.{free_text}
 use Rattle.certificate.specs.Cert.{PlainCert, IsCert}
 use Rattle.certificate.specs.Starts.{counted}
 use Rattle.recovery_depth.specs.Extra.{is_extra}
-use Rattle.hardened_size.specs.Size.{FlatTextKeepsLimit, HardenedTextsKeepLimits, KeepLimits}
+use Rattle.hardened_size.specs.Size.{AreShort, IsHardenedFrom, FlatTextKeepsLimit, HardenedTextsKeepLimits, KeepLimits}
 use Rattle.tmr_top.specs.FlatWithin.{IsFlatWithin}
 use Rattle.certificate.specs.Reading.{cert_of_text}
 use Rattle.certificate.specs.Text.{cert_text}
@@ -24,13 +24,14 @@ use Rattle.tmr_top.specs.FileWords.{texts_in}
 use Rattle.tmr_top.specs.Line.{Hardening, Harden}
 use Rattle.tmr_top.specs.Loads.{original_file}
 use Rattle.tmr_top.specs.Designs.{HoldsDesign, HoldsNoDesign}
+use Rattle.tmr_top.specs.Hardened.{HasNoExtra}
 use Rattle.tmr_top.specs.FormText.{form_numbers, hardened_lines}
 use Rattle.tmr_top.specs.Texts.{greatest, refused_line}
 use Rattle.tmr_top.specs.Works.{IsWork}
 use Rattle.tmr_top.proofs.PairLaws.{outcome_work}
 
-pub hardened_work : (held : Contents) (w : Hardening) (n h : Net) (f g : List Bool) (k : PlainCert) (minimal : Bool) (d e : List ℕ) (r : Work) → HoldsDesign held (original_file w.original) n f → BoundedForm w.form n f w.size w.version w.most h g k → (IsTrue minimal ↔ IsMinimal n w.size (parts_of k)) → d ≡ free_text h g → length d ≤ 1073741824 → IsFreeNetOf d 1073741824 h g → e ≡ cert_text n h k → length e ≤ 1073741824 → cert_of_text n h e ≡ Ok k → r.verdict ≡ Done → texts_in r.saves.items ≡ d ∷ e ∷ [] → r.text.items ≡ hardened_lines (form_numbers n w.size h k minimal) k.version (count_by (λ bit. bit) f) → IsWork (Harden w) held r
-hardened_work held w n h f g k minimal d e r holds form is_minimal d_is d_short d_read e_is e_short e_read done saves says =
+pub hardened_work : (held : Contents) (w : Hardening) (n h : Net) (f g : List Bool) (k : PlainCert) (minimal : Bool) (d e : List ℕ) (r : Work) → HoldsDesign held (original_file w.original) n f → BoundedForm w.form n f w.size w.version w.most h g k → (length n.nodes < w.most → HasNoExtra w n f h g k) → net_count n + pin_total n ≤ 16777216 → AreShort n h k → (IsTrue minimal ↔ IsMinimal n w.size (parts_of k)) → d ≡ free_text h g → length d ≤ 1073741824 → IsFreeNetOf d 1073741824 h g → e ≡ cert_text n h k → length e ≤ 1073741824 → cert_of_text n h e ≡ Ok k → r.verdict ≡ Done → texts_in r.saves.items ≡ d ∷ e ∷ [] → r.text.items ≡ hardened_lines (form_numbers n w.size h k minimal) k.version (count_by (λ bit. bit) f) → IsWork (Harden w) held r
+hardened_work held w n h f g k minimal d e r holds form unbounded few short is_minimal d_is d_short d_read e_is e_short e_read done saves says =
     outcome_work (Harden w) held r Done done
     (record {
       original = n;
@@ -40,6 +41,9 @@ hardened_work held w n h f g k minimal d e r holds form is_minimal d_is d_short 
       marks = g;
       certificate = k;
       form = form;
+      few = omega (arith, few);
+      unbounded = unbounded;
+      short = short;
       saves = saves ∙ both;
       read = record {
         design_short = subst (λ (t : List ℕ). length t ≤ 1073741824) d_is d_short;
@@ -71,11 +75,24 @@ known_version (suc zero) low high = inl refl
 known_version (suc (suc zero)) low high = inr refl
 known_version (suc (suc (suc v))) low high = absurd (omega (arith, high))
 
+-- a form that is bounded is one of which the law of lengths speaks
+pub hardened_from : (kind : Form) (n h : Net) (f g : List Bool) (size version most : ℕ) (k : PlainCert) → IsValid h → IsCert k → 0 < size → BoundedForm kind n f size version most h g k → IsHardenedFrom n h k
+hardened_from kind n h f g size version most k valid certificate some form = record {
+  marks = counted k f;
+  hardened_marks = counted k g;
+  kind = kind;
+  size = size;
+  inputs = nat_eq version 2;
+  extra = is_extra form.extra.marks;
+  some = some;
+  valid = valid;
+  certificate = certificate;
+  form = form.form;
+}
+
 -- the texts of a hardened form keep the limits of their files, where the original was flattened within its own
-pub limits_kept : (kind : Form) (n h : Net) (f g : List Bool) (size version most : ℕ) (k : PlainCert) → IsValid n → IsValid h → IsCert k → 0 < size → BoundedForm kind n f size version most h g k → IsFlatWithin 8388608 n f → FlatTextKeepsLimit n → HardenedTextsKeepLimits n → KeepLimits n h k
-limits_kept kind n h f g size version most k valid hardened_valid certificate some form within original law =
-    law h k f (record { marks = counted k f; hardened_marks = counted k g; kind = kind; size = size; inputs = nat_eq version 2; extra = is_extra form.extra.marks; some = some; valid = hardened_valid; certificate = certificate; form = form.form })
-    (original within.library 8388608 f within.flat)
+pub limits_kept : (n h : Net) (f : List Bool) (k : PlainCert) → IsHardenedFrom n h k → IsFlatWithin 8388608 n f → FlatTextKeepsLimit n → HardenedTextsKeepLimits n → KeepLimits n h k
+limits_kept n h f k from within original law = law h k f from (original within.library 8388608 f within.flat)
 
 pub ruleset texts = (unhardened_work)
 

@@ -7,6 +7,7 @@ pub mod TextLaws
 pub mod DesignLaws
 pub mod PairLaws
 pub mod ReplayLaws
+pub mod GuardSize
 pub mod GuardLaws
 pub mod GraphLaws
 pub mod GraphReadLaws
@@ -20,3 +21,4 @@ pub mod TrialLaws
 pub mod OutcomeLaws
 pub mod RunClauses
 pub mod LeaveLaws
+pub mod GuardLeaves

@@ -9,7 +9,7 @@ use Rattle.blif_text.specs.Reading.{reading, Reads}
 use Rattle.blif_text.specs.Reader.{ReaderState, StandsFor}
 use Rattle.blif_text.specs.declared.fault.TextFault.{TextFault}
 use Rattle.tmr_outside.specs.Contents.{Contents}
-use Rattle.tmr_outside.specs.Counts.{RoseOf, NoneFell, NoneRose}
+use Rattle.tmr_outside.specs.Counts.{RoseOf, NoneFell, NoneRose, OthersStay}
 use Rattle.tmr_outside.specs.Pieces.{TakesFile}
 use Rattle.tmr_outside.specs.Seen.{FilesSeen, IsTold}
 use Rattle.tmr_top.specs.declared.loads.Stop.{Stop}
@@ -21,9 +21,9 @@ use Rattle.tmr_top.specs.declared.file_words.FileKind.TheVariants as kind
 use Rattle.tmr_top.specs.FileWords.{load_in}
 use Rattle.tmr_top.specs.Loads.{Load, load_name}
 use Rattle.tmr_top.specs.Files.{OfOne, OfEach, OfFirst, IsLong, IsMissing, IsFine}
-use Rattle.tmr_top.specs.Changes.{LoadRose, IsNone, ChangesOnly}
+use Rattle.tmr_top.specs.Changes.{LoadFailed, IsNone, ChangesOnly, NoneFailed}
 use Rattle.tmr_top.specs.Loaded.{HoldsText, HoldsBytes, HoldsLoaded, HoldsEach, FitsEach, Loads, IsStop, IsSteadyStop}
-use Rattle.tmr_top.proofs.ChangeLaws.{none_rose, load_change, rose_since, none_since, told_as_before, changes_then, changes_more, none_at}
+use Rattle.tmr_top.proofs.ChangeLaws.{none_rose, load_change, load_failed_since, none_since, told_as_before, changes_then, changes_more, none_at}
 
 -- ---- one load
 
@@ -41,8 +41,8 @@ pub held_bytes : (contents : Option Contents) (load : Load) (bytes : List ℕ) �
 held_bytes None load bytes there short = tt
 held_bytes (Some held) load bytes there short = record { bytes = bytes; there = there; short = short; fact = refl }
 
-pub failed_stop : (load : Load) (old new : FilesSeen) → RoseOf old.contents (old.load_count load.name) (new.load_count load.name) → OfOne (λ (l : Load). LoadRose old new l × (load.name ≡ l.name)) (load ∷ [])
-failed_stop load old new rose = inl (rose, refl)
+pub failed_stop : (load : Load) (old new : FilesSeen) → RoseOf old.contents (old.load_count load.name) (new.load_count load.name) → (IsTold old → OthersStay load.name old.load_count new.load_count) → (IsTold old → NoneRose old.save_count new.save_count) → OfOne (λ (l : Load). LoadFailed old new l × (load.name ≡ l.name)) (load ∷ [])
+failed_stop load old new rose others saves = inl (record { rose = rose; other_loads = others; no_saves = saves }, refl)
 
 pub long_stop : (contents : Option Contents) (load : Load) → IfSome contents (λ held. IsLong held load) → IfSome contents (λ held. OfFirst held (λ (l : Load). IsLong held l × (load.name ≡ l.name)) (load ∷ []))
 long_stop None load long = tt
@@ -116,7 +116,7 @@ first_behind held P [] x later fine (inl here) = inl here
 first_behind held P [] x later fine (inr none) = absurd none.1
 first_behind held P (y ∷ first) x later fine one = inr (fine.0, first_behind held P first x later fine.1 one)
 
-module _ (first : List Load) (all : List Loaded) (load : Load) (later : List Load) (a b c : FilesSeen) (same : b.contents ≡ a.contents) (fell : NoneFell a.load_count b.load_count) (loads : Loads first a b all) where
+module _ (first : List Load) (all : List Loaded) (load : Load) (later : List Load) (a b c : FilesSeen) (same : b.contents ≡ a.contents) (fell : NoneFell a.load_count b.load_count) (kept : IsTold a → NoneRose a.save_count b.save_count) (loads : Loads first a b all) where
   first_of : (P : Contents → Load → Type 0) → IfSome b.contents (λ held. OfFirst held (P held) (load ∷ [])) → IfSome a.contents (λ held. OfFirst held (P held) (first ++ load ∷ later))
   first_of P one = go a.contents loads.holds (subst (λ (o : Option Contents). IfSome o (λ held. OfFirst held (P held) (load ∷ []))) same one)
     where
@@ -127,12 +127,12 @@ module _ (first : List Load) (all : List Loaded) (load : Load) (later : List Loa
   none_of : (IsTold b → NoneRose b.load_count c.load_count) → IsTold a → NoneRose a.load_count c.load_count
   none_of none told = none_since a.load_count b.load_count c.load_count (loads.none told) (none (told_as_before a.contents b.contents same told))
 
-  risen : (name : List ℕ) → OfOne (λ l. LoadRose b c l × (name ≡ l.name)) (load ∷ []) → OfOne (λ l. LoadRose a c l × (name ≡ l.name)) (load ∷ [])
-  risen name (inl here) = inl (rose_since a.contents (a.load_count load.name) (b.load_count load.name) (c.load_count load.name) (fell load.name) (subst (λ (o : Option Contents). RoseOf o (b.load_count load.name) (c.load_count load.name)) same here.0), here.1)
+  risen : (name : List ℕ) → OfOne (λ l. LoadFailed b c l × (name ≡ l.name)) (load ∷ []) → OfOne (λ l. LoadFailed a c l × (name ≡ l.name)) (load ∷ [])
+  risen name (inl here) = inl (load_failed_since a b c load same fell (λ told. record { loads = loads.none told; saves = kept told }) here.0, here.1)
   risen name (inr none) = absurd none
 
   pub stop_behind : (why : Stop) → IsStop (load ∷ []) b c why → IsStop (first ++ load ∷ later) a c why
-  stop_behind (stop.Failed name) is = one_behind (λ l. LoadRose a c l × (name.now ≡ l.name)) first load later (risen name.now is)
+  stop_behind (stop.Failed name) is = one_behind (λ l. LoadFailed a c l × (name.now ≡ l.name)) first load later (risen name.now is)
   stop_behind (stop.TooLong name) is = (first_of (λ held l. IsLong held l × (name.now ≡ l.name)) is.0, none_of is.1)
   stop_behind stop.Memory is = none_of is
 
@@ -169,11 +169,14 @@ module _ (ws : List LoadWords) (i : ℕ) (x : LoadWords) (a b c : FilesSeen) (wi
   split = split_at ws i x within ∙ ap (λ (w : LoadWords). map load_in (take i ws) ++ load_in w ∷ map load_in (drop (i + 1) ws)) (sym is)
 
   module _ (all : List Loaded) (loads : Loads (map load_in (take i ws)) a b all) where
+    kept : IsTold a → NoneRose a.save_count b.save_count
+    kept told name = before.saves_only told name tt
+
     pub stop_in : (why : Stop) → IsStop (load_in x ∷ []) b c why → IsStop (map load_in ws) a c why
-    stop_in why at = subst (λ (ls : List Load). IsStop ls a c why) (sym split) (stop_behind (map load_in (take i ws)) all (load_in x) (map load_in (drop (i + 1) ws)) a b c same before.loads loads why at)
+    stop_in why at = subst (λ (ls : List Load). IsStop ls a c why) (sym split) (stop_behind (map load_in (take i ws)) all (load_in x) (map load_in (drop (i + 1) ws)) a b c same before.loads kept loads why at)
 
     pub steady_in : (why : Stop) → IsSteadyStop (load_in x ∷ []) b.contents why → IsSteadyStop (map load_in ws) a.contents why
-    steady_in why at = subst (λ (ls : List Load). IsSteadyStop ls a.contents why) (sym split) (steady_behind (map load_in (take i ws)) all (load_in x) (map load_in (drop (i + 1) ws)) a b c same before.loads loads why at)
+    steady_in why at = subst (λ (ls : List Load). IsSteadyStop ls a.contents why) (sym split) (steady_behind (map load_in (take i ws)) all (load_in x) (map load_in (drop (i + 1) ws)) a b c same before.loads kept loads why at)
 
     pub loads_in : (one : Loaded) (items : List Loaded) → Loads (load_in x ∷ []) b c (one ∷ []) → items ≡ all ++ one ∷ [] → Loads (map load_in (take (i + 1) ws)) a c items
     loads_in one items at pushed =

@@ -1,6 +1,6 @@
 -- What a command comes to, from its loads, its work and its saves.
-use Rattle.std.proofs.Common.{◌≡◌, ◌≢◌, ◌⊎◌, ℕ, List, [], ◌∷◌, ◌++◌, map, Option, Some, None, inl, inr, refl, sym, ap, subst, ◌∙◌}
-use Rattle.std.specs.Prelude.{IfSome, codes, Vec}
+use Rattle.std.proofs.Common.{◌≡◌, ◌≢◌, ◌⊎◌, ℕ, List, [], ◌∷◌, ◌++◌, map, Option, Some, None, Result, Ok, Err, inl, inr, refl, sym, ap, subst, ◌∙◌}
+use Rattle.std.specs.Prelude.{IfOk, IfSome, codes, Vec}
 use Rattle.std.specs.declared.alloc.Global.{Global}
 use Rattle.std.specs.Borrow.{Bor}
 use Rattle.tmr_outside.specs.Contents.{Contents}
@@ -9,6 +9,7 @@ use Rattle.tmr_outside.specs.Seen.{FilesSeen, IsTold}
 use Rattle.tmr_top.specs.declared.decision.Verdict.{Verdict}
 use Rattle.tmr_top.specs.declared.decision.Verdict.TheVariants as verdict
 use Rattle.tmr_top.specs.declared.decision.Work.{Work}
+use Rattle.tmr_top.specs.declared.decision.Decision.{Decision}
 use Rattle.tmr_top.specs.declared.loads.Stop.{Stop}
 use Rattle.tmr_top.specs.declared.loads.Stop.TheVariants as stop
 use Rattle.tmr_top.specs.declared.loads.Loaded.{Loaded}
@@ -17,11 +18,13 @@ use Rattle.tmr_top.specs.declared.saves.SaveStop.{SaveStop}
 use Rattle.tmr_top.specs.declared.saves.SaveStop.TheVariants as save_stop
 use Rattle.tmr_top.specs.declared.status.Status.{Status}
 use Rattle.tmr_top.specs.declared.status.Status.TheVariants as status
+use Rattle.tmr_top.specs.Trials.{Trial}
+use Rattle.tmr_top.specs.Tried.{IsTried}
 use Rattle.tmr_top.specs.FileWords.{texts_in, load_in, read_words}
 use Rattle.tmr_top.specs.Line.{Command, Pair, Validate}
 use Rattle.tmr_top.specs.Loads.{Load, loads_of, saves_of}
 use Rattle.tmr_top.specs.Files.{OfOne, OfFirst, IsLong}
-use Rattle.tmr_top.specs.Changes.{LoadRose, SaveRose, HeldElsewhere, NoneFailed}
+use Rattle.tmr_top.specs.Changes.{LoadFailed, SaveFailed, HeldElsewhere, NoneFailed}
 use Rattle.tmr_top.specs.Pairs.{Masked}
 use Rattle.tmr_top.specs.Outcomes.{Outcome}
 use Rattle.tmr_top.specs.Loaded.{HoldsEach, Loads, IsStop, IsSteadyStop, IsStopped}
@@ -31,7 +34,7 @@ use Rattle.tmr_top.specs.Saved.{after_saves, Saves, StopsAt, IsSaveStop}
 use Rattle.tmr_top.specs.Works.{IsWork, Comes, Leaves}
 use Rattle.tmr_top.specs.Texts.{load_fault_line, save_fault_line, refused_line}
 use Rattle.tmr_top.specs.Runs.{Untouched, Says, SaysTooLong, SaysSaveFault, SaysBroken, Performs}
-use Rattle.tmr_top.proofs.ChangeLaws.{rose_since, changes_none, held_same}
+use Rattle.tmr_top.proofs.ChangeLaws.{rose_since, load_failed_since, save_failed_since, told_as_before, changes_none, held_same}
 use Rattle.tmr_top.proofs.LoadLaws.{all_fine}
 
 -- ---- saves
@@ -56,7 +59,7 @@ module _ (c : Command) (old new : FilesSeen) (w : Work) (names : List (List ℕ)
   pub broken : (why : SaveStop) → IsSaveStop names (texts_in w.saves.items) old new why → IfSome old.contents (λ held. IsBroken c held old new)
   broken why at = go old.contents refl comes
     where
-      holds : (held : Contents) (why : SaveStop) → old.contents ≡ Some held → StopsAt old new at.first (texts_in w.saves.items) at.next why → (new.contents ≡ Some (with_texts held at.first (texts_in w.saves.items))) ⊎ (SaveRose old new at.next × HeldElsewhere (at.next ∷ []) (Some (with_texts held at.first (texts_in w.saves.items))) new.contents)
+      holds : (held : Contents) (why : SaveStop) → old.contents ≡ Some held → StopsAt old new at.first (texts_in w.saves.items) at.next why → (new.contents ≡ Some (with_texts held at.first (texts_in w.saves.items))) ⊎ (SaveFailed old new at.next × HeldElsewhere (at.next ∷ []) (Some (with_texts held at.first (texts_in w.saves.items))) new.contents)
       holds held (save_stop.Failed name) told stops = inr (stops.1, subst (λ (o : Option Contents). HeldElsewhere (at.next ∷ []) (after_saves o at.first (texts_in w.saves.items)) new.contents) told stops.2)
       holds held save_stop.Memory told stops = inl (stops ∙ ap (λ (o : Option Contents). after_saves o at.first (texts_in w.saves.items)) told)
 
@@ -92,7 +95,7 @@ says_broken c old new w names name text is done comes at says = go old.contents 
         names = sym is ∙ at.split;
         holds = inr (at.stops.1, subst (λ (o : Option Contents). HeldElsewhere (at.next ∷ []) (after_saves o at.first (texts_in w.saves.items)) new.contents) told at.stops.2);
       };
-      rose = at.stops.1;
+      failed = at.stops.1;
       says = says ∙ ap save_fault_line at.stops.0;
     }
 
@@ -103,8 +106,8 @@ save_behind P (y ∷ first) x later here = inr (save_behind P first x later here
 -- the save of a name failed
 pub says_save_fault : (c : Command) (old new : FilesSeen) (names texts : List (List ℕ)) (name : Bor (List ℕ)) (text : List ℕ) → names ≡ saves_of c → IsSaveStop names texts old new (save_stop.Failed name) → text ≡ save_fault_line name.now → SaysSaveFault c old new text
 says_save_fault c old new names texts name text is at says =
-    subst (λ (ns : List (List ℕ)). OfOne (λ n. SaveRose old new n × (text ≡ save_fault_line n)) ns) (sym at.split ∙ is)
-    (save_behind (λ n. SaveRose old new n × (text ≡ save_fault_line n)) at.first at.next at.later (at.stops.1, says ∙ ap save_fault_line at.stops.0))
+    subst (λ (ns : List (List ℕ)). OfOne (λ n. SaveFailed old new n × (text ≡ save_fault_line n)) ns) (sym at.split ∙ is)
+    (save_behind (λ n. SaveFailed old new n × (text ≡ save_fault_line n)) at.first at.next at.later (at.stops.1, says ∙ ap save_fault_line at.stops.0))
 
 -- the same, from lists that are seen in the call
 pub save_fails : (c : Command) (old new : FilesSeen) (w : Work) (ns vs : List (Bor (List ℕ))) (ts : List (Vec ℕ Global)) (name : Bor (List ℕ)) (why : SaveStop) (text : List ℕ) → read_words ns ≡ saves_of c → vs ≡ ns → ts ≡ w.saves.items → w.verdict ≡ verdict.Done → why ≡ save_stop.Failed name → IsSaveStop (read_words vs) (texts_in ts) old new why → text ≡ save_fault_line name.now → IfSome old.contents (λ held. Comes c held w) → Performs c old new status.Fault text
@@ -153,7 +156,7 @@ pub ruleset verdicts = (not_accepted, refused, work_masks, changes_none)
 
 -- ---- loads that came to no end
 
-say_fault : (old new : FilesSeen) (name text : List ℕ) → text ≡ load_fault_line name → (ls : List Load) → OfOne (λ l. LoadRose old new l × (name ≡ l.name)) ls → OfOne (λ l. LoadRose old new l × (text ≡ load_fault_line l.name)) ls
+say_fault : (old new : FilesSeen) (name text : List ℕ) → text ≡ load_fault_line name → (ls : List Load) → OfOne (λ l. LoadFailed old new l × (name ≡ l.name)) ls → OfOne (λ l. LoadFailed old new l × (text ≡ load_fault_line l.name)) ls
 say_fault old new name text says [] rose = rose
 say_fault old new name text says (l ∷ ls) (inl here) = inl (here.0, says ∙ ap load_fault_line here.1)
 say_fault old new name text says (l ∷ ls) (inr later) = inr (say_fault old new name text says ls later)
@@ -205,23 +208,30 @@ loaded_comes c ws vs all given w a b is these those same loads work = subst (λ 
     (λ held holds. work held (subst (λ (l : List Loaded). HoldsEach held (loads_of c) l) (sym those) holds)))
 
 module _ (c : Command) (a b new : FilesSeen) (same : b.contents ≡ a.contents) (loads : NoneFell a.load_count b.load_count) (saves : NoneFell a.save_count b.save_count) where
-  load_since : (l : Load) → LoadRose b new l → LoadRose a new l
-  load_since l rose = rose_since a.contents (a.load_count l.name) (b.load_count l.name) (new.load_count l.name) (loads l.name) (subst (λ (o : Option Contents). RoseOf o (b.load_count l.name) (new.load_count l.name)) same rose)
+  pub masked_since : (p : Pair) → IfSome b.contents (λ held. Masked held p) → IfSome a.contents (λ held. Masked held p)
+  masked_since p masked = subst (λ (o : Option Contents). IfSome o (λ held. Masked held p)) same masked
 
-  save_since : (name : List ℕ) → SaveRose b new name → SaveRose a new name
-  save_since name rose = rose_since a.contents (a.save_count name) (b.save_count name) (new.save_count name) (saves name) (subst (λ (o : Option Contents). RoseOf o (b.save_count name) (new.save_count name)) same rose)
+-- where nothing failed before
+module _ (c : Command) (a b new : FilesSeen) (same : b.contents ≡ a.contents) (loads : NoneFell a.load_count b.load_count) (saves : NoneFell a.save_count b.save_count) (quiet : IsTold a → NoneFailed a b) where
+  load_since : (l : Load) → LoadFailed b new l → LoadFailed a new l
+  load_since l failed = load_failed_since a b new l same loads quiet failed
 
-  load_fault_since : (text : List ℕ) (ls : List Load) → OfOne (λ l. LoadRose b new l × (text ≡ load_fault_line l.name)) ls → OfOne (λ l. LoadRose a new l × (text ≡ load_fault_line l.name)) ls
+  save_since : (name : List ℕ) → SaveFailed b new name → SaveFailed a new name
+  save_since name failed = save_failed_since a b new name (told_as_before a.contents b.contents same)
+      (rose_since a.contents (a.save_count name) (b.save_count name) (new.save_count name) (saves name) (subst (λ (o : Option Contents). RoseOf o (b.save_count name) (new.save_count name)) same failed.rose))
+      quiet failed
+
+  load_fault_since : (text : List ℕ) (ls : List Load) → OfOne (λ l. LoadFailed b new l × (text ≡ load_fault_line l.name)) ls → OfOne (λ l. LoadFailed a new l × (text ≡ load_fault_line l.name)) ls
   load_fault_since text [] rose = rose
   load_fault_since text (l ∷ ls) (inl here) = inl (load_since l here.0, here.1)
   load_fault_since text (l ∷ ls) (inr later) = inr (load_fault_since text ls later)
 
-  save_fault_since : (text : List ℕ) (names : List (List ℕ)) → OfOne (λ n. SaveRose b new n × (text ≡ save_fault_line n)) names → OfOne (λ n. SaveRose a new n × (text ≡ save_fault_line n)) names
+  save_fault_since : (text : List ℕ) (names : List (List ℕ)) → OfOne (λ n. SaveFailed b new n × (text ≡ save_fault_line n)) names → OfOne (λ n. SaveFailed a new n × (text ≡ save_fault_line n)) names
   save_fault_since text [] rose = rose
   save_fault_since text (n ∷ names) (inl here) = inl (save_since n here.0, here.1)
   save_fault_since text (n ∷ names) (inr later) = inr (save_fault_since text names later)
 
-  either : {P Q : Type 0} (name : List ℕ) → P ⊎ (SaveRose b new name × Q) → P ⊎ (SaveRose a new name × Q)
+  either : {P Q : Type 0} (name : List ℕ) → P ⊎ (SaveFailed b new name × Q) → P ⊎ (SaveFailed a new name × Q)
   either name (inl held) = inl held
   either name (inr failed) = inr (save_since name failed.0, failed.1)
 
@@ -250,7 +260,7 @@ module _ (c : Command) (a b new : FilesSeen) (same : b.contents ≡ a.contents) 
     where
       go : (o : Option Contents) → IfSome o (λ held. SaysBroken c held b new text) → IfSome o (λ held. SaysBroken c held a new text)
       go None is = tt
-      go (Some held) is = record { broken = one_since held is.broken; rose = save_since is.broken.next is.rose; says = is.says }
+      go (Some held) is = record { broken = one_since held is.broken; failed = save_since is.broken.next is.failed; says = is.says }
 
   pub performs_since : (s : Status) (text : List ℕ) → Performs c b new s text → Performs c a new s text
   performs_since status.Done text is = subst (λ (o : Option Contents). IfSome o (λ held. IsDone c held new.contents text)) same is
@@ -266,7 +276,9 @@ module _ (c : Command) (a b new : FilesSeen) (same : b.contents ≡ a.contents) 
   leaves_since (inl is) = inl (is ∙ same)
   leaves_since (inr is) = inr (broken_since is)
 
-  pub masked_since : (p : Pair) → IfSome b.contents (λ held. Masked held p) → IfSome a.contents (λ held. Masked held p)
-  masked_since p masked = subst (λ (o : Option Contents). IfSome o (λ held. Masked held p)) same masked
+-- the text of a trial that is done
+pub tried_since : {E : Type 0} (t : Trial) (w : Work) (r : Result Decision E) → IsTried t w.text.items → IfOk r (λ d. d.status ≡ status.Done → d.text ≡ w.text) → IfOk r (λ d. d.status ≡ status.Done → IsTried t d.text.items)
+tried_since t w (Ok d) tried told = λ done. subst (λ (v : Vec ℕ Global). IsTried t v.items) (sym (told done)) tried
+tried_since t w (Err e) tried told = tt
 
 pub ruleset commands = (changes_none)

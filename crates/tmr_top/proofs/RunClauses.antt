@@ -12,7 +12,7 @@ use Rattle.tmr_top.specs.declared.status.Status.TheVariants as status
 use Rattle.tmr_top.specs.Line.{Command}
 use Rattle.tmr_top.specs.Loads.{Load, loads_of, saves_of}
 use Rattle.tmr_top.specs.Files.{OfOne, OfEach, OfFirst, IsLong, IsMissing, IsFine}
-use Rattle.tmr_top.specs.Changes.{LoadRose, SaveRose}
+use Rattle.tmr_top.specs.Changes.{LoadRose, SaveRose, LoadFailed, SaveFailed}
 use Rattle.tmr_top.specs.Causes.{Where, OrMemory, ComesTo, IsRefusable, Succeeds, Disagrees, SomeMissing, SomeLoadRose, SomeSaveRose}
 use Rattle.tmr_top.specs.Saves.{IsDone, Completes, IsBroken}
 use Rattle.tmr_top.specs.Texts.{load_fault_line, save_fault_line, refused_line}
@@ -99,14 +99,14 @@ module _ (c : Command) (held : Contents) where
 
 -- ---- what failed
 
-says_load_rose : (old new : FilesSeen) (text : Load → Type 0) (loads : List Load) → OfOne (λ load. LoadRose old new load × text load) loads → OfOne (LoadRose old new) loads
+says_load_rose : (old new : FilesSeen) (text : Load → Type 0) (loads : List Load) → OfOne (λ load. LoadFailed old new load × text load) loads → OfOne (LoadRose old new) loads
 says_load_rose old new text [] rose = rose
-says_load_rose old new text (load ∷ loads) (inl here) = inl here.0
+says_load_rose old new text (load ∷ loads) (inl here) = inl here.0.rose
 says_load_rose old new text (load ∷ loads) (inr later) = inr (says_load_rose old new text loads later)
 
-says_save_rose : (old new : FilesSeen) (text : List ℕ → Type 0) (names : List (List ℕ)) → OfOne (λ name. SaveRose old new name × text name) names → OfOne (SaveRose old new) names
+says_save_rose : (old new : FilesSeen) (text : List ℕ → Type 0) (names : List (List ℕ)) → OfOne (λ name. SaveFailed old new name × text name) names → OfOne (SaveRose old new) names
 says_save_rose old new text [] rose = rose
-says_save_rose old new text (name ∷ names) (inl here) = inl here.0
+says_save_rose old new text (name ∷ names) (inl here) = inl here.0.rose
 says_save_rose old new text (name ∷ names) (inr later) = inr (says_save_rose old new text names later)
 
 load_rose : (c : Command) (old new : FilesSeen) (text : List ℕ) → SaysLoadFault c old new text → SomeLoadRose c old new

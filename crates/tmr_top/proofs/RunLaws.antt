@@ -1,5 +1,6 @@
 -- Lines of words, from what their command comes to.
-use Rattle.std.proofs.Common.{◌≡◌, ◌≢◌, ◌⊎◌, ℕ, List, Option, Some, None, inl, inr, refl}
+use Rattle.std.proofs.Common.{◌≡◌, ◌≢◌, ◌⊎◌, ℕ, List, Option, Some, None, inl, inr, refl, sym, ◌∙◌}
+use Rattle.tmr_outside.specs.Counts.{Rose}
 use Rattle.tmr_outside.specs.Seen.{FilesSeen, SinkSeen, IsTold}
 use Rattle.tmr_top.specs.declared.status.Status.{Status}
 use Rattle.tmr_top.specs.declared.status.Status.TheVariants as status
@@ -7,7 +8,7 @@ use Rattle.tmr_top.specs.Line.{Command}
 use Rattle.tmr_top.specs.Changes.{NoneFailed}
 use Rattle.tmr_top.specs.Texts.{usage_text, memory_text}
 use Rattle.tmr_top.specs.Works.{LeavesLine}
-use Rattle.tmr_top.specs.Runs.{Acts, Ends, Ran}
+use Rattle.tmr_top.specs.Runs.{Acts, Ends, Prints, Ran}
 use Rattle.tmr_top.proofs.ChangeLaws.{changes_none}
 
 pub usage_acts : (line : Option Command) (seen : FilesSeen) (text : List ℕ) → line ≡ None → text ≡ usage_text → Acts line seen seen status.Usage text
@@ -32,6 +33,19 @@ same_status decided answered rose (inl e) fault memory = e
 same_status decided answered rose (inr (inl e)) fault memory = absurd (memory e)
 same_status decided answered rose (inr (inr e)) fault memory = absurd (fault e.0)
 
+-- what is put of a status that is answered Done
+pub prints : (P : List ℕ → Type 0) (text : List ℕ) (out put : SinkSeen) (decided answered : Status) → Ends text out put decided answered → (decided ≡ status.Done → P text) → answered ≡ status.Done → Prints P out put
+prints P text out put decided answered ends fact done = record {
+  text = text;
+  fact = fact (sym (same_status decided answered (Rose out.put_count put.put_count) ends.same (λ f. cc) (λ m. cc)) ∙ done);
+  whole = ends.done done;
+}
+
+-- NotAccepted is answered only where it was decided
+pub still_agrees : (text : List ℕ) (out put : SinkSeen) (decided answered : Status) → Ends text out put decided answered → decided ≢ status.NotAccepted → answered ≢ status.NotAccepted
+still_agrees text out put decided answered ends agrees e =
+    agrees (sym (same_status decided answered (Rose out.put_count put.put_count) ends.same (λ f. cc) (λ m. cc)) ∙ e)
+
 pub ruleset lines = (usage_acts, nothing_left, changes_none)
 
-pub ruleset runs = (memory_acts, ran)
+pub ruleset runs = (memory_acts, ran, prints, still_agrees)

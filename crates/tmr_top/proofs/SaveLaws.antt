@@ -6,28 +6,28 @@ use Rattle.std.specs.FinMap.{insert}
 use Rattle.std.specs.declared.alloc.Global.{Global}
 use Rattle.std.proofs.lemmas.List.{take-append-drop, length-map}
 use Rattle.tmr_outside.specs.Contents.{Contents, SameElsewhere}
-use Rattle.tmr_outside.specs.Counts.{RoseOf, NoneFell, NoneRose}
+use Rattle.tmr_outside.specs.Counts.{RoseOf, NoneFell, NoneRose, OthersStay}
 use Rattle.tmr_outside.specs.Seen.{FilesSeen, IsTold}
 use Rattle.tmr_top.specs.declared.saves.SaveStop.{SaveStop}
 use Rattle.tmr_top.specs.declared.saves.SaveStop.TheVariants as stop
 use Rattle.tmr_top.specs.FileWords.{read_words, texts_in}
-use Rattle.tmr_top.specs.Changes.{IsNone, HeldElsewhere, ChangesOnly}
+use Rattle.tmr_top.specs.Changes.{IsNone, HeldElsewhere, ChangesOnly, SaveFailed, NoneFailed}
 use Rattle.tmr_top.specs.Saves.{with_texts}
 use Rattle.tmr_top.specs.Saved.{after_saves, Saves, StopsAt, IsSaveStop}
-use Rattle.tmr_top.proofs.ChangeLaws.{none_rose, save_change, held_elsewhere, rose_since, none_since, told_as_before, changes_then, changes_more, none_at, held_told}
+use Rattle.tmr_top.proofs.ChangeLaws.{none_rose, save_change, held_elsewhere, rose_since, save_failed_since, none_since, told_as_before, changes_then, changes_more, none_at, held_told}
 
 -- ---- one save
 
 pub saves_one : (name text : List ℕ) (old new : FilesSeen) → new.contents ≡ option_map (λ held. insert held name text) old.contents → (IsTold old → NoneRose old.save_count new.save_count) → Saves (name ∷ []) (text ∷ []) old new
 saves_one name text old new saved none = record { holds = saved; none = none }
 
-pub fails_one : (name : Bor (List ℕ)) (text : List ℕ) (old new : FilesSeen) → RoseOf old.contents (old.save_count name.now) (new.save_count name.now) → SameElsewhere name.now old.contents new.contents → IsSaveStop (name.now ∷ []) (text ∷ []) old new (stop.Failed name)
-fails_one name text old new rose same = record {
+pub fails_one : (name : Bor (List ℕ)) (text : List ℕ) (old new : FilesSeen) → RoseOf old.contents (old.save_count name.now) (new.save_count name.now) → (IsTold old → OthersStay name.now old.save_count new.save_count) → (IsTold old → NoneRose old.load_count new.load_count) → SameElsewhere name.now old.contents new.contents → IsSaveStop (name.now ∷ []) (text ∷ []) old new (stop.Failed name)
+fails_one name text old new rose others loads same = record {
   first = [];
   next = name.now;
   later = [];
   split = refl;
-  stops = (refl, rose, subst (λ (o : Option Contents). HeldElsewhere (name.now ∷ []) o new.contents) (sym (nothing old.contents)) (held_elsewhere name.now old.contents new.contents same));
+  stops = (refl, record { rose = rose; other_saves = others; no_loads = loads }, subst (λ (o : Option Contents). HeldElsewhere (name.now ∷ []) o new.contents) (sym (nothing old.contents)) (held_elsewhere name.now old.contents new.contents same));
 }
   where
     nothing : (o : Option Contents) → after_saves o [] (text ∷ []) ≡ o
@@ -77,7 +77,7 @@ stop_of_one name text b c why is = go is.first is.later is.split is.stops
         none_left y z w [] later split = cc
         none_left y z w (v ∷ first) later split = cc
 
-module _ (names texts : List (List ℕ)) (i : ℕ) (d e : List ℕ) (a b c : FilesSeen) (in_names : i < length names) (in_texts : i < length texts) (held : b.contents ≡ after_saves a.contents (take i names) texts) (none : IsTold a → NoneRose a.save_count b.save_count) (fell : NoneFell a.save_count b.save_count) (told : IsTold a → IsTold b) where
+module _ (names texts : List (List ℕ)) (i : ℕ) (d e : List ℕ) (a b c : FilesSeen) (in_names : i < length names) (in_texts : i < length texts) (held : b.contents ≡ after_saves a.contents (take i names) texts) (none : IsTold a → NoneRose a.save_count b.save_count) (fell : NoneFell a.save_count b.save_count) (still : IsTold a → NoneRose a.load_count b.load_count) (told : IsTold a → IsTold b) where
   abbrev pub name : List ℕ
   name = get_or names i d
 
@@ -100,7 +100,7 @@ module _ (names texts : List (List ℕ)) (i : ℕ) (d e : List ℕ) (a b c : Fil
   at_name : (why : SaveStop) → StopsAt b c [] [] name why → StopsAt a c (take i names) texts name why
   at_name (stop.Failed n) stops = (
     stops.0,
-    rose_since a.contents (a.save_count name) (b.save_count name) (c.save_count name) (fell name) (same_told stops.1),
+    save_failed_since a b c name told (rose_since a.contents (a.save_count name) (b.save_count name) (c.save_count name) (fell name) (same_told stops.1.rose)) (λ is. record { loads = still is; saves = none is }) stops.1,
     subst (λ (o : Option Contents). HeldElsewhere (name ∷ []) o c.contents) (nothing_saved b.contents [] ∙ held) stops.2,
   )
   at_name stop.Memory stops = stops ∙ (nothing_saved b.contents [] ∙ held)
@@ -150,11 +150,14 @@ module _ (names : List (Bor (List ℕ))) (texts : List (Vec ℕ Global)) (i : �
   this_text : text ≡ get_or (texts_in texts) i v.items
   this_text = same ∙ (ap (λ (w : Vec ℕ Global). w.items) is ∙ text_at texts i v)
 
+  still : IsTold a → NoneRose a.load_count b.load_count
+  still is name = before.loads_only is name tt
+
   told : IsTold a → IsTold b
   told = held_told (read_words names) a.contents b.contents before.elsewhere
 
   pub stop_in : (why : SaveStop) → IsSaveStop ((get_or names i d).now ∷ []) (text ∷ []) b c why → IsSaveStop (read_words names) (texts_in texts) a c why
-  stop_in why at = stop_later (read_words names) (texts_in texts) i d.now v.items a b c in_names in_texts held none before.saves told why
+  stop_in why at = stop_later (read_words names) (texts_in texts) i d.now v.items a b c in_names in_texts held none before.saves still told why
       (subst (λ (n : List ℕ). IsSaveStop (n ∷ []) (get_or (texts_in texts) i v.items ∷ []) b c why) this_name (subst (λ (t : List ℕ). IsSaveStop ((get_or names i d).now ∷ []) (t ∷ []) b c why) this_text at))
 
   pub change_in : ChangesOnly [] ((get_or names i d).now ∷ []) b c → ChangesOnly [] (read_words names) a c
@@ -164,7 +167,7 @@ module _ (names : List (Bor (List ℕ))) (texts : List (Vec ℕ Global)) (i : �
   saves_here at = subst (λ (n : List ℕ). Saves (n ∷ []) (get_or (texts_in texts) i v.items ∷ []) b c) this_name (subst (λ (t : List ℕ). Saves ((get_or names i d).now ∷ []) (t ∷ []) b c) this_text at)
 
   pub held_in : Saves ((get_or names i d).now ∷ []) (text ∷ []) b c → c.contents ≡ after_saves a.contents (take (i + 1) (read_words names)) (texts_in texts)
-  held_in at = holds_more (read_words names) (texts_in texts) i d.now v.items a b c in_names in_texts held none before.saves told (saves_here at)
+  held_in at = holds_more (read_words names) (texts_in texts) i d.now v.items a b c in_names in_texts held none before.saves still told (saves_here at)
 
   pub none_in : Saves ((get_or names i d).now ∷ []) (text ∷ []) b c → IsTold a → NoneRose a.save_count c.save_count
-  none_in at = none_more (read_words names) (texts_in texts) i d.now v.items a b c in_names in_texts held none before.saves told (saves_here at)
+  none_in at = none_more (read_words names) (texts_in texts) i d.now v.items a b c in_names in_texts held none before.saves still told (saves_here at)

@@ -32,7 +32,7 @@ use Rattle.tmr_top.specs.FileWords.{texts_in}
 use Rattle.tmr_top.specs.FormText.{form_numbers}
 use Rattle.tmr_top.specs.Line.{TryOut}
 use Rattle.tmr_top.specs.Trials.{Trial}
-use Rattle.tmr_top.specs.Tried.{AreSums, trial_lines}
+use Rattle.tmr_top.specs.Tried.{AreSums, IsTried, trial_lines}
 use Rattle.tmr_top.specs.Trying.{IsRunnable, IsCalm}
 use Rattle.tmr_top.specs.Works.{IsWork}
 use Rattle.tmr_top.proofs.PairLaws.{outcome_work}
@@ -153,22 +153,22 @@ summed number n h k list outcomes sums many drawn replays upsets differences wro
   none_late = none_late;
 }
 
+pub tried_text : (t : Trial) (n h : Net) (k : PlainCert) (minimal : Bool) (sums : RunSums) (text : List ℕ) → n ≡ design_of t.number t.nodes → HardenedForm n 64 h k → (IsTrue minimal ↔ IsMinimal n 64 (parts_of k)) → AreSums t.number n h k sums
+    → text ≡ trial_lines (form_numbers n 64 h k minimal) sums → IsTried t text
+tried_text t n h k minimal sums text drawn form is_minimal runs says = record {
+  hardened = h;
+  certificate = k;
+  form = subst (λ (m : Net). HardenedForm m 64 h k) drawn form;
+  minimal = minimal;
+  is_minimal = subst (λ (m : Net). IsTrue minimal ↔ IsMinimal m 64 (parts_of k)) drawn is_minimal;
+  sums = sums;
+  runs = subst (λ (m : Net). AreSums t.number m h k sums) drawn runs;
+  says = says ∙ ap (λ (m : Net). trial_lines (form_numbers m 64 h k minimal) sums) drawn;
+}
+
 pub tried_work : (held : Contents) (t : Trial) (n h : Net) (k : PlainCert) (minimal : Bool) (sums : RunSums) (w : Work) → n ≡ design_of t.number t.nodes → HardenedForm n 64 h k → (IsTrue minimal ↔ IsMinimal n 64 (parts_of k)) → AreSums t.number n h k sums
     → w.verdict ≡ Done → texts_in w.saves.items ≡ [] → w.text.items ≡ trial_lines (form_numbers n 64 h k minimal) sums → IsWork (TryOut t) held w
 tried_work held t n h k minimal sums w drawn form is_minimal runs done none says =
-    outcome_work (TryOut t) held w Done done (
-      record {
-        hardened = h;
-        certificate = k;
-        form = subst (λ (m : Net). HardenedForm m 64 h k) drawn form;
-        minimal = minimal;
-        is_minimal = subst (λ (m : Net). IsTrue minimal ↔ IsMinimal m 64 (parts_of k)) drawn is_minimal;
-        sums = sums;
-        runs = subst (λ (m : Net). AreSums t.number m h k sums) drawn runs;
-        says = says ∙ ap (λ (m : Net). trial_lines (form_numbers m 64 h k minimal) sums) drawn;
-      },
-      none,
-    )
-    (λ p is. cc)
+    outcome_work (TryOut t) held w Done done (tried_text t n h k minimal sums w.text.items drawn form is_minimal runs says, none) (λ p is. cc)
 
 pub ruleset runs = (summed, form_fits)

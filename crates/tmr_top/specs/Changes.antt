@@ -2,7 +2,7 @@
 use Rattle.std.specs.Prelude.{◌≡◌, ◌≢◌, ℕ, List, [], ◌∷◌, Option, Some, None}
 use Rattle.std.specs.FinMap.{get}
 use Rattle.tmr_outside.specs.Contents.{Contents}
-use Rattle.tmr_outside.specs.Counts.{RoseOf, NoneFell, NoneRose}
+use Rattle.tmr_outside.specs.Counts.{RoseOf, NoneFell, NoneRose, OthersStay}
 use Rattle.tmr_outside.specs.Seen.{FilesSeen, IsTold}
 use Rattle.tmr_top.specs.Loads.{Load}
 
@@ -13,6 +13,18 @@ LoadRose old new load = RoseOf old.contents (old.load_count load.name) (new.load
 -- the save count of the name rose
 abbrev pub SaveRose : FilesSeen → FilesSeen → List ℕ → Type 0
 SaveRose old new name = RoseOf old.contents (old.save_count name) (new.save_count name)
+
+-- the load of this file failed, and where contents are told no other act did: no other load count rose, and no save count
+pub record LoadFailed (old new : FilesSeen) (load : Load) : Type 0 where
+  pub rose : LoadRose old new load
+  pub other_loads : IsTold old → OthersStay load.name old.load_count new.load_count
+  pub no_saves : IsTold old → NoneRose old.save_count new.save_count
+
+-- the save of this name failed, and where contents are told no other act did: no other save count rose, and no load count
+pub record SaveFailed (old new : FilesSeen) (name : List ℕ) : Type 0 where
+  pub rose : SaveRose old new name
+  pub other_saves : IsTold old → OthersStay name old.save_count new.save_count
+  pub no_loads : IsTold old → NoneRose old.load_count new.load_count
 
 -- no load count and no save count of any name rose
 pub record NoneFailed (old new : FilesSeen) : Type 0 where

@@ -1,6 +1,7 @@
 -- `guard ORIG GUARDED` and `guarded ORIG GUARDED`: what they come to.
-use Rattle.std.specs.Prelude.{◌≡◌, ◌⊎◌, ℕ, Bool, List, [], ◌∷◌, count_by}
+use Rattle.std.specs.Prelude.{◌≡◌, ◌≤◌, ◌⊎◌, ℕ, Bool, List, [], ◌∷◌, length, count_by}
 use Rattle.flat_net.specs.Net.{Net}
+use Rattle.blif_writer.specs.NetOf.{IsNetOf}
 use Rattle.blif_writer.specs.Text.{flat_text}
 use Rattle.dwc.specs.Answer.{BreaksFirst}
 use Rattle.dwc.specs.Guard.{guard_net}
@@ -13,13 +14,16 @@ use Rattle.tmr_top.specs.Loads.{original_file, hardened_file}
 use Rattle.tmr_top.specs.Designs.{HoldsDesign, HoldsNoDesign}
 use Rattle.tmr_top.specs.Texts.{guard_line, guarded_line, not_guarded_line, refused_line}
 
--- `guard` is done: the original is a design, the text of its guarded design is saved, whose alarm tells, and it is told of
+-- `guard` is done: the original is a design, the text of its guarded design is saved, whose alarm tells, and it is told of; the text keeps
+-- the limit of its file, and is read as that design
 pub record IsGuarded (w : Guarding) (held : Contents) (saved : List (List ℕ)) (text : List ℕ) : Type 0 where
   pub original : Net
   pub free : List Bool
   pub holds : HoldsDesign held (original_file w.original) original free
   pub guards : Guards original (guard_net original)
   pub saves : saved ≡ flat_text (guard_net original) ∷ []
+  pub keeps : length (flat_text (guard_net original)) ≤ 1073741824
+  pub read : IsNetOf (flat_text (guard_net original)) 1073741824 (guard_net original) 0
   pub says : text ≡ guard_line original (guard_net original) (count_by (λ bit. bit) free)
 
 -- the original is no design

@@ -1,10 +1,11 @@
--- What `harden` leaves in its files.
+-- What `harden` and `guard` leave in their files.
 use Rattle.std.specs.Prelude.{◌≢◌, Bool, List}
 use Rattle.flat_net.specs.Net.{Net}
 use Rattle.certificate.specs.Cert.{PlainCert}
 use Rattle.triplicate.specs.Form.{BoundedForm}
+use Rattle.dwc.specs.Guard.{guard_net}
 use Rattle.tmr_outside.specs.Contents.{Contents}
-use Rattle.tmr_top.specs.Line.{Pair, Hardening, Validate}
+use Rattle.tmr_top.specs.Line.{Pair, Hardening, Guarding, Validate, CheckGuard}
 use Rattle.tmr_top.specs.Loads.{original_file, hardened_file, certificate_file}
 use Rattle.tmr_top.specs.Designs.{HoldsDesign}
 use Rattle.tmr_top.specs.Pairs.{HoldsCertificate}
@@ -27,3 +28,13 @@ pub record LeavesHardened (w : Hardening) (held now : Contents) : Type 0 where
   pub hardened_read : HoldsDesign now (hardened_file w.hardened) hardened marks
   pub certificate_read : HoldsCertificate now (certificate_file w.certificate) original hardened certificate
   pub validates : w.original ≢ w.hardened → w.original ≢ w.certificate → Succeeds (Validate (pair_of w)) now
+
+-- ORIG held a design, and GUARDED now holds the guarded design of it, within the limit of such a file; where ORIG is not GUARDED,
+-- `guarded` of the two files comes to Done
+pub record LeavesGuarded (w : Guarding) (held now : Contents) : Type 0 where
+  pub original : Net
+  pub free : List Bool
+  pub original_held : HoldsDesign held (original_file w.original) original free
+  pub marks : List Bool
+  pub guarded_read : HoldsDesign now (hardened_file w.guarded) (guard_net original) marks
+  pub checks : w.original ≢ w.guarded → Succeeds (CheckGuard w) now

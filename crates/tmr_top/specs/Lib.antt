@@ -30,6 +30,7 @@ pub mod GraphCounted
 pub mod Tried
 pub mod Trying
 pub mod Outcomes
+pub mod ByWords
 pub mod Causes
 pub mod HardenedFiles
 pub mod Saves

@@ -15,7 +15,7 @@ use Rattle.tmr_top.specs.declared.status.Status.{Status}
 use Rattle.tmr_top.specs.declared.status.Status.TheVariants as status
 use Rattle.tmr_top.specs.Loads.{Load}
 use Rattle.tmr_top.specs.Files.{Holds, OfOne, OfFirst, IsLong, IsMissing}
-use Rattle.tmr_top.specs.Changes.{LoadRose}
+use Rattle.tmr_top.specs.Changes.{LoadFailed}
 use Rattle.tmr_top.specs.Texts.{load_fault_line, refused_line}
 
 -- what the file holds was read, with this result
@@ -56,7 +56,7 @@ pub record Loads (loads : List Load) (old new : FilesSeen) (all : List Loaded) :
 
 -- why these loads came to no end
 abbrev pub IsStop : List Load → FilesSeen → FilesSeen → Stop → Type 0
-IsStop loads old new (stop.Failed name) = OfOne (λ load. LoadRose old new load × (name.now ≡ load.name)) loads
+IsStop loads old new (stop.Failed name) = OfOne (λ load. LoadFailed old new load × (name.now ≡ load.name)) loads
 IsStop loads old new (stop.TooLong name) =
     IfSome old.contents (λ held. OfFirst held (λ load. IsLong held load × (name.now ≡ load.name)) loads)
     × (IsTold old → NoneRose old.load_count new.load_count)

@@ -11,7 +11,7 @@ use Rattle.tmr_top.specs.declared.status.Status.TheVariants as status
 use Rattle.tmr_top.specs.Line.{Command}
 use Rattle.tmr_top.specs.Loads.{loads_of, saves_of}
 use Rattle.tmr_top.specs.Files.{OfOne, OfEach, OfFirst, IsLong, IsFine}
-use Rattle.tmr_top.specs.Changes.{LoadRose, SaveRose, NoneFailed}
+use Rattle.tmr_top.specs.Changes.{LoadFailed, SaveFailed, NoneFailed}
 use Rattle.tmr_top.specs.Outcomes.{Outcome}
 use Rattle.tmr_top.specs.Saves.{IsDone, IsBroken}
 use Rattle.tmr_top.specs.Texts.{load_fault_line, save_fault_line, refused_line, usage_text, memory_text}
@@ -31,18 +31,18 @@ abbrev pub SaysTooLong : Command → Contents → List ℕ → Type 0
 SaysTooLong c held text =
     OfFirst held (λ load. IsLong held load × (text ≡ refused_line load.name (codes "too long"))) (loads_of c)
 
--- a file whose load count rose is named
+-- a file whose load failed is named, and its load alone failed
 abbrev pub SaysLoadFault : Command → FilesSeen → FilesSeen → List ℕ → Type 0
-SaysLoadFault c old new text = OfOne (λ load. LoadRose old new load × (text ≡ load_fault_line load.name)) (loads_of c)
+SaysLoadFault c old new text = OfOne (λ load. LoadFailed old new load × (text ≡ load_fault_line load.name)) (loads_of c)
 
--- a file whose save count rose is named
+-- a name whose save failed is named, and its save alone failed
 abbrev pub SaysSaveFault : Command → FilesSeen → FilesSeen → List ℕ → Type 0
-SaysSaveFault c old new text = OfOne (λ name. SaveRose old new name × (text ≡ save_fault_line name)) (saves_of c)
+SaysSaveFault c old new text = OfOne (λ name. SaveFailed old new name × (text ≡ save_fault_line name)) (saves_of c)
 
 -- the save of a name failed, behind those that hold their whole texts, and it is named
 pub record SaysBroken (c : Command) (held : Contents) (old new : FilesSeen) (text : List ℕ) : Type 0 where
   pub broken : IsBroken c held old new
-  pub rose : SaveRose old new broken.next
+  pub failed : SaveFailed old new broken.next
   pub says : text ≡ save_fault_line broken.next
 
 -- What a command saves and prints, by the status that is decided before the put.
@@ -69,14 +69,25 @@ Acts None old new s text =
 abbrev pub IsWhole : List ℕ → SinkSeen → SinkSeen → Type 0
 IsWhole text old new = new.written ≡ option_map (λ before. before ++ text) old.written
 
--- How a put ends. The status is the one that was decided, but that a put that wants memory makes it Memory, and a put that
--- fails makes Done into Fault.
+-- nothing is written, or what is written is not told
+abbrev pub IsNothing : SinkSeen → SinkSeen → Type 0
+IsNothing old new = new.written ≡ old.written
+
+-- How the one put of the text ends. The status is the one that was decided, but that a put that wants memory makes it Memory, and a
+-- put that fails makes Done into Fault. Whatever the status, the whole text is written, or nothing is, or the count of failed puts rose.
 pub record Ends (text : List ℕ) (old new : SinkSeen) (decided answered : Status) : Type 0 where
   pub prefix : AppendsPrefix text old.written new.written
   pub same : (answered ≡ decided) ⊎ (answered ≡ status.Memory)
       ⊎ ((answered ≡ status.Fault) × (decided ≡ status.Done) × Rose old.put_count new.put_count)
   pub whole : answered ≢ status.Memory → IsWhole text old new ⊎ Rose old.put_count new.put_count
   pub done : answered ≡ status.Done → IsWhole text old new
+  pub wrote : IsWhole text old new ⊎ IsNothing old new ⊎ Rose old.put_count new.put_count
+
+-- a text of which P holds is written whole
+pub record Prints (P : List ℕ → Type 0) (old new : SinkSeen) : Type 0 where
+  pub text : List ℕ
+  pub fact : P text
+  pub whole : IsWhole text old new
 
 -- One run: what it saves and prints, and how its put ends. Where contents are told, no fault was passed over: what was decided is Fault
 -- or Memory, or no load and no save failed.

@@ -5,7 +5,7 @@ use Rattle.tmr_outside.specs.Counts.{NoneRose}
 use Rattle.tmr_outside.specs.Seen.{FilesSeen, IsTold}
 use Rattle.tmr_top.specs.declared.saves.SaveStop.{SaveStop}
 use Rattle.tmr_top.specs.declared.saves.SaveStop.TheVariants as stop
-use Rattle.tmr_top.specs.Changes.{SaveRose, HeldElsewhere}
+use Rattle.tmr_top.specs.Changes.{SaveFailed, HeldElsewhere}
 use Rattle.tmr_top.specs.Saves.{with_texts}
 
 -- these texts were saved under these names, where contents are told
@@ -20,7 +20,7 @@ pub record Saves (names texts : List (List ℕ)) (old new : FilesSeen) : Type 0 
 -- the save of this name came to no end, where the first texts were saved
 abbrev pub StopsAt : FilesSeen → FilesSeen → List (List ℕ) → List (List ℕ) → List ℕ → SaveStop → Type 0
 StopsAt old new first texts next (stop.Failed name) =
-    (name.now ≡ next) × SaveRose old new next × HeldElsewhere (next ∷ []) (after_saves old.contents first texts) new.contents
+    (name.now ≡ next) × SaveFailed old new next × HeldElsewhere (next ∷ []) (after_saves old.contents first texts) new.contents
 StopsAt old new first texts next stop.Memory = new.contents ≡ after_saves old.contents first texts
 
 -- where these saves came to no end

@@ -7,7 +7,7 @@ use Rattle.tmr_top.specs.declared.decision.Verdict.TheVariants.{Done}
 use Rattle.tmr_top.specs.Line.{Command}
 use Rattle.tmr_top.specs.Loads.{loads_of, saves_of}
 use Rattle.tmr_top.specs.Files.{OfEach, IsFine}
-use Rattle.tmr_top.specs.Changes.{SaveRose, HeldElsewhere}
+use Rattle.tmr_top.specs.Changes.{SaveFailed, HeldElsewhere}
 use Rattle.tmr_top.specs.Outcomes.{Outcome}
 
 -- these texts were saved under these names, one after the other
@@ -28,8 +28,8 @@ pub record Completes (c : Command) (held : Contents) (now : Option Contents) : T
   pub text : List ℕ
   pub is_done : IsDone c held now text
 
--- The saves of a command that would be done came to no end. The first names hold their whole texts. The next one, where its save count
--- rose, holds what it may. All others hold what they held.
+-- The saves of a command that would be done came to no end. The first names hold their whole texts. The next one, where its save
+-- failed, holds what it may. All others hold what they held.
 pub record IsBroken (c : Command) (held : Contents) (old new : FilesSeen) : Type 0 where
   pub fine : OfEach (IsFine held) (loads_of c)
   pub saved : List (List ℕ)
@@ -40,4 +40,4 @@ pub record IsBroken (c : Command) (held : Contents) (old new : FilesSeen) : Type
   pub later : List (List ℕ)
   pub names : saves_of c ≡ first ++ next ∷ later
   pub holds : (new.contents ≡ Some (with_texts held first saved))
-      ⊎ (SaveRose old new next × HeldElsewhere (next ∷ []) (Some (with_texts held first saved)) new.contents)
+      ⊎ (SaveFailed old new next × HeldElsewhere (next ∷ []) (Some (with_texts held first saved)) new.contents)

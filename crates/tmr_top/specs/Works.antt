@@ -1,5 +1,5 @@
 -- What the work of a command answers. Private functions alone speak of this.
-use Rattle.std.specs.Prelude.{◌≡◌, ℕ, ◌⊎◌, List, length, count_by, Option, Some, None, IfSome}
+use Rattle.std.specs.Prelude.{◌≡◌, ◌≢◌, ℕ, ◌⊎◌, List, length, count_by, Option, Some, None, IfSome}
 use Rattle.reports.specs.Report.{IsReport}
 use Rattle.tmr_outside.specs.Contents.{Contents}
 use Rattle.tmr_outside.specs.Seen.{FilesSeen}
@@ -8,7 +8,7 @@ use Rattle.tmr_top.specs.declared.pair_task.PairTask.TheVariants as task
 use Rattle.tmr_top.specs.declared.replay_words.FileTask.{FileTask}
 use Rattle.tmr_top.specs.declared.replay_words.FileTask.TheVariants as file_task
 use Rattle.tmr_top.specs.declared.decision.Work.{Work}
-use Rattle.tmr_top.specs.declared.decision.Verdict.TheVariants.{Done}
+use Rattle.tmr_top.specs.declared.decision.Verdict.TheVariants.{Done, NotAccepted}
 use Rattle.tmr_top.specs.Line.{Command, Pair, Validate}
 use Rattle.tmr_top.specs.Pairs.{ReadPair, Masked}
 use Rattle.tmr_top.specs.Texts.{accepted_line}
@@ -38,6 +38,10 @@ HoldsTask held (file_task.Replay s) = HoldsBytes held (schedule_file s.name.now)
 -- where the command is done there are as many texts to be saved as names
 abbrev pub HasTexts : Command → Work → Type 0
 HasTexts c work = work.verdict ≡ Done → length work.saves.items ≡ length (saves_of c)
+
+-- the work does not say that files do not agree
+abbrev pub Agrees : Work → Type 0
+Agrees work = work.verdict ≢ NotAccepted
 
 -- all is loaded, and the work is an outcome of the command
 pub record Comes (c : Command) (held : Contents) (work : Work) : Type 0 where

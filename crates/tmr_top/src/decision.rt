@@ -1,5 +1,5 @@
 //! What a command comes to before its text is put.
-ghost use Rattle.std.specs.Prelude.{◌≡◌, IfOk};
+ghost use Rattle.std.specs.Prelude.{◌≡◌, ◌≢◌, IfOk};
 ghost use Rattle.tmr_top.specs.Loaded.{IsStopped};
 ghost use Rattle.tmr_top.specs.Texts.{refused_line};
 
@@ -35,7 +35,9 @@ pub struct Decision {
 
 /// The decision where loads came to no end.
 pub fn stopped(alloc: Global, stop: Stop) -> Result<Decision, OutOfMemory>
-    ensures { IfOk result (λ d. IsStopped stop.entry d.status d.text.items) }
+    ensures stopped { IfOk result (λ d. IsStopped stop.entry d.status d.text.items) }
+    ensures undone { IfOk result (λ d. d.status ≢ Status.Done) }
+    ensures agrees { IfOk result (λ d. d.status ≢ Status.NotAccepted) }
 {
     match stop {
         Stop::Failed(name) => {

@@ -1,16 +1,19 @@
 //! `guard ORIG GUARDED` and `guarded ORIG GUARDED`.
 ghost use Rattle.std.specs.Prelude.{◌≡◌, ◌≤◌, ◌+◌, ◌*◌, IfOk};
 ghost use Rattle.flat_net.specs.Net.{net_count, pin_total};
+ghost use Rattle.blif_writer.specs.Length.{flat_length};
+ghost use Rattle.dwc.specs.Guard.{guard_net};
 ghost use Rattle.tmr_outside.specs.Contents.{Contents};
 ghost use Rattle.tmr_top.specs.Line.{Guard, CheckGuard};
 ghost use Rattle.tmr_top.specs.FileWords.{guarding_in};
 ghost use Rattle.tmr_top.specs.Loads.{original_file, hardened_file, loads_of};
 ghost use Rattle.tmr_top.specs.Loaded.{HoldsText, HoldsEach, FitsEach};
 ghost use Rattle.tmr_top.specs.Designs.{HoldsDesign};
-ghost use Rattle.tmr_top.specs.Works.{IsWork, HasTexts};
+ghost use Rattle.tmr_top.specs.FlatWithin.{IsFlatWithin};
+ghost use Rattle.tmr_top.specs.Works.{IsWork, HasTexts, Agrees};
 
 use crate::decision::{Verdict, Work, refusal};
-use crate::designs::{Unread, read_design};
+use crate::designs::{Unread, checked_nodes, read_design};
 use crate::line::GuardWords;
 use crate::loads::{HARDENED_LIMIT, Loaded, ORIGINAL_LIMIT};
 use crate::texts::{guard_found, guard_made, guard_not_found};
@@ -21,15 +24,26 @@ use flat_net::FreeNet;
 use std::alloc::Global;
 use tmr_base::OutOfMemory;
 
+/// The flat text of the guarded design keeps the limit of its file, where that of the original keeps its own.
+fn text_keeps_limit(n: &FreeNet)
+    requires { IsFlatWithin 8388608 n.now.design.net n.now.free }
+    ensures { flat_length (guard_net n.now.design.net) ≤ 1073741824 }
+{
+    let _original = checked_nodes(n);
+}
+
 /// The text of the guarded design, and what is told of it.
 #[tactic(auto, using(crate::proofs::GuardLaws::making))]
 fn guard_design(alloc: Global, words: &GuardWords, n: &FreeNet) -> Result<Work, OutOfMemory>
-    requires { net_count n.now.design.net + pin_total n.now.design.net ≤ 16777216 }
+    requires few { net_count n.now.design.net + pin_total n.now.design.net ≤ 16777216 }
+    requires flat { IsFlatWithin 8388608 n.now.design.net n.now.free }
     ensures texts { IfOk result (HasTexts (Guard (guarding_in words.now))) }
+    ensures agrees { IfOk result Agrees }
     ensures work { (held : Contents)
         → HoldsDesign held (original_file words.now.original.now) n.now.design.net n.now.free
         → IfOk result (IsWork (Guard (guarding_in words.now)) held) }
 {
+    text_keeps_limit(n);
     let guarded = guard(alloc, n.net())?;
     let bytes = write_flat(alloc, &guarded)?;
     let text = guard_made(alloc, n.net(), &guarded, n.free_count())?;
@@ -50,6 +64,7 @@ fn guard_text(
     text: &mut Result<Library, TextFault>,
 ) -> Result<Work, OutOfMemory>
     ensures texts { IfOk result (HasTexts (Guard (guarding_in words.now))) }
+    ensures agrees { IfOk result Agrees }
     ensures work { (held : Contents)
         → HoldsText held (original_file words.now.original.now) text.old
         → IfOk result (IsWork (Guard (guarding_in words.now)) held) }
@@ -69,6 +84,7 @@ pub fn guard_file(
 ) -> Result<Work, OutOfMemory>
     requires { FitsEach (loads_of (Guard (guarding_in words.now))) loaded.old }
     ensures texts { IfOk result (HasTexts (Guard (guarding_in words.now))) }
+    ensures agrees { IfOk result Agrees }
     ensures work { (held : Contents)
         → HoldsEach held (loads_of (Guard (guarding_in words.now))) loaded.old
         → IfOk result (IsWork (Guard (guarding_in words.now)) held) }

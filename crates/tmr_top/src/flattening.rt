@@ -6,7 +6,7 @@ ghost use Rattle.tmr_top.specs.FileWords.{flattening_in};
 ghost use Rattle.tmr_top.specs.Loads.{original_file, loads_of};
 ghost use Rattle.tmr_top.specs.Loaded.{HoldsText, HoldsEach, FitsEach};
 ghost use Rattle.tmr_top.specs.Designs.{HoldsDesign};
-ghost use Rattle.tmr_top.specs.Works.{IsWork, HasTexts};
+ghost use Rattle.tmr_top.specs.Works.{IsWork, HasTexts, Agrees};
 
 use crate::decision::{Verdict, Work, refusal};
 use crate::designs::{Unread, read_design};
@@ -22,6 +22,7 @@ use tmr_base::OutOfMemory;
 /// The flat text of a design, and what is told of it.
 fn tell_design(alloc: Global, words: &FlatWords, flat: &FreeNet) -> Result<Work, OutOfMemory>
     ensures texts { IfOk result (HasTexts (Flatten (flattening_in words.now))) }
+    ensures agrees { IfOk result Agrees }
     ensures work { (held : Contents)
         → HoldsDesign held (original_file words.now.original.now)
         flat.now.design.net flat.now.free
@@ -46,6 +47,7 @@ fn flatten_text(
     text: &mut Result<Library, TextFault>,
 ) -> Result<Work, OutOfMemory>
     ensures texts { IfOk result (HasTexts (Flatten (flattening_in words.now))) }
+    ensures agrees { IfOk result Agrees }
     ensures work { (held : Contents)
         → HoldsText held (original_file words.now.original.now) text.old
         → IfOk result (IsWork (Flatten (flattening_in words.now)) held) }
@@ -61,6 +63,7 @@ fn flatten_text(
 pub fn flatten(alloc: Global, words: &FlatWords, loaded: &mut [Loaded]) -> Result<Work, OutOfMemory>
     requires { FitsEach (loads_of (Flatten (flattening_in words.now))) loaded.old }
     ensures texts { IfOk result (HasTexts (Flatten (flattening_in words.now))) }
+    ensures agrees { IfOk result Agrees }
     ensures work { (held : Contents)
         → HoldsEach held (loads_of (Flatten (flattening_in words.now))) loaded.old
         → IfOk result (IsWork (Flatten (flattening_in words.now)) held) }

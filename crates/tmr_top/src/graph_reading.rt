@@ -7,7 +7,7 @@ ghost use Rattle.tmr_top.specs.Loads.{graph_file, loads_of};
 ghost use Rattle.tmr_top.specs.Loaded.{HoldsBytes, HoldsEach, FitsEach};
 ghost use Rattle.tmr_top.specs.GraphRead.{HoldsNoGraph};
 ghost use Rattle.tmr_top.specs.GraphCounted.{HoldsCounted};
-ghost use Rattle.tmr_top.specs.Works.{IsWork, HasTexts};
+ghost use Rattle.tmr_top.specs.Works.{IsWork, HasTexts, Agrees};
 
 use crate::decision::{Verdict, Work, refusal};
 use crate::line::GraphReadWords;
@@ -27,6 +27,7 @@ fn tell_graph(
     read: &CountedDesign,
 ) -> Result<Work, OutOfMemory>
     ensures texts { IfOk result (HasTexts (ReadGraph (graph_reading_in words.now))) }
+    ensures agrees { IfOk result Agrees }
     ensures work { (held : Contents)
         → HoldsCounted held (graph_file words.now.graph.now) read.now
         → IfOk result (IsWork (ReadGraph (graph_reading_in words.now)) held) }
@@ -50,6 +51,7 @@ fn refuse_graph(
     fault: &AagFault,
 ) -> Result<Work, OutOfMemory>
     ensures texts { IfOk result (HasTexts (ReadGraph (graph_reading_in words.now))) }
+    ensures agrees { IfOk result Agrees }
     ensures work { (held : Contents)
         → HoldsNoGraph held (graph_file words.now.graph.now) fault.now
         → IfOk result (IsWork (ReadGraph (graph_reading_in words.now)) held) }
@@ -63,6 +65,7 @@ fn refuse_graph(
 fn read_graph(alloc: Global, words: &GraphReadWords, bytes: &[u8]) -> Result<Work, OutOfMemory>
     requires { length bytes.now ≤ 8388608 }
     ensures texts { IfOk result (HasTexts (ReadGraph (graph_reading_in words.now))) }
+    ensures agrees { IfOk result Agrees }
     ensures work { (held : Contents)
         → HoldsBytes held (graph_file words.now.graph.now) bytes.now
         → IfOk result (IsWork (ReadGraph (graph_reading_in words.now)) held) }
@@ -81,6 +84,7 @@ pub fn read_graph_file(
 ) -> Result<Work, OutOfMemory>
     requires { FitsEach (loads_of (ReadGraph (graph_reading_in words.now))) loaded.now }
     ensures texts { IfOk result (HasTexts (ReadGraph (graph_reading_in words.now))) }
+    ensures agrees { IfOk result Agrees }
     ensures work { (held : Contents)
         → HoldsEach held (loads_of (ReadGraph (graph_reading_in words.now))) loaded.now
         → IfOk result (IsWork (ReadGraph (graph_reading_in words.now)) held) }

@@ -8,7 +8,7 @@ ghost use Rattle.tmr_top.specs.FileWords.{graphing_in};
 ghost use Rattle.tmr_top.specs.Loads.{original_file, loads_of};
 ghost use Rattle.tmr_top.specs.Loaded.{HoldsText, HoldsEach, FitsEach};
 ghost use Rattle.tmr_top.specs.Designs.{HoldsDesign};
-ghost use Rattle.tmr_top.specs.Works.{IsWork, HasTexts};
+ghost use Rattle.tmr_top.specs.Works.{IsWork, HasTexts, Agrees};
 
 use crate::decision::{Verdict, Work, refusal};
 use crate::designs::{Unread, read_design};
@@ -27,6 +27,7 @@ fn graph_design(alloc: Global, words: &GraphWords, n: &FreeNet) -> Result<Work, 
     requires few { net_count n.now.design.net + pin_total n.now.design.net ≤ 16777216 }
     requires small { row_total n.now.design.net ≤ 16777216 }
     ensures texts { IfOk result (HasTexts (WriteGraph (graphing_in words.now))) }
+    ensures agrees { IfOk result Agrees }
     ensures work { (held : Contents)
         → HoldsDesign held (original_file words.now.original.now) n.now.design.net n.now.free
         → IfOk result (IsWork (WriteGraph (graphing_in words.now)) held) }
@@ -50,6 +51,7 @@ fn graph_text(
     text: &mut Result<Library, TextFault>,
 ) -> Result<Work, OutOfMemory>
     ensures texts { IfOk result (HasTexts (WriteGraph (graphing_in words.now))) }
+    ensures agrees { IfOk result Agrees }
     ensures work { (held : Contents)
         → HoldsText held (original_file words.now.original.now) text.old
         → IfOk result (IsWork (WriteGraph (graphing_in words.now)) held) }
@@ -69,6 +71,7 @@ pub fn graph_file(
 ) -> Result<Work, OutOfMemory>
     requires { FitsEach (loads_of (WriteGraph (graphing_in words.now))) loaded.old }
     ensures texts { IfOk result (HasTexts (WriteGraph (graphing_in words.now))) }
+    ensures agrees { IfOk result Agrees }
     ensures work { (held : Contents)
         → HoldsEach held (loads_of (WriteGraph (graphing_in words.now))) loaded.old
         → IfOk result (IsWork (WriteGraph (graphing_in words.now)) held) }

@@ -1,6 +1,6 @@
 //! `harden ORIG HARD CERT`.
 ghost use Rattle.std.specs.Prelude.{◌≡◌, ◌≤◌, ◌+◌, IfOk, count_by};
-ghost use Rattle.hardened_size.specs.Size.{KeepLimits};
+ghost use Rattle.hardened_size.specs.Size.{AreShort, KeepLimits};
 ghost use Rattle.hardened_text.specs.Texts.{AreTexts};
 ghost use Rattle.flat_net.specs.Net.{net_count, pin_total};
 ghost use Rattle.tmr_outside.specs.Contents.{Contents};
@@ -11,7 +11,7 @@ ghost use Rattle.tmr_top.specs.Loaded.{HoldsText, HoldsEach, FitsEach};
 ghost use Rattle.tmr_top.specs.Designs.{HoldsDesign};
 ghost use Rattle.tmr_top.specs.FlatWithin.{IsFlatWithin};
 ghost use Rattle.tmr_top.specs.FormText.{form_numbers, hardened_lines};
-ghost use Rattle.tmr_top.specs.Works.{IsWork, HasTexts};
+ghost use Rattle.tmr_top.specs.Works.{IsWork, HasTexts, Agrees};
 
 use crate::decision::{Verdict, Work, refusal};
 use crate::designs::{Unread, checked_nodes, read_design};
@@ -50,10 +50,12 @@ fn form_text(
     hardened_lines(alloc, &numbers, words.version, n.free_count())
 }
 
-/// Both texts of a hardened form keep the limits of their files, where the flat text of its original keeps its own.
+/// Both texts of a hardened form are short beside the flat text of its original, and keep the limits of their files where that keeps
+/// its own.
 fn texts_keep_limits(words: &HardenWords, n: &FreeNet, made: &HardenedTexts)
     requires { IsFlatWithin 8388608 n.now.design.net n.now.free }
-    ensures { (a : AreTexts words.now.form n.now words.now.size words.now.version words.now.most made.now) → KeepLimits n.now.design.net a.pair.net.design.net a.pair.cert }
+    ensures limits { (a : AreTexts words.now.form n.now words.now.size words.now.version words.now.most made.now) → KeepLimits n.now.design.net a.pair.net.design.net a.pair.cert }
+    ensures short { (a : AreTexts words.now.form n.now words.now.size words.now.version words.now.most made.now) → AreShort n.now.design.net a.pair.net.design.net a.pair.cert }
 {
     hardened_texts_are_short();
     let _original = checked_nodes(n);
@@ -67,8 +69,10 @@ fn tell_form(
     made: HardenedTexts,
 ) -> Result<Work, OutOfMemory>
     requires made { AreTexts words.now.form n.now words.now.size words.now.version words.now.most made }
+    requires few { net_count n.now.design.net + pin_total n.now.design.net ≤ 16777216 }
     requires flat { IsFlatWithin 8388608 n.now.design.net n.now.free }
     ensures texts { IfOk result (HasTexts (Harden (hardening_in words.now))) }
+    ensures agrees { IfOk result Agrees }
     ensures work { (held : Contents)
         → HoldsDesign held (original_file words.now.original.now) n.now.design.net n.now.free
         → IfOk result (IsWork (Harden (hardening_in words.now)) held) }
@@ -91,6 +95,7 @@ fn harden_design(alloc: Global, words: &HardenWords, n: &FreeNet) -> Result<Work
     requires few { net_count n.now.design.net + pin_total n.now.design.net ≤ 16777216 }
     requires flat { IsFlatWithin 8388608 n.now.design.net n.now.free }
     ensures texts { IfOk result (HasTexts (Harden (hardening_in words.now))) }
+    ensures agrees { IfOk result Agrees }
     ensures work { (held : Contents)
         → HoldsDesign held (original_file words.now.original.now) n.now.design.net n.now.free
         → IfOk result (IsWork (Harden (hardening_in words.now)) held) }
@@ -107,6 +112,7 @@ fn harden_text(
     text: &mut Result<Library, TextFault>,
 ) -> Result<Work, OutOfMemory>
     ensures texts { IfOk result (HasTexts (Harden (hardening_in words.now))) }
+    ensures agrees { IfOk result Agrees }
     ensures work { (held : Contents)
         → HoldsText held (original_file words.now.original.now) text.old
         → IfOk result (IsWork (Harden (hardening_in words.now)) held) }
@@ -126,6 +132,7 @@ pub fn harden(
 ) -> Result<Work, OutOfMemory>
     requires { FitsEach (loads_of (Harden (hardening_in words.now))) loaded.old }
     ensures texts { IfOk result (HasTexts (Harden (hardening_in words.now))) }
+    ensures agrees { IfOk result Agrees }
     ensures work { (held : Contents)
         → HoldsEach held (loads_of (Harden (hardening_in words.now))) loaded.old
         → IfOk result (IsWork (Harden (hardening_in words.now)) held) }

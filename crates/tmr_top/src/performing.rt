@@ -1,16 +1,19 @@
 //! What every command does: it loads, works, saves, and decides.
-ghost use Rattle.std.specs.Prelude.{◌≡◌, ◌≢◌, ◌⊎◌, [], length, map, IfOk, IfSome, MatchResult};
+ghost use Rattle.std.specs.Prelude.{◌≡◌, ◌≢◌, ◌⊎◌, false, [], length, map, IfOk, IfSome, MatchResult};
 ghost use Rattle.tmr_outside.specs.Contents.{Contents};
 ghost use Rattle.tmr_outside.specs.Counts.{NoneRose};
 ghost use Rattle.tmr_outside.specs.Seen.{IsTold};
-ghost use Rattle.tmr_top.specs.Line.{Pair, Validate};
+ghost use Rattle.tmr_top.specs.Line.{Pair, Validate, TryOut};
+ghost use Rattle.tmr_top.specs.Trials.{Trial};
+ghost use Rattle.tmr_top.specs.Tried.{IsTried};
+ghost use Rattle.tmr_top.specs.ByWords.{compares};
 ghost use Rattle.tmr_top.specs.FileWords.{command_in};
 ghost use Rattle.tmr_top.specs.Loads.{load_name, loads_of, saves_of};
 ghost use Rattle.tmr_top.specs.Changes.{ChangesOnly, NoneFailed};
 ghost use Rattle.tmr_top.specs.Pairs.{Masked};
 ghost use Rattle.tmr_top.specs.Loaded.{HoldsEach, FitsEach};
 ghost use Rattle.tmr_top.specs.Causes.{SomeMissing};
-ghost use Rattle.tmr_top.specs.Works.{IsWork, HasTexts, Comes, Leaves};
+ghost use Rattle.tmr_top.specs.Works.{IsWork, HasTexts, Agrees, Comes, Leaves};
 ghost use Rattle.tmr_top.specs.Runs.{Performs, Untouched};
 
 use crate::Status;
@@ -35,6 +38,9 @@ use tmr_outside::Files;
 fn work(alloc: Global, words: &CommandWords, loaded: &mut [Loaded]) -> Result<Work, OutOfMemory>
     requires { FitsEach (loads_of (command_in words.now)) loaded.old }
     ensures texts { IfOk result (HasTexts (command_in words.now)) }
+    ensures agrees { compares (command_in words.now) ≡ false → IfOk result Agrees }
+    ensures tried { (t : Trial) → command_in words.now ≡ TryOut t
+        → IfOk result (λ w. IsTried t w.text.items) }
     ensures work { (held : Contents) → HoldsEach held (loads_of (command_in words.now)) loaded.old
         → IfOk result (IsWork (command_in words.now) held) }
 {
@@ -73,6 +79,9 @@ fn save_work<F: Files>(
     ensures changes { ChangesOnly [] (saves_of (command_in words.now))
         (F.seen files.old) (F.seen files.new) }
     ensures steady { F.steady files.old → IfOk result (λ d. d.status ≢ Status.Fault) }
+    ensures stays { F.steady files.old → F.steady files.new }
+    ensures told { IfOk result (λ d. d.status ≡ Status.Done → d.text ≡ work.text) }
+    ensures agrees { IfOk result (λ d. d.status ≢ Status.NotAccepted) }
 {
     let names = list_saves(alloc, words)?;
     match save_all(files, &names, &work.saves) {
@@ -110,6 +119,9 @@ fn decide_work<F: Files>(
     ensures changes { ChangesOnly [] (saves_of (command_in words.now))
         (F.seen files.old) (F.seen files.new) }
     ensures steady { F.steady files.old → IfOk result (λ d. d.status ≢ Status.Fault) }
+    ensures stays { F.steady files.old → F.steady files.new }
+    ensures told { IfOk result (λ d. d.status ≡ Status.Done → d.text ≡ work.text) }
+    ensures agrees { Agrees work → IfOk result (λ d. d.status ≢ Status.NotAccepted) }
     ensures masks { (p : Pair) → command_in words.now ≡ Validate p
         → IfSome (F.seen files.old).contents (λ held. Comes (command_in words.now) held work)
         → IfOk result (λ d. d.status ≡ Status.Done
@@ -144,6 +156,11 @@ pub fn perform<F: Files>(
         → NoneFailed (F.seen files.old) (F.seen files.new)) }
     ensures missing { F.steady files.old → IfOk result (λ d. d.status ≡ Status.Fault
         → IfSome (F.seen files.old).contents (SomeMissing (command_in words.now))) }
+    ensures stays { F.steady files.old → F.steady files.new }
+    ensures agrees { compares (command_in words.now) ≡ false
+        → IfOk result (λ d. d.status ≢ Status.NotAccepted) }
+    ensures tried { (t : Trial) → command_in words.now ≡ TryOut t
+        → IfOk result (λ d. d.status ≡ Status.Done → IsTried t d.text.items) }
     ensures load_failed { IsTold (F.seen files.old)
         → Untouched (F.seen files.old) (F.seen files.new)
         ⊎ NoneRose (F.seen files.old).load_count (F.seen files.new).load_count }

@@ -1,16 +1,19 @@
 //! One run of the program.
-ghost use Rattle.std.specs.Prelude.{◌≡◌, ◌≢◌, ◌≤◌, ◌⊎◌, Some, None, IfOk, IfSome, IsSomeAnd, MatchResult};
+ghost use Rattle.std.specs.Prelude.{◌≡◌, ◌≢◌, ◌≤◌, ◌⊎◌, false, Some, None, IfOk, IfSome, IsSomeAnd, MatchResult};
 ghost use Rattle.tmr_outside.specs.Counts.{Rose, NoneRose};
 ghost use Rattle.tmr_outside.specs.Seen.{IsTold};
-ghost use Rattle.tmr_top.specs.Line.{Pair, Hardening, Validate, Harden, meaning};
+ghost use Rattle.tmr_top.specs.Line.{Command, Pair, Hardening, Guarding, Validate, Harden, Guard, TryOut, meaning};
+ghost use Rattle.tmr_top.specs.Trials.{Trial};
+ghost use Rattle.tmr_top.specs.Tried.{IsTried};
+ghost use Rattle.tmr_top.specs.ByWords.{compares};
 ghost use Rattle.tmr_top.specs.Loads.{loaded_names, saved_names};
 ghost use Rattle.tmr_top.specs.Changes.{ChangesOnly, NoneFailed};
 ghost use Rattle.tmr_top.specs.Saves.{Completes};
 ghost use Rattle.tmr_top.specs.Pairs.{Masked};
-ghost use Rattle.tmr_top.specs.HardenedFiles.{LeavesHardened};
+ghost use Rattle.tmr_top.specs.HardenedFiles.{LeavesHardened, LeavesGuarded};
 ghost use Rattle.tmr_top.specs.Causes.{Where, OrMemory, SomeMissing, SomeLoadRose, SomeSaveRose, IsRefusable, Disagrees, Succeeds};
 ghost use Rattle.tmr_top.specs.Works.{LeavesLine};
-ghost use Rattle.tmr_top.specs.Runs.{Acts, Ends, Ran, Untouched};
+ghost use Rattle.tmr_top.specs.Runs.{Acts, Ends, Prints, Ran, Untouched};
 
 use crate::Status;
 use crate::decision::Decision;
@@ -31,6 +34,11 @@ fn decide<F: Files>(alloc: Global, words: &[String], files: &mut F) -> Result<De
         → NoneFailed (F.seen files.old) (F.seen files.new)) }
     ensures missing { F.steady files.old → IfOk result (λ d. d.status ≡ Status.Fault
         → Where (meaning words.now) (F.seen files.old) SomeMissing) }
+    ensures stays { F.steady files.old → F.steady files.new }
+    ensures agrees { (c : Command) → meaning words.now ≡ Some c → compares c ≡ false
+        → IfOk result (λ d. d.status ≢ Status.NotAccepted) }
+    ensures tried { (t : Trial) → meaning words.now ≡ Some (TryOut t)
+        → IfOk result (λ d. d.status ≡ Status.Done → IsTried t d.text.items) }
     ensures load_failed { IsTold (F.seen files.old)
         → Untouched (F.seen files.old) (F.seen files.new)
         ⊎ NoneRose (F.seen files.old).load_count (F.seen files.new).load_count }
@@ -59,6 +67,7 @@ fn finish<S: Sink>(status: Status, text: &[u8], out: &mut S) -> Status
     ensures ends { Ends text.now (S.seen out.old) (S.seen out.new) status result }
     ensures later { (S.seen out.old).put_count ≤ (S.seen out.new).put_count }
     ensures steady { S.steady out.old → OrMemory result status }
+    ensures stays { S.steady out.old → S.steady out.new }
 {
     match out.put(text) {
         Ok(()) => status,
@@ -88,6 +97,12 @@ fn decide_and_put<F: Files, S: Sink>(
         → NoneFailed (F.seen files.old) (F.seen files.new) }
     ensures missing { F.steady files.old → S.steady out.old → result ≡ Status.Fault
         → Where (meaning words.now) (F.seen files.old) SomeMissing }
+    ensures steady_files { F.steady files.old → F.steady files.new }
+    ensures steady_sink { S.steady out.old → S.steady out.new }
+    ensures agrees { (c : Command) → meaning words.now ≡ Some c → compares c ≡ false
+        → result ≢ Status.NotAccepted }
+    ensures tried { (t : Trial) → meaning words.now ≡ Some (TryOut t)
+        → result ≡ Status.Done → Prints (IsTried t) (S.seen out.old) (S.seen out.new) }
     ensures load_failed { IsTold (F.seen files.old)
         → Untouched (F.seen files.old) (F.seen files.new)
         ⊎ NoneRose (F.seen files.old).load_count (F.seen files.new).load_count }
@@ -127,6 +142,20 @@ pub fn run<F: Files, S: Sink>(alloc: Global, words: &[String], files: &mut F, ou
     ensures hardens { (w : Hardening) → meaning words.now ≡ Some (Harden w)
         → result ≡ Status.Done → IfSome (F.seen files.old).contents (λ held.
         IsSomeAnd (F.seen files.new).contents (LeavesHardened w held)) }
+
+    // What `guard` leaves. Where contents are told, the answer Done says that GUARDED holds the guarded
+    // design of the design that ORIG held, and where ORIG is not GUARDED, that `guarded` of the two
+    // files comes to Done.
+    ensures guards { (w : Guarding) → meaning words.now ≡ Some (Guard w)
+        → result ≡ Status.Done → IfSome (F.seen files.old).contents (λ held.
+        IsSomeAnd (F.seen files.new).contents (LeavesGuarded w held)) }
+
+    // What rests on the words alone, whatever the files tell. What `trial` prints is what it promises,
+    // and only a command that compares files can find that they do not agree.
+    ensures tried { (t : Trial) → meaning words.now ≡ Some (TryOut t)
+        → result ≡ Status.Done → Prints (IsTried t) (S.seen out.old) (S.seen out.new) }
+    ensures agrees { (c : Command) → meaning words.now ≡ Some c → compares c ≡ false
+        → result ≢ Status.NotAccepted }
 
     // What is decided, saved and printed.
     ensures ran { Ran (meaning words.now) (F.seen files.old) (F.seen files.new)
@@ -188,6 +217,8 @@ pub fn run<F: Files, S: Sink>(alloc: Global, words: &[String], files: &mut F, ou
         (loaded_names (meaning words.now)) (saved_names (meaning words.now))
         (F.seen files.old) (F.seen files.new) }
     ensures puts { (S.seen out.old).put_count ≤ (S.seen out.new).put_count }
+    ensures steady_files { F.steady files.old → F.steady files.new }
+    ensures steady_sink { S.steady out.old → S.steady out.new }
 {
     decide_and_put(alloc, words, files, out)
 }

@@ -11,9 +11,9 @@ ghost use Rattle.validator.specs.Masking.{Masks};
 ghost use Rattle.tmr_top.specs.FormText.{form_numbers};
 ghost use Rattle.tmr_top.specs.Line.{TryOut};
 ghost use Rattle.tmr_top.specs.TrialWords.{trial_in};
-ghost use Rattle.tmr_top.specs.Tried.{AreSums, trial_lines};
+ghost use Rattle.tmr_top.specs.Tried.{AreSums, IsTried, trial_lines};
 ghost use Rattle.tmr_top.specs.Trying.{IsRunnable, IsCalm};
-ghost use Rattle.tmr_top.specs.Works.{IsWork, HasTexts};
+ghost use Rattle.tmr_top.specs.Works.{IsWork, HasTexts, Agrees};
 
 use crate::decision::{Verdict, Work};
 use crate::form_text::{FormNumbers, form_lines};
@@ -224,6 +224,8 @@ fn trial_lines(alloc: Global, f: &FormNumbers, sums: &RunSums) -> Result<Vec<u8>
 /// The work of `trial`, which loads no file.
 pub fn try_out(alloc: Global, words: &TrialWords) -> Result<Work, OutOfMemory>
     ensures texts { IfOk result (HasTexts (TryOut (trial_in words.now))) }
+    ensures agrees { IfOk result Agrees }
+    ensures tried { IfOk result (λ w. IsTried (trial_in words.now) w.text.items) }
     ensures work { (held : Contents) → IfOk result (IsWork (TryOut (trial_in words.now)) held) }
 {
     let n = draw_design(alloc, words)?;

@@ -1,7 +1,8 @@
-use Rattle.std.proofs.Common.{◌≡◌, ℕ, List, [], ◌∷◌, ◌++◌, refl, ap, subst, ◌∙◌}
+use Rattle.std.proofs.Common.{◌≡◌, ℕ, ◌≤◌, List, [], ◌∷◌, ◌++◌, length, refl, sym, ap, subst, ◌∙◌}
 use Rattle.std.specs.Prelude.{Vec}
 use Rattle.std.specs.declared.alloc.Global.{Global}
 use Rattle.flat_net.specs.Net.{Design}
+use Rattle.blif_writer.specs.Length.{flat_length}
 use Rattle.dwc.specs.Guard.{guard_net}
 use Rattle.dwc.specs.Tells.{Guards}
 use Rattle.tmr_top.specs.FileWords.{guarding_in, texts_in}
@@ -17,4 +18,5 @@ returns-clause-work c = λ held one.
     let guards = subst (λ (d : Design). Guards d.net g) c.net.ensures.net c.in_ok-guarded.ensures.guards in
     let says = c.in_ok-text.ensures ∙ (ap (λ (d : Design). guard_line d.net g c.free_count.result) c.net-2.ensures.net ∙ ap (guard_line n g) c.free_count.ensures) in
     let saves = ap texts_in (c.in_ok-push.ensures.items ∙ ap (λ (xs : List (Vec ℕ Global)). xs ++ c.in_ok-bytes.bytes ∷ []) c.new-saves.ensures.items) in
-    guarded_work held (guarding_in c.args.words.now) n g c.args.n.now.free c.in_ok-bytes.bytes.items _ one design guards c.in_ok-bytes.ensures.text refl saves says
+    let keeps : length c.in_ok-bytes.bytes.items ≤ 1073741824 = subst (λ (k : ℕ). k ≤ 1073741824) (sym (c.in_ok-bytes.ensures.length ∙ ap flat_length design)) c.text_keeps_limit.ensures in
+    guarded_work held (guarding_in c.args.words.now) n g c.args.n.now.free c.in_ok-bytes.bytes.items _ one design guards c.in_ok-bytes.ensures.text keeps (c.in_ok-bytes.ensures.again 1073741824 keeps) refl saves says

@@ -2,6 +2,7 @@ use Rattle.tmr_top.proofs.RunClauses.{usage, usage_only, fault, refused, refused
 use Rattle.tmr_top.specs.Words.{texts}
 use Rattle.tmr_top.proofs.LineLaws.{two_names}
 use Rattle.tmr_top.proofs.LeaveLaws.{leaves}
+use Rattle.tmr_top.proofs.GuardLeaves.{guards}
 use Rattle.tmr_top.proofs.program.run.Goals as goal
 
 pub returns-clause-usage : goal.returns-clause-usage
@@ -48,3 +49,6 @@ returns-clause-otherwise g c = otherwise _ _ _ _ _ _ c.decide_and_put.ensures.ra
 
 pub returns-clause-hardens : goal.returns-clause-hardens
 returns-clause-hardens g c = λ w is e. leaves _ w (g.F.Files.seen c.args.files.now) (g.F.Files.seen c.decide_and_put.new.files) is (two_names (texts c.args.words.now) w is) (done _ _ _ _ _ _ c.decide_and_put.ensures.ran e)
+
+pub returns-clause-guards : goal.returns-clause-guards
+returns-clause-guards g c = λ w is e. guards _ w (g.F.Files.seen c.args.files.now) (g.F.Files.seen c.decide_and_put.new.files) is (done _ _ _ _ _ _ c.decide_and_put.ensures.ran e)
