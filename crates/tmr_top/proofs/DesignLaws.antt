@@ -18,7 +18,7 @@ use Rattle.tmr_top.specs.FlatWithin.{IsFlatWithin}
 use Rattle.tmr_top.specs.Loads.{Load}
 use Rattle.tmr_top.specs.Loaded.{HoldsText}
 use Rattle.tmr_top.specs.Designs.{IsUnread, HoldsDesign, HoldsNoDesign}
-use Rattle.tmr_top.specs.Reasons.{bad_reason, flat_reason}
+use Rattle.tmr_texts.specs.Reasons.{bad_reason, flat_reason}
 
 -- ---- what a text gives
 

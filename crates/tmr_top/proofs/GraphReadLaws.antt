@@ -13,13 +13,13 @@ use Rattle.tmr_top.specs.declared.decision.Work.{Work}
 use Rattle.tmr_top.specs.declared.decision.Verdict.{Verdict}
 use Rattle.tmr_top.specs.declared.decision.Verdict.TheVariants.{Done, NotAccepted, Refused}
 use Rattle.tmr_top.specs.FileWords.{texts_in}
-use Rattle.tmr_top.specs.Line.{GraphReading, ReadGraph}
+use Rattle.tmr_words.specs.Line.{GraphReading, ReadGraph}
 use Rattle.tmr_top.specs.Loads.{Load, graph_file}
 use Rattle.tmr_top.specs.Loaded.{HoldsBytes}
 use Rattle.tmr_top.specs.GraphRead.{HoldsGraph, HoldsNoGraph, GraphRead}
 use Rattle.tmr_top.specs.GraphCounted.{HoldsCounted}
-use Rattle.tmr_top.specs.Reasons.{aag_reason}
-use Rattle.tmr_top.specs.Texts.{aag_line, refused_line}
+use Rattle.tmr_texts.specs.Reasons.{aag_reason}
+use Rattle.tmr_texts.specs.Texts.{aag_line, refused_line}
 use Rattle.tmr_top.specs.Works.{IsWork}
 use Rattle.tmr_top.proofs.PairLaws.{outcome_work}
 

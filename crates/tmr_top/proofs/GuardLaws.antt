@@ -11,10 +11,10 @@ use Rattle.tmr_outside.specs.Contents.{Contents}
 use Rattle.tmr_top.specs.declared.decision.Work.{Work}
 use Rattle.tmr_top.specs.declared.decision.Verdict.TheVariants.{Done, NotAccepted, Refused}
 use Rattle.tmr_top.specs.FileWords.{texts_in}
-use Rattle.tmr_top.specs.Line.{Guarding, Guard, CheckGuard}
+use Rattle.tmr_words.specs.Line.{Guarding, Guard, CheckGuard}
 use Rattle.tmr_top.specs.Loads.{original_file, hardened_file}
 use Rattle.tmr_top.specs.Designs.{HoldsDesign, HoldsNoDesign}
-use Rattle.tmr_top.specs.Texts.{guard_line, guarded_line, not_guarded_line, refused_line}
+use Rattle.tmr_texts.specs.Texts.{guard_line, guarded_line, not_guarded_line, refused_line}
 use Rattle.tmr_top.specs.Works.{IsWork}
 use Rattle.tmr_top.proofs.PairLaws.{outcome_work}
 

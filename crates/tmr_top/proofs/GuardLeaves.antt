@@ -13,10 +13,10 @@ use Rattle.dwc.specs.Guard.{guard_net}
 use Rattle.tmr_outside.specs.Contents.{Contents}
 use Rattle.tmr_outside.specs.Seen.{FilesSeen}
 use Rattle.tmr_outside.proofs.ContentsLemmas.{get-insert_other, get-insert_same}
-use Rattle.tmr_top.specs.Line.{Command, Guarding, Guard, CheckGuard}
+use Rattle.tmr_words.specs.Line.{Command, Guarding, Guard, CheckGuard}
 use Rattle.tmr_top.specs.Loads.{original_file, hardened_file}
 use Rattle.tmr_top.specs.Designs.{HoldsDesign}
-use Rattle.tmr_top.specs.Texts.{guarded_line}
+use Rattle.tmr_texts.specs.Texts.{guarded_line}
 use Rattle.tmr_top.specs.Causes.{Where, Succeeds}
 use Rattle.tmr_top.specs.Saves.{with_texts, IsDone, Completes}
 use Rattle.tmr_top.specs.HardenedFiles.{LeavesGuarded}

@@ -21,12 +21,12 @@ use Rattle.tmr_outside.specs.Contents.{Contents}
 use Rattle.tmr_top.specs.declared.decision.Work.{Work}
 use Rattle.tmr_top.specs.declared.decision.Verdict.TheVariants.{Done, Refused}
 use Rattle.tmr_top.specs.FileWords.{texts_in}
-use Rattle.tmr_top.specs.Line.{Hardening, Harden}
+use Rattle.tmr_words.specs.Line.{Hardening, Harden}
 use Rattle.tmr_top.specs.Loads.{original_file}
 use Rattle.tmr_top.specs.Designs.{HoldsDesign, HoldsNoDesign}
 use Rattle.tmr_top.specs.Hardened.{HasNoExtra}
-use Rattle.tmr_top.specs.FormText.{form_numbers, hardened_lines}
-use Rattle.tmr_top.specs.Texts.{greatest, refused_line}
+use Rattle.tmr_texts.specs.FormText.{form_numbers, hardened_lines}
+use Rattle.tmr_texts.specs.Texts.{greatest, refused_line}
 use Rattle.tmr_top.specs.Works.{IsWork}
 use Rattle.tmr_top.proofs.PairLaws.{outcome_work}
 

@@ -7,11 +7,11 @@ use Rattle.certificate.specs.Text.{cert_text}
 use Rattle.tmr_outside.specs.Contents.{Contents}
 use Rattle.tmr_outside.specs.Seen.{FilesSeen}
 use Rattle.tmr_outside.proofs.ContentsLemmas.{get-insert_other, get-insert_same}
-use Rattle.tmr_top.specs.Line.{Command, Hardening, Harden, Validate}
+use Rattle.tmr_words.specs.Line.{Command, Hardening, Harden, Validate}
 use Rattle.tmr_top.specs.Loads.{original_file, hardened_file, certificate_file}
 use Rattle.tmr_top.specs.Designs.{HoldsDesign}
 use Rattle.tmr_top.specs.Pairs.{ReadPair, HoldsPair, HoldsCertificate}
-use Rattle.tmr_top.specs.Texts.{accepted_line}
+use Rattle.tmr_texts.specs.Texts.{accepted_line}
 use Rattle.tmr_top.specs.Causes.{Where, Succeeds}
 use Rattle.tmr_top.specs.Saves.{with_texts, IsDone, Completes}
 use Rattle.tmr_top.specs.HardenedFiles.{pair_of, LeavesHardened}

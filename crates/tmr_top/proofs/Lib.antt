@@ -1,9 +1,6 @@
-pub mod WordLaws
-pub mod LineLaws
 pub mod ChangeLaws
 pub mod LoadLaws
 pub mod SaveLaws
-pub mod TextLaws
 pub mod DesignLaws
 pub mod PairLaws
 pub mod ReplayLaws

@@ -17,15 +17,15 @@ use Rattle.tmr_top.specs.declared.decision.Verdict.{Verdict}
 use Rattle.tmr_top.specs.declared.decision.Verdict.TheVariants.{Done, NotAccepted, Refused}
 use Rattle.tmr_top.specs.declared.pair_task.PairTask.{PairTask}
 use Rattle.tmr_top.specs.declared.pair_task.PairTask.TheVariants as tasks
-use Rattle.tmr_top.specs.declared.replay_words.FileTask.{FileTask}
-use Rattle.tmr_top.specs.declared.replay_words.FileTask.TheVariants as files
+use Rattle.tmr_top.specs.declared.file_task.FileTask.{FileTask}
+use Rattle.tmr_top.specs.declared.file_task.FileTask.TheVariants as files
 use Rattle.tmr_top.specs.FileWords.{texts_in, task_over, files_over}
-use Rattle.tmr_top.specs.Line.{Command, Pair, Validate}
+use Rattle.tmr_words.specs.Line.{Command, Pair, Validate}
 use Rattle.tmr_top.specs.Loads.{Load, original_file, hardened_file, certificate_file}
 use Rattle.tmr_top.specs.Loaded.{HoldsBytes}
 use Rattle.tmr_top.specs.Designs.{HoldsDesign, HoldsNoDesign}
-use Rattle.tmr_top.specs.Reasons.{cert_reason}
-use Rattle.tmr_top.specs.Texts.{not_accepted_line, refused_line}
+use Rattle.tmr_texts.specs.Reasons.{cert_reason}
+use Rattle.tmr_texts.specs.Texts.{not_accepted_line, refused_line}
 use Rattle.tmr_top.specs.Pairs.{ReadPair, HoldsCertificate, HoldsNoCertificate, HoldsPair, Accepts, Masked}
 use Rattle.tmr_top.specs.Validated.{IsNotAccepted, IsPairUnread}
 use Rattle.tmr_top.specs.Outcomes.{Outcome}

@@ -18,10 +18,11 @@ use Rattle.tmr_top.specs.declared.saves.SaveStop.{SaveStop}
 use Rattle.tmr_top.specs.declared.saves.SaveStop.TheVariants as save_stop
 use Rattle.tmr_top.specs.declared.status.Status.{Status}
 use Rattle.tmr_top.specs.declared.status.Status.TheVariants as status
-use Rattle.tmr_top.specs.Trials.{Trial}
+use Rattle.tmr_words.specs.Trials.{Trial}
 use Rattle.tmr_top.specs.Tried.{IsTried}
-use Rattle.tmr_top.specs.FileWords.{texts_in, load_in, read_words}
-use Rattle.tmr_top.specs.Line.{Command, Pair, Validate}
+use Rattle.tmr_words.specs.FileWords.{read_words}
+use Rattle.tmr_top.specs.FileWords.{texts_in, load_in}
+use Rattle.tmr_words.specs.Line.{Command, Pair, Validate}
 use Rattle.tmr_top.specs.Loads.{Load, loads_of, saves_of}
 use Rattle.tmr_top.specs.Files.{OfOne, OfFirst, IsLong}
 use Rattle.tmr_top.specs.Changes.{LoadFailed, SaveFailed, HeldElsewhere, NoneFailed}
@@ -32,7 +33,7 @@ use Rattle.tmr_top.specs.Causes.{SomeMissing}
 use Rattle.tmr_top.specs.Saves.{with_texts, IsDone, IsBroken}
 use Rattle.tmr_top.specs.Saved.{after_saves, Saves, StopsAt, IsSaveStop}
 use Rattle.tmr_top.specs.Works.{IsWork, Comes, Leaves}
-use Rattle.tmr_top.specs.Texts.{load_fault_line, save_fault_line, refused_line}
+use Rattle.tmr_texts.specs.Texts.{load_fault_line, save_fault_line, refused_line}
 use Rattle.tmr_top.specs.Runs.{Untouched, Says, SaysTooLong, SaysSaveFault, SaysBroken, Performs}
 use Rattle.tmr_top.proofs.ChangeLaws.{rose_since, load_failed_since, save_failed_since, told_as_before, changes_none, held_same}
 use Rattle.tmr_top.proofs.LoadLaws.{all_fine}

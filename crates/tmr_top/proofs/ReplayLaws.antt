@@ -28,16 +28,16 @@ use Rattle.tmr_outside.specs.Contents.{Contents}
 use Rattle.tmr_top.specs.declared.decision.Work.{Work}
 use Rattle.tmr_top.specs.declared.decision.Verdict.TheVariants.{Done, NotAccepted, Refused}
 use Rattle.tmr_top.specs.FileWords.{texts_in}
-use Rattle.tmr_top.specs.Line.{Replaying, Pair, Replay, Validate}
+use Rattle.tmr_words.specs.Line.{Replaying, Pair, Replay, Validate}
 use Rattle.tmr_top.specs.Loads.{Load, original_file, hardened_file, certificate_file, schedule_file}
 use Rattle.tmr_top.specs.Loaded.{HoldsBytes}
 use Rattle.tmr_top.specs.Designs.{HoldsDesign}
 use Rattle.tmr_top.specs.Pairs.{ReadPair, HoldsPair, HoldsCertificate, Masked}
-use Rattle.tmr_top.specs.Reasons.{schedule_reason}
-use Rattle.tmr_top.specs.ReplayText.{output_name, difference_line, difference_lines, replay_lines}
+use Rattle.tmr_texts.specs.Reasons.{schedule_reason}
+use Rattle.tmr_texts.specs.ReplayText.{output_name, difference_line, difference_lines, replay_lines}
 use Rattle.tmr_top.specs.Replayed.{HoldsNoSchedule, ReadFiles, SavesWaves, is_too_large}
 use Rattle.tmr_top.specs.Replaying.{ReadsSchedule, IsTold}
-use Rattle.tmr_top.specs.Texts.{not_accepted_line, refused_line}
+use Rattle.tmr_texts.specs.Texts.{not_accepted_line, refused_line}
 use Rattle.tmr_top.specs.Works.{IsWork}
 use Rattle.tmr_top.proofs.PairLaws.{outcome_work}
 
@@ -51,30 +51,6 @@ if_ok (Err e) P Q f p = p
 pub both_ok : {A E : Type 0} (r : Result A E) (P Q R : A → Type 0) → ((x : A) → P x → Q x → R x) → IfOk r P → IfOk r Q → IfOk r R
 both_ok (Ok x) P Q R f p q = f x p q
 both_ok (Err e) P Q R f p q = p
-
--- ---- texts
-
-pub named_output : (n : Net) (k x : ℕ) (name : List ℕ) → slice_get n.outputs k ≡ Some x → name ≡ name_of n x → name ≡ output_name n k
-named_output n k x name at is = is ∙ ap (name_of n) (sym (get_or_from_slice_get n.outputs k x 0 at))
-
-pub ruleset names = (named_output)
-
-next : {A : Type 0} (i : ℕ) (xs : List A) (d : A) → i < length xs → drop i xs ≡ get_or xs i d ∷ drop (i + 1) xs
-next i xs d h = rw (add-one, drop-cons xs i d) refl
-
--- one line more
-pub difference_put : (n : Net) (text line : List ℕ) (ds : List Difference) (i : ℕ) (d : Difference) (whole : List ℕ) → i < length ds → line ≡ difference_line n (get_or ds i d) → text ++ difference_lines n (drop i ds) ≡ whole → (text ++ line) ++ difference_lines n (drop (i + 1) ds) ≡ whole
-difference_put n text line ds i d whole h is e =
-    append_assoc text line (difference_lines n (drop (i + 1) ds))
-    ∙ (ap (λ (l : List ℕ). text ++ (l ++ difference_lines n (drop (i + 1) ds))) is
-    ∙ (ap (λ (xs : List Difference). text ++ difference_lines n xs) (sym (next i ds d h)) ∙ e))
-
-pub all_put : (n : Net) (text : List ℕ) (ds : List Difference) (i : ℕ) (whole : List ℕ) → length ds ≤ i → text ++ difference_lines n (drop i ds) ≡ whole → text ≡ whole
-all_put n text ds i whole h e =
-    let none : drop i ds ≡ [] = nil_from_length (drop i ds) (omega (arith, length-drop i ds)) in
-    sym (append-nil text) ∙ (ap (λ (xs : List Difference). text ++ difference_lines n xs) (sym none) ∙ e)
-
-pub ruleset differences = (difference_put, all_put)
 
 -- ---- reading, by the version of the certificate
 

@@ -9,13 +9,13 @@ use Rattle.tmr_top.specs.declared.decision.Verdict.{Verdict}
 use Rattle.tmr_top.specs.declared.decision.Verdict.TheVariants as verdict
 use Rattle.tmr_top.specs.declared.status.Status.{Status}
 use Rattle.tmr_top.specs.declared.status.Status.TheVariants as status
-use Rattle.tmr_top.specs.Line.{Command}
+use Rattle.tmr_words.specs.Line.{Command}
 use Rattle.tmr_top.specs.Loads.{Load, loads_of, saves_of}
 use Rattle.tmr_top.specs.Files.{OfOne, OfEach, OfFirst, IsLong, IsMissing, IsFine}
 use Rattle.tmr_top.specs.Changes.{LoadRose, SaveRose, LoadFailed, SaveFailed}
 use Rattle.tmr_top.specs.Causes.{Where, OrMemory, ComesTo, IsRefusable, Succeeds, Disagrees, SomeMissing, SomeLoadRose, SomeSaveRose}
 use Rattle.tmr_top.specs.Saves.{IsDone, Completes, IsBroken}
-use Rattle.tmr_top.specs.Texts.{load_fault_line, save_fault_line, refused_line}
+use Rattle.tmr_texts.specs.Texts.{load_fault_line, save_fault_line, refused_line}
 use Rattle.tmr_top.specs.Runs.{Untouched, Says, SaysTooLong, SaysLoadFault, SaysSaveFault, SaysBroken, Performs, Acts, Ran}
 use Rattle.tmr_top.proofs.OutcomeLaws.{one_verdict}
 use Rattle.tmr_top.proofs.RunLaws.{same_status}

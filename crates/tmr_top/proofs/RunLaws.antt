@@ -4,9 +4,9 @@ use Rattle.tmr_outside.specs.Counts.{Rose}
 use Rattle.tmr_outside.specs.Seen.{FilesSeen, SinkSeen, IsTold}
 use Rattle.tmr_top.specs.declared.status.Status.{Status}
 use Rattle.tmr_top.specs.declared.status.Status.TheVariants as status
-use Rattle.tmr_top.specs.Line.{Command}
+use Rattle.tmr_words.specs.Line.{Command}
 use Rattle.tmr_top.specs.Changes.{NoneFailed}
-use Rattle.tmr_top.specs.Texts.{usage_text, memory_text}
+use Rattle.tmr_texts.specs.Texts.{usage_text, memory_text}
 use Rattle.tmr_top.specs.Works.{LeavesLine}
 use Rattle.tmr_top.specs.Runs.{Acts, Ends, Prints, Ran}
 use Rattle.tmr_top.proofs.ChangeLaws.{changes_none}

@@ -10,7 +10,8 @@ use Rattle.tmr_outside.specs.Counts.{RoseOf, NoneFell, NoneRose, OthersStay}
 use Rattle.tmr_outside.specs.Seen.{FilesSeen, IsTold}
 use Rattle.tmr_top.specs.declared.saves.SaveStop.{SaveStop}
 use Rattle.tmr_top.specs.declared.saves.SaveStop.TheVariants as stop
-use Rattle.tmr_top.specs.FileWords.{read_words, texts_in}
+use Rattle.tmr_words.specs.FileWords.{read_words}
+use Rattle.tmr_top.specs.FileWords.{texts_in}
 use Rattle.tmr_top.specs.Changes.{IsNone, HeldElsewhere, ChangesOnly, SaveFailed, NoneFailed}
 use Rattle.tmr_top.specs.Saves.{with_texts}
 use Rattle.tmr_top.specs.Saved.{after_saves, Saves, StopsAt, IsSaveStop}

@@ -29,9 +29,9 @@ use Rattle.tmr_top.specs.declared.decision.Work.{Work}
 use Rattle.tmr_top.specs.declared.decision.Verdict.TheVariants.{Done}
 use Rattle.tmr_top.specs.declared.trying.RunSums.{RunSums}
 use Rattle.tmr_top.specs.FileWords.{texts_in}
-use Rattle.tmr_top.specs.FormText.{form_numbers}
-use Rattle.tmr_top.specs.Line.{TryOut}
-use Rattle.tmr_top.specs.Trials.{Trial}
+use Rattle.tmr_texts.specs.FormText.{form_numbers}
+use Rattle.tmr_words.specs.Line.{TryOut}
+use Rattle.tmr_words.specs.Trials.{Trial}
 use Rattle.tmr_top.specs.Tried.{AreSums, IsTried, trial_lines}
 use Rattle.tmr_top.specs.Trying.{IsRunnable, IsCalm}
 use Rattle.tmr_top.specs.Works.{IsWork}

@@ -2,7 +2,7 @@
 use Rattle.std.proofs.Common.{◌≡◌, ℕ, List, refl}
 use Rattle.tmr_top.specs.declared.decision.Verdict.{Verdict}
 use Rattle.tmr_top.specs.declared.decision.Verdict.TheVariants.{Done, NotAccepted, Refused}
-use Rattle.tmr_top.specs.Trials.{Trial}
+use Rattle.tmr_words.specs.Trials.{Trial}
 use Rattle.tmr_top.specs.Tried.{Tried}
 
 pub one_tried : (t : Trial) (v w : Verdict) (s r : List (List ℕ)) (x y : List ℕ) → Tried t v s x → Tried t w r y → v ≡ w

@@ -15,7 +15,7 @@ use Rattle.schedule_replay.specs.Outcome.{outputs_in, outputs_until, output_at}
 use Rattle.schedule_replay.specs.Schedule.{PlainSchedule}
 use Rattle.schedule_replay.specs.Waves.{waves, wave_of, AreFreeWaves}
 use Rattle.vcd_text.specs.Text.{vcd_text}
-use Rattle.tmr_top.specs.ReplayText.{output_name, waves_of, waves_at, output_waves}
+use Rattle.tmr_texts.specs.ReplayText.{output_name, waves_of, waves_at, output_waves}
 use Rattle.tmr_top.specs.Replayed.{AreSaved, is_too_large}
 
 -- a name with such bytes behind it is one

@@ -6,7 +6,7 @@ use Rattle.tmr_top.specs.declared.decision.Verdict.{Verdict}
 use Rattle.tmr_top.specs.declared.decision.Verdict.TheVariants.{Done, NotAccepted, Refused}
 use Rattle.tmr_top.specs.declared.status.Status.{Status}
 use Rattle.tmr_top.specs.declared.status.Status.TheVariants as status
-use Rattle.tmr_top.specs.Line.{Command}
+use Rattle.tmr_words.specs.Line.{Command}
 use Rattle.tmr_top.specs.Loads.{loads_of, saves_of}
 use Rattle.tmr_top.specs.Files.{OfOne, OfEach, OfFirst, IsLong, IsMissing, IsFine}
 use Rattle.tmr_top.specs.Changes.{LoadRose, SaveRose}

@@ -11,7 +11,7 @@ use Rattle.blif_writer.specs.NetOf.{IsFreeNetOf}
 use Rattle.tmr_outside.specs.Contents.{Contents}
 use Rattle.tmr_top.specs.Loads.{Load}
 use Rattle.tmr_top.specs.Files.{Holds}
-use Rattle.tmr_top.specs.Reasons.{bad_reason, flat_reason}
+use Rattle.tmr_texts.specs.Reasons.{bad_reason, flat_reason}
 
 -- the first bad line of the text
 pub record IsBadText (bytes reason : List ℕ) : Type 0 where

@@ -5,10 +5,10 @@ use Rattle.blif_writer.specs.Text.{flat_text}
 use Rattle.tmr_outside.specs.Contents.{Contents}
 use Rattle.tmr_top.specs.declared.decision.Verdict.{Verdict}
 use Rattle.tmr_top.specs.declared.decision.Verdict.TheVariants.{Done, NotAccepted, Refused}
-use Rattle.tmr_top.specs.Line.{Flattening}
+use Rattle.tmr_words.specs.Line.{Flattening}
 use Rattle.tmr_top.specs.Loads.{original_file}
 use Rattle.tmr_top.specs.Designs.{HoldsDesign, HoldsNoDesign}
-use Rattle.tmr_top.specs.Texts.{flattened_line, refused_line}
+use Rattle.tmr_texts.specs.Texts.{flattened_line, refused_line}
 
 -- done: the original is a design, its flat text is saved, and it is told of
 pub record IsFlattened (f : Flattening) (held : Contents) (saved : List (List ℕ)) (text : List ℕ) : Type 0 where

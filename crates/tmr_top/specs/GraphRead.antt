@@ -10,10 +10,10 @@ use Rattle.tmr_outside.specs.Contents.{Contents}
 use Rattle.tmr_top.specs.declared.decision.Verdict.{Verdict}
 use Rattle.tmr_top.specs.declared.decision.Verdict.TheVariants.{Done, NotAccepted, Refused}
 use Rattle.tmr_top.specs.Files.{Holds}
-use Rattle.tmr_top.specs.Line.{GraphReading}
+use Rattle.tmr_words.specs.Line.{GraphReading}
 use Rattle.tmr_top.specs.Loads.{Load, graph_file}
-use Rattle.tmr_top.specs.Reasons.{aag_reason}
-use Rattle.tmr_top.specs.Texts.{aag_line, refused_line}
+use Rattle.tmr_texts.specs.Reasons.{aag_reason}
+use Rattle.tmr_texts.specs.Texts.{aag_line, refused_line}
 
 -- the bytes are a file of a graph, and this is the design that it gives, which does the same
 abbrev pub HoldsGraph : Contents → Load → FreeDesign → Type 0

@@ -5,10 +5,10 @@ use Rattle.flat_net.specs.Free.{FreeDesign}
 use Rattle.tmr_outside.specs.Contents.{Contents}
 use Rattle.tmr_top.specs.declared.decision.Verdict.{Verdict}
 use Rattle.tmr_top.specs.declared.decision.Verdict.TheVariants.{Done, NotAccepted, Refused}
-use Rattle.tmr_top.specs.Line.{Graphing}
+use Rattle.tmr_words.specs.Line.{Graphing}
 use Rattle.tmr_top.specs.Loads.{original_file}
 use Rattle.tmr_top.specs.Designs.{HoldsDesign, HoldsNoDesign}
-use Rattle.tmr_top.specs.Texts.{graph_line, refused_line}
+use Rattle.tmr_texts.specs.Texts.{graph_line, refused_line}
 
 -- done: the original is a design, a file of it is saved, and its numbers are told, among them how many gates that file's graph has
 pub record IsGraphed (w : Graphing) (held : Contents) (saved : List (List ℕ)) (text : List ℕ) : Type 0 where

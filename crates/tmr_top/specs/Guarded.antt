@@ -9,10 +9,10 @@ use Rattle.dwc.specs.Tells.{Guards}
 use Rattle.tmr_outside.specs.Contents.{Contents}
 use Rattle.tmr_top.specs.declared.decision.Verdict.{Verdict}
 use Rattle.tmr_top.specs.declared.decision.Verdict.TheVariants.{Done, NotAccepted, Refused}
-use Rattle.tmr_top.specs.Line.{Guarding}
+use Rattle.tmr_words.specs.Line.{Guarding}
 use Rattle.tmr_top.specs.Loads.{original_file, hardened_file}
 use Rattle.tmr_top.specs.Designs.{HoldsDesign, HoldsNoDesign}
-use Rattle.tmr_top.specs.Texts.{guard_line, guarded_line, not_guarded_line, refused_line}
+use Rattle.tmr_texts.specs.Texts.{guard_line, guarded_line, not_guarded_line, refused_line}
 
 -- `guard` is done: the original is a design, the text of its guarded design is saved, whose alarm tells, and it is told of; the text keeps
 -- the limit of its file, and is read as that design

@@ -14,11 +14,11 @@ use Rattle.triplicate.specs.Voting.{none_extra}
 use Rattle.tmr_outside.specs.Contents.{Contents}
 use Rattle.tmr_top.specs.declared.decision.Verdict.{Verdict}
 use Rattle.tmr_top.specs.declared.decision.Verdict.TheVariants.{Done, NotAccepted, Refused}
-use Rattle.tmr_top.specs.Line.{Hardening}
+use Rattle.tmr_words.specs.Line.{Hardening}
 use Rattle.tmr_top.specs.Loads.{original_file}
 use Rattle.tmr_top.specs.Designs.{HoldsDesign, HoldsNoDesign}
-use Rattle.tmr_top.specs.FormText.{form_numbers, hardened_lines}
-use Rattle.tmr_top.specs.Texts.{refused_line}
+use Rattle.tmr_texts.specs.FormText.{form_numbers, hardened_lines}
+use Rattle.tmr_texts.specs.Texts.{refused_line}
 
 -- the texts of a design and its certificate are within the limits of their files, and are read as these
 pub record AreRead (design_text certificate_text : List ℕ) (original hardened : Net) (marks : List Bool) (k : PlainCert) : Type 0 where

@@ -5,7 +5,7 @@ use Rattle.certificate.specs.Cert.{PlainCert}
 use Rattle.triplicate.specs.Form.{BoundedForm}
 use Rattle.dwc.specs.Guard.{guard_net}
 use Rattle.tmr_outside.specs.Contents.{Contents}
-use Rattle.tmr_top.specs.Line.{Pair, Hardening, Guarding, Validate, CheckGuard}
+use Rattle.tmr_words.specs.Line.{Pair, Hardening, Guarding, Validate, CheckGuard}
 use Rattle.tmr_top.specs.Loads.{original_file, hardened_file, certificate_file}
 use Rattle.tmr_top.specs.Designs.{HoldsDesign}
 use Rattle.tmr_top.specs.Pairs.{HoldsCertificate}

@@ -1,17 +1,9 @@
 pub mod Codes
-pub mod Words
-pub mod WordsRead
-pub mod Trials
-pub mod TrialWords
-pub mod Line
 pub mod FileWords
 pub mod Loads
 pub mod Files
 pub mod Changes
 pub mod Loaded
-pub mod Texts
-pub mod FormText
-pub mod Reasons
 pub mod Designs
 pub mod Unread
 pub mod Pairs
@@ -19,7 +11,6 @@ pub mod Validated
 pub mod Hardened
 pub mod FlatWithin
 pub mod Flattened
-pub mod ReplayText
 pub mod Replayed
 pub mod Replaying
 pub mod Reported

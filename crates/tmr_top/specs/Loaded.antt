@@ -16,7 +16,7 @@ use Rattle.tmr_top.specs.declared.status.Status.TheVariants as status
 use Rattle.tmr_top.specs.Loads.{Load}
 use Rattle.tmr_top.specs.Files.{Holds, OfOne, OfFirst, IsLong, IsMissing}
 use Rattle.tmr_top.specs.Changes.{LoadFailed}
-use Rattle.tmr_top.specs.Texts.{load_fault_line, refused_line}
+use Rattle.tmr_texts.specs.Texts.{load_fault_line, refused_line}
 
 -- what the file holds was read, with this result
 abbrev pub HoldsText : Contents → Load → Result (List PlainModel) TextFault → Type 0

@@ -9,7 +9,7 @@ use Rattle.certificate.specs.declared.fault.CertFault.{CertFault}
 use Rattle.net_meaning.specs.Meaning.{FreeTracesAreUnique}
 use Rattle.validator.specs.Masking.{Masks, FreeMasks}
 use Rattle.tmr_outside.specs.Contents.{Contents}
-use Rattle.tmr_top.specs.Line.{Pair}
+use Rattle.tmr_words.specs.Line.{Pair}
 use Rattle.tmr_top.specs.Loads.{Load, original_file, hardened_file, certificate_file}
 use Rattle.tmr_top.specs.Files.{Holds}
 use Rattle.tmr_top.specs.Designs.{HoldsDesign}

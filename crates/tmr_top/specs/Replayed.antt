@@ -13,13 +13,13 @@ use Rattle.vcd_text.specs.Text.{vcd_text}
 use Rattle.tmr_outside.specs.Contents.{Contents}
 use Rattle.tmr_top.specs.declared.decision.Verdict.{Verdict}
 use Rattle.tmr_top.specs.declared.decision.Verdict.TheVariants.{Done, NotAccepted, Refused}
-use Rattle.tmr_top.specs.Line.{Replaying}
+use Rattle.tmr_words.specs.Line.{Replaying}
 use Rattle.tmr_top.specs.Loads.{Load, schedule_file}
 use Rattle.tmr_top.specs.Files.{Holds}
 use Rattle.tmr_top.specs.Pairs.{ReadPair, HoldsPair, Accepts}
-use Rattle.tmr_top.specs.Reasons.{schedule_reason}
-use Rattle.tmr_top.specs.ReplayText.{replay_lines, output_waves}
-use Rattle.tmr_top.specs.Texts.{not_accepted_line, refused_line}
+use Rattle.tmr_texts.specs.Reasons.{schedule_reason}
+use Rattle.tmr_texts.specs.ReplayText.{replay_lines, output_waves}
+use Rattle.tmr_texts.specs.Texts.{not_accepted_line, refused_line}
 use Rattle.tmr_top.specs.Validated.{IsPairUnread}
 
 -- the file holds a schedule for the pair, by the version of its certificate, and lists this

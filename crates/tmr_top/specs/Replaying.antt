@@ -7,7 +7,7 @@ use Rattle.schedule_replay.specs.Schedule.{PlainSchedule}
 use Rattle.tmr_outside.specs.Contents.{Contents}
 use Rattle.tmr_top.specs.Loads.{Load}
 use Rattle.tmr_top.specs.Pairs.{ReadPair}
-use Rattle.tmr_top.specs.ReplayText.{replay_lines}
+use Rattle.tmr_texts.specs.ReplayText.{replay_lines}
 use Rattle.tmr_top.specs.Replayed.{HoldsSchedule, SavesWaves}
 
 -- the file holds a schedule for the pair, and this one has what it lists

@@ -4,7 +4,7 @@ use Rattle.reports.specs.Report.{IsReport}
 use Rattle.tmr_outside.specs.Contents.{Contents}
 use Rattle.tmr_top.specs.declared.decision.Verdict.{Verdict}
 use Rattle.tmr_top.specs.declared.decision.Verdict.TheVariants.{Done, NotAccepted, Refused}
-use Rattle.tmr_top.specs.Line.{Pair}
+use Rattle.tmr_words.specs.Line.{Pair}
 use Rattle.tmr_top.specs.Pairs.{ReadPair, HoldsPair, Accepts}
 use Rattle.tmr_top.specs.Validated.{IsNotAccepted, IsPairUnread}
 

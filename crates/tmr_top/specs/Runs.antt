@@ -8,13 +8,13 @@ use Rattle.tmr_top.specs.declared.decision.Verdict.{Verdict}
 use Rattle.tmr_top.specs.declared.decision.Verdict.TheVariants as verdict
 use Rattle.tmr_top.specs.declared.status.Status.{Status}
 use Rattle.tmr_top.specs.declared.status.Status.TheVariants as status
-use Rattle.tmr_top.specs.Line.{Command}
+use Rattle.tmr_words.specs.Line.{Command}
 use Rattle.tmr_top.specs.Loads.{loads_of, saves_of}
 use Rattle.tmr_top.specs.Files.{OfOne, OfEach, OfFirst, IsLong, IsFine}
 use Rattle.tmr_top.specs.Changes.{LoadFailed, SaveFailed, NoneFailed}
 use Rattle.tmr_top.specs.Outcomes.{Outcome}
 use Rattle.tmr_top.specs.Saves.{IsDone, IsBroken}
-use Rattle.tmr_top.specs.Texts.{load_fault_line, save_fault_line, refused_line, usage_text, memory_text}
+use Rattle.tmr_texts.specs.Texts.{load_fault_line, save_fault_line, refused_line, usage_text, memory_text}
 
 -- what the files hold is as before
 abbrev pub Untouched : FilesSeen → FilesSeen → Type 0

@@ -4,7 +4,7 @@ use Rattle.std.specs.FinMap.{insert}
 use Rattle.tmr_outside.specs.Contents.{Contents}
 use Rattle.tmr_outside.specs.Seen.{FilesSeen}
 use Rattle.tmr_top.specs.declared.decision.Verdict.TheVariants.{Done}
-use Rattle.tmr_top.specs.Line.{Command}
+use Rattle.tmr_words.specs.Line.{Command}
 use Rattle.tmr_top.specs.Loads.{loads_of, saves_of}
 use Rattle.tmr_top.specs.Files.{OfEach, IsFine}
 use Rattle.tmr_top.specs.Changes.{SaveFailed, HeldElsewhere}

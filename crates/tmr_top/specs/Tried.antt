@@ -11,11 +11,11 @@ use Rattle.tmr_trial.specs.Designs.{design_of}
 use Rattle.tmr_trial.specs.Schedules.{IsDrawnSchedule}
 use Rattle.tmr_top.specs.declared.decision.Verdict.{Verdict}
 use Rattle.tmr_top.specs.declared.decision.Verdict.TheVariants.{Done, NotAccepted, Refused}
-use Rattle.tmr_top.specs.declared.form_text.FormNumbers.{FormNumbers}
+use Rattle.tmr_texts.specs.declared.form_text.FormNumbers.{FormNumbers}
 use Rattle.tmr_top.specs.declared.trying.RunSums.{RunSums}
-use Rattle.tmr_top.specs.Texts.{joined, counted_text}
-use Rattle.tmr_top.specs.FormText.{form_numbers, form_lines}
-use Rattle.tmr_top.specs.Trials.{Trial}
+use Rattle.tmr_texts.specs.Texts.{joined, counted_text}
+use Rattle.tmr_texts.specs.FormText.{form_numbers, form_lines}
+use Rattle.tmr_words.specs.Trials.{Trial}
 
 -- what 64 runs of 64 cycles come to, all on one pair: the schedule of run j, counted from 0, is drawn from `number` + j + 1, modulo 2^64, and the numbers are
 -- the sums of those of the runs; nothing is wrong and nothing is late

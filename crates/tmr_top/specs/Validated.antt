@@ -6,12 +6,12 @@ use Rattle.certificate.specs.declared.fault.CertFault.{CertFault}
 use Rattle.tmr_outside.specs.Contents.{Contents}
 use Rattle.tmr_top.specs.declared.decision.Verdict.{Verdict}
 use Rattle.tmr_top.specs.declared.decision.Verdict.TheVariants.{Done, NotAccepted, Refused}
-use Rattle.tmr_top.specs.Line.{Pair}
+use Rattle.tmr_words.specs.Line.{Pair}
 use Rattle.tmr_top.specs.Loads.{original_file, hardened_file, certificate_file}
 use Rattle.tmr_top.specs.Designs.{HoldsDesign, HoldsNoDesign}
 use Rattle.tmr_top.specs.Pairs.{ReadPair, HoldsPair, HoldsNoCertificate, Accepts}
-use Rattle.tmr_top.specs.Reasons.{cert_reason}
-use Rattle.tmr_top.specs.Texts.{accepted_line, not_accepted_line, refused_line}
+use Rattle.tmr_texts.specs.Reasons.{cert_reason}
+use Rattle.tmr_texts.specs.Texts.{accepted_line, not_accepted_line, refused_line}
 
 -- done: all three files are read, and the eight rules hold
 pub record IsAccepted (p : Pair) (held : Contents) (text : List ℕ) : Type 0 where

@@ -5,13 +5,13 @@ use Rattle.tmr_outside.specs.Contents.{Contents}
 use Rattle.tmr_outside.specs.Seen.{FilesSeen}
 use Rattle.tmr_top.specs.declared.pair_task.PairTask.{PairTask}
 use Rattle.tmr_top.specs.declared.pair_task.PairTask.TheVariants as task
-use Rattle.tmr_top.specs.declared.replay_words.FileTask.{FileTask}
-use Rattle.tmr_top.specs.declared.replay_words.FileTask.TheVariants as file_task
+use Rattle.tmr_top.specs.declared.file_task.FileTask.{FileTask}
+use Rattle.tmr_top.specs.declared.file_task.FileTask.TheVariants as file_task
 use Rattle.tmr_top.specs.declared.decision.Work.{Work}
 use Rattle.tmr_top.specs.declared.decision.Verdict.TheVariants.{Done, NotAccepted}
-use Rattle.tmr_top.specs.Line.{Command, Pair, Validate}
+use Rattle.tmr_words.specs.Line.{Command, Pair, Validate}
 use Rattle.tmr_top.specs.Pairs.{ReadPair, Masked}
-use Rattle.tmr_top.specs.Texts.{accepted_line}
+use Rattle.tmr_texts.specs.Texts.{accepted_line}
 use Rattle.tmr_top.specs.FileWords.{texts_in}
 use Rattle.tmr_top.specs.Loads.{schedule_file, loads_of, saves_of}
 use Rattle.tmr_top.specs.Loaded.{HoldsBytes}

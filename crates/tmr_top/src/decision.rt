@@ -1,13 +1,13 @@
 //! What a command comes to before its text is put.
 ghost use Rattle.std.specs.Prelude.{◌≡◌, ◌≢◌, IfOk};
 ghost use Rattle.tmr_top.specs.Loaded.{IsStopped};
-ghost use Rattle.tmr_top.specs.Texts.{refused_line};
+ghost use Rattle.tmr_texts.specs.Texts.{refused_line};
 
 use crate::Status;
 use crate::loads::Stop;
-use crate::texts::{load_fault, refused};
 use std::alloc::Global;
 use tmr_base::OutOfMemory;
+use tmr_texts::{load_fault, refused};
 
 /// What a command comes to by what its files hold.
 #[derive(Clone, Copy, Debug, PartialEq, Eq, Drop)]

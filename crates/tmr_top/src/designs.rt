@@ -10,13 +10,13 @@ ghost use Rattle.blif_writer.specs.NetOf.{IsFreeNetOf};
 ghost use Rattle.tmr_top.specs.Designs.{IsUnread};
 ghost use Rattle.tmr_top.specs.Unread.{OnRefused};
 
-use crate::reasons::{bad_line, flat_reason};
 use blif_text::{Library, TextFault};
 use flat_net::{FlatNet, FreeNet};
 use hierarchy::{FlatFault, flatten_owned};
 use std::alloc::Global;
 use std::mem::replace;
 use tmr_base::OutOfMemory;
+use tmr_texts::{bad_line, flat_reason};
 
 /// Why no design was read.
 #[derive(Drop)]

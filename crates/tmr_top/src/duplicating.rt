@@ -4,8 +4,8 @@ ghost use Rattle.flat_net.specs.Net.{net_count, pin_total};
 ghost use Rattle.blif_writer.specs.Length.{flat_length};
 ghost use Rattle.dwc.specs.Guard.{guard_net};
 ghost use Rattle.tmr_outside.specs.Contents.{Contents};
-ghost use Rattle.tmr_top.specs.Line.{Guard, CheckGuard};
-ghost use Rattle.tmr_top.specs.FileWords.{guarding_in};
+ghost use Rattle.tmr_words.specs.Line.{Guard, CheckGuard};
+ghost use Rattle.tmr_words.specs.FileWords.{guarding_in};
 ghost use Rattle.tmr_top.specs.Loads.{original_file, hardened_file, loads_of};
 ghost use Rattle.tmr_top.specs.Loaded.{HoldsText, HoldsEach, FitsEach};
 ghost use Rattle.tmr_top.specs.Designs.{HoldsDesign};
@@ -14,15 +14,15 @@ ghost use Rattle.tmr_top.specs.Works.{IsWork, HasTexts, Agrees};
 
 use crate::decision::{Verdict, Work, refusal};
 use crate::designs::{Unread, checked_nodes, read_design};
-use crate::line::GuardWords;
 use crate::loads::{HARDENED_LIMIT, Loaded, ORIGINAL_LIMIT};
-use crate::texts::{guard_found, guard_made, guard_not_found};
 use blif_text::{Library, TextFault};
 use blif_writer::write_flat;
 use dwc::{GuardAnswer, check_guard, guard};
 use flat_net::FreeNet;
 use std::alloc::Global;
 use tmr_base::OutOfMemory;
+use tmr_texts::{guard_found, guard_made, guard_not_found};
+use tmr_words::GuardWords;
 
 /// The flat text of the guarded design keeps the limit of its file, where that of the original keeps its own.
 fn text_keeps_limit(n: &FreeNet)

@@ -1,8 +1,8 @@
 //! `flatten ORIG FLAT`.
 ghost use Rattle.std.specs.Prelude.{◌≡◌, IfOk};
 ghost use Rattle.tmr_outside.specs.Contents.{Contents};
-ghost use Rattle.tmr_top.specs.Line.{Flatten};
-ghost use Rattle.tmr_top.specs.FileWords.{flattening_in};
+ghost use Rattle.tmr_words.specs.Line.{Flatten};
+ghost use Rattle.tmr_words.specs.FileWords.{flattening_in};
 ghost use Rattle.tmr_top.specs.Loads.{original_file, loads_of};
 ghost use Rattle.tmr_top.specs.Loaded.{HoldsText, HoldsEach, FitsEach};
 ghost use Rattle.tmr_top.specs.Designs.{HoldsDesign};
@@ -10,14 +10,14 @@ ghost use Rattle.tmr_top.specs.Works.{IsWork, HasTexts, Agrees};
 
 use crate::decision::{Verdict, Work, refusal};
 use crate::designs::{Unread, read_design};
-use crate::line::FlatWords;
 use crate::loads::{Loaded, ORIGINAL_LIMIT};
-use crate::texts::flattened;
 use blif_text::{Library, TextFault};
 use blif_writer::write_flat;
 use flat_net::FreeNet;
 use std::alloc::Global;
 use tmr_base::OutOfMemory;
+use tmr_texts::flattened;
+use tmr_words::FlatWords;
 
 /// The flat text of a design, and what is told of it.
 fn tell_design(alloc: Global, words: &FlatWords, flat: &FreeNet) -> Result<Work, OutOfMemory>

@@ -1,8 +1,8 @@
 //! `from-aag AAG FLAT`.
 ghost use Rattle.std.specs.Prelude.{◌≤◌, length, IfOk};
 ghost use Rattle.tmr_outside.specs.Contents.{Contents};
-ghost use Rattle.tmr_top.specs.Line.{ReadGraph};
-ghost use Rattle.tmr_top.specs.FileWords.{graph_reading_in};
+ghost use Rattle.tmr_words.specs.Line.{ReadGraph};
+ghost use Rattle.tmr_words.specs.FileWords.{graph_reading_in};
 ghost use Rattle.tmr_top.specs.Loads.{graph_file, loads_of};
 ghost use Rattle.tmr_top.specs.Loaded.{HoldsBytes, HoldsEach, FitsEach};
 ghost use Rattle.tmr_top.specs.GraphRead.{HoldsNoGraph};
@@ -10,14 +10,13 @@ ghost use Rattle.tmr_top.specs.GraphCounted.{HoldsCounted};
 ghost use Rattle.tmr_top.specs.Works.{IsWork, HasTexts, Agrees};
 
 use crate::decision::{Verdict, Work, refusal};
-use crate::line::GraphReadWords;
 use crate::loads::{GRAPH_LIMIT, Loaded};
-use crate::reasons::aag_reason;
-use crate::texts::graph_told;
 use aag_design::{AagFault, CountedDesign, read_counted};
 use blif_writer::write_free;
 use std::alloc::Global;
 use tmr_base::OutOfMemory;
+use tmr_texts::{aag_reason, graph_told};
+use tmr_words::GraphReadWords;
 
 /// The flat text of a graph's design, and what is told of the graph.
 #[tactic(auto, using(crate::proofs::GraphReadLaws::making))]

@@ -3,8 +3,8 @@ ghost use Rattle.std.specs.Prelude.{◌≡◌, ◌≤◌, ◌+◌, ◌*◌, IfOk
 ghost use Rattle.flat_net.specs.Net.{net_count, pin_total};
 ghost use Rattle.hierarchy.specs.Sizes.{row_total};
 ghost use Rattle.tmr_outside.specs.Contents.{Contents};
-ghost use Rattle.tmr_top.specs.Line.{WriteGraph};
-ghost use Rattle.tmr_top.specs.FileWords.{graphing_in};
+ghost use Rattle.tmr_words.specs.Line.{WriteGraph};
+ghost use Rattle.tmr_words.specs.FileWords.{graphing_in};
 ghost use Rattle.tmr_top.specs.Loads.{original_file, loads_of};
 ghost use Rattle.tmr_top.specs.Loaded.{HoldsText, HoldsEach, FitsEach};
 ghost use Rattle.tmr_top.specs.Designs.{HoldsDesign};
@@ -12,14 +12,14 @@ ghost use Rattle.tmr_top.specs.Works.{IsWork, HasTexts, Agrees};
 
 use crate::decision::{Verdict, Work, refusal};
 use crate::designs::{Unread, read_design};
-use crate::line::GraphWords;
 use crate::loads::{Loaded, ORIGINAL_LIMIT};
-use crate::texts::graph_made;
 use aag_text::write_counted;
 use blif_text::{Library, TextFault};
 use flat_net::FreeNet;
 use std::alloc::Global;
 use tmr_base::OutOfMemory;
+use tmr_texts::graph_made;
+use tmr_words::GraphWords;
 
 /// The file of a design, and what is told of it.
 #[tactic(auto, using(crate::proofs::GraphLaws::making))]

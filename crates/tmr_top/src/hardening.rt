@@ -4,27 +4,26 @@ ghost use Rattle.hardened_size.specs.Size.{AreShort, KeepLimits};
 ghost use Rattle.hardened_text.specs.Texts.{AreTexts};
 ghost use Rattle.flat_net.specs.Net.{net_count, pin_total};
 ghost use Rattle.tmr_outside.specs.Contents.{Contents};
-ghost use Rattle.tmr_top.specs.Line.{Harden};
-ghost use Rattle.tmr_top.specs.FileWords.{hardening_in};
+ghost use Rattle.tmr_words.specs.Line.{Harden};
+ghost use Rattle.tmr_words.specs.FileWords.{hardening_in};
 ghost use Rattle.tmr_top.specs.Loads.{original_file, loads_of};
 ghost use Rattle.tmr_top.specs.Loaded.{HoldsText, HoldsEach, FitsEach};
 ghost use Rattle.tmr_top.specs.Designs.{HoldsDesign};
 ghost use Rattle.tmr_top.specs.FlatWithin.{IsFlatWithin};
-ghost use Rattle.tmr_top.specs.FormText.{form_numbers, hardened_lines};
+ghost use Rattle.tmr_texts.specs.FormText.{form_numbers, hardened_lines};
 ghost use Rattle.tmr_top.specs.Works.{IsWork, HasTexts, Agrees};
 
 use crate::decision::{Verdict, Work, refusal};
 use crate::designs::{Unread, checked_nodes, read_design};
-use crate::form_text::{FormNumbers, hardened_lines};
-use crate::harden_words::HardenWords;
 use crate::loads::{Loaded, ORIGINAL_LIMIT};
-use crate::texts::greatest_of;
 use blif_text::{Library, TextFault};
 use flat_net::FreeNet;
 use hardened_size::hardened_texts_are_short;
 use hardened_text::{HardenedTexts, harden_texts};
 use std::alloc::Global;
 use tmr_base::OutOfMemory;
+use tmr_texts::{FormNumbers, greatest_of, hardened_lines};
+use tmr_words::HardenWords;
 
 /// What is told of a hardened form of a design.
 fn form_text(

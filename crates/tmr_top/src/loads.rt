@@ -4,19 +4,19 @@ ghost use Rattle.blif_text.specs.Reader.{StandsFor, most_bytes};
 ghost use Rattle.tmr_outside.specs.Counts.{NoneFell, NoneRose};
 ghost use Rattle.tmr_outside.specs.Pieces.{TakesFile};
 ghost use Rattle.tmr_outside.specs.Seen.{IsTold};
-ghost use Rattle.tmr_top.specs.FileWords.{pair_in, replaying_in, command_in, load_in};
+ghost use Rattle.tmr_words.specs.FileWords.{pair_in, replaying_in, command_in};
+ghost use Rattle.tmr_top.specs.FileWords.{load_in};
 ghost use Rattle.tmr_top.specs.Loads.{load_name, loads_of, pair_files, replay_files, schedule_file as schedule_load, original_file as original_load, hardened_file as hardened_load, certificate_file as certificate_load, graph_file as graph_load};
 ghost use Rattle.tmr_top.specs.Changes.{ChangesOnly};
 ghost use Rattle.tmr_top.specs.Loaded.{HoldsText, HoldsBytes, Loads, IsStop, IsSteadyStop};
 
 use crate::file_words::{FileKind, LoadWords};
-use crate::line::{CommandWords, PairWords};
-use crate::replay_words::ReplayWords;
 use crate::taker::TextTaker;
 use blif_text::{Library, TextFault};
 use std::alloc::Global;
 use tmr_base::OutOfMemory;
 use tmr_outside::{Files, LoadFault};
+use tmr_words::{CommandWords, PairWords, ReplayWords};
 
 /// The most bytes of an original design, and of its flat text.
 pub const ORIGINAL_LIMIT: u64 = 8_388_608;

@@ -3,11 +3,11 @@ ghost use Rattle.std.specs.Prelude.{◌≡◌, ◌≢◌, ◌⊎◌, false, [], 
 ghost use Rattle.tmr_outside.specs.Contents.{Contents};
 ghost use Rattle.tmr_outside.specs.Counts.{NoneRose};
 ghost use Rattle.tmr_outside.specs.Seen.{IsTold};
-ghost use Rattle.tmr_top.specs.Line.{Pair, Validate, TryOut};
-ghost use Rattle.tmr_top.specs.Trials.{Trial};
+ghost use Rattle.tmr_words.specs.Line.{Pair, Validate, TryOut};
+ghost use Rattle.tmr_words.specs.Trials.{Trial};
 ghost use Rattle.tmr_top.specs.Tried.{IsTried};
 ghost use Rattle.tmr_top.specs.ByWords.{compares};
-ghost use Rattle.tmr_top.specs.FileWords.{command_in};
+ghost use Rattle.tmr_words.specs.FileWords.{command_in};
 ghost use Rattle.tmr_top.specs.Loads.{load_name, loads_of, saves_of};
 ghost use Rattle.tmr_top.specs.Changes.{ChangesOnly, NoneFailed};
 ghost use Rattle.tmr_top.specs.Pairs.{Masked};
@@ -23,16 +23,16 @@ use crate::flattening::flatten;
 use crate::graph_reading::read_graph_file;
 use crate::graphing::graph_file;
 use crate::hardening::harden;
-use crate::line::CommandWords;
 use crate::loads::{Loaded, list_loads, load_all};
 use crate::pair_task::PairTask;
 use crate::saves::{SaveStop, list_saves, save_all};
-use crate::texts::save_fault;
 use crate::trying::try_out;
 use crate::validation::{judge_files, replay_files};
 use std::alloc::Global;
 use tmr_base::OutOfMemory;
 use tmr_outside::Files;
+use tmr_texts::save_fault;
+use tmr_words::CommandWords;
 
 /// The work of a command, where its files are loaded.
 fn work(alloc: Global, words: &CommandWords, loaded: &mut [Loaded]) -> Result<Work, OutOfMemory>

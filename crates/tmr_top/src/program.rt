@@ -2,8 +2,8 @@
 ghost use Rattle.std.specs.Prelude.{◌≡◌, ◌≢◌, ◌≤◌, ◌⊎◌, false, Some, None, IfOk, IfSome, IsSomeAnd, MatchResult};
 ghost use Rattle.tmr_outside.specs.Counts.{Rose, NoneRose};
 ghost use Rattle.tmr_outside.specs.Seen.{IsTold};
-ghost use Rattle.tmr_top.specs.Line.{Command, Pair, Hardening, Guarding, Validate, Harden, Guard, TryOut, meaning};
-ghost use Rattle.tmr_top.specs.Trials.{Trial};
+ghost use Rattle.tmr_words.specs.Line.{Command, Pair, Hardening, Guarding, Validate, Harden, Guard, TryOut, meaning};
+ghost use Rattle.tmr_words.specs.Trials.{Trial};
 ghost use Rattle.tmr_top.specs.Tried.{IsTried};
 ghost use Rattle.tmr_top.specs.ByWords.{compares};
 ghost use Rattle.tmr_top.specs.Loads.{loaded_names, saved_names};
@@ -17,12 +17,12 @@ ghost use Rattle.tmr_top.specs.Runs.{Acts, Ends, Prints, Ran, Untouched};
 
 use crate::Status;
 use crate::decision::Decision;
-use crate::line::read_line;
 use crate::performing::perform;
-use crate::texts::{usage, want_of_memory};
 use std::alloc::Global;
 use tmr_base::OutOfMemory;
 use tmr_outside::{Files, PutFault, Sink};
+use tmr_texts::{usage, want_of_memory};
+use tmr_words::read_line;
 
 /// What the words come to before anything is printed.
 #[tactic(auto, using(crate::proofs::RunLaws::lines))]

@@ -12,22 +12,19 @@ ghost use Rattle.schedule_replay.specs.Reading.{IsNodeOf, IsReadAs};
 ghost use Rattle.validator.specs.Masking.{Masks, FreeMasks};
 ghost use Rattle.tmr_outside.specs.Contents.{Contents};
 ghost use Rattle.tmr_top.specs.Designs.{HoldsDesign};
-ghost use Rattle.tmr_top.specs.FileWords.{pair_in, replaying_over, texts_in, word_in};
-ghost use Rattle.tmr_top.specs.Line.{Replay};
+ghost use Rattle.tmr_words.specs.FileWords.{pair_in, word_in};
+ghost use Rattle.tmr_top.specs.FileWords.{replaying_over, texts_in};
+ghost use Rattle.tmr_words.specs.Line.{Replay};
 ghost use Rattle.tmr_top.specs.Loaded.{HoldsBytes};
 ghost use Rattle.tmr_top.specs.Loads.{original_file, hardened_file, certificate_file, schedule_file};
 ghost use Rattle.tmr_top.specs.Pairs.{HoldsCertificate};
-ghost use Rattle.tmr_top.specs.ReplayText.{replay_lines};
+ghost use Rattle.tmr_texts.specs.ReplayText.{replay_lines};
 ghost use Rattle.tmr_top.specs.Replayed.{SavesWaves, is_too_large};
 ghost use Rattle.tmr_top.specs.Works.{IsWork, HasTexts};
 ghost use Rattle.tmr_top.specs.Replaying.{ReadsSchedule, IsTold};
 
 use crate::decision::{Verdict, Work, refusal};
-use crate::line::PairWords;
-use crate::reasons::schedule_reason;
-use crate::replay_text::replay_lines;
-use crate::replay_words::ScheduleFile;
-use crate::texts::not_accepted;
+use crate::file_task::ScheduleFile;
 use crate::waves::wave_texts;
 use certificate::Certificate;
 use flat_net::FreeNet;
@@ -36,6 +33,8 @@ use schedule_replay::{
 };
 use std::alloc::Global;
 use tmr_base::OutOfMemory;
+use tmr_texts::{not_accepted, replay_lines, schedule_reason};
+use tmr_words::PairWords;
 use validator::check_free;
 
 /// The most that outputs times cycles may be where waves are saved.

@@ -1,14 +1,15 @@
 //! Texts, saved one after the other.
 ghost use Rattle.std.specs.Prelude.{◌≡◌, ◌∷◌, [], length, IfOk, IfErr, OnOk};
-ghost use Rattle.tmr_top.specs.FileWords.{command_in, read_words, texts_in, word_in};
+ghost use Rattle.tmr_words.specs.FileWords.{command_in, read_words, word_in};
+ghost use Rattle.tmr_top.specs.FileWords.{texts_in};
 ghost use Rattle.tmr_top.specs.Loads.{saves_of, wave_names};
 ghost use Rattle.tmr_top.specs.Changes.{ChangesOnly};
 ghost use Rattle.tmr_top.specs.Saved.{Saves, IsSaveStop};
 
-use crate::line::CommandWords;
 use std::alloc::Global;
 use tmr_base::OutOfMemory;
 use tmr_outside::{Files, SaveFault};
+use tmr_words::CommandWords;
 
 /// Why saves came to no end, and at the file of which name.
 #[derive(Clone, Copy, Debug, PartialEq, Eq, Drop)]

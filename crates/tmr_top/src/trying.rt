@@ -8,23 +8,22 @@ ghost use Rattle.tmr_trial.specs.Designs.{design_of};
 ghost use Rattle.tmr_trial.specs.Schedules.{IsDrawnSchedule};
 ghost use Rattle.triplicate.specs.Result.{IsHardened};
 ghost use Rattle.validator.specs.Masking.{Masks};
-ghost use Rattle.tmr_top.specs.FormText.{form_numbers};
-ghost use Rattle.tmr_top.specs.Line.{TryOut};
-ghost use Rattle.tmr_top.specs.TrialWords.{trial_in};
+ghost use Rattle.tmr_texts.specs.FormText.{form_numbers};
+ghost use Rattle.tmr_words.specs.Line.{TryOut};
+ghost use Rattle.tmr_words.specs.TrialWords.{trial_in};
 ghost use Rattle.tmr_top.specs.Tried.{AreSums, IsTried, trial_lines};
 ghost use Rattle.tmr_top.specs.Trying.{IsRunnable, IsCalm};
 ghost use Rattle.tmr_top.specs.Works.{IsWork, HasTexts, Agrees};
 
 use crate::decision::{Verdict, Work};
-use crate::form_text::{FormNumbers, form_lines};
-use crate::texts::{counted, greatest_depth, join};
-use crate::trial_words::TrialWords;
 use certificate::Certificate;
 use flat_net::FlatNet;
 use schedule_replay::{Outcome, Schedule, replay_wide};
 use std::alloc::Global;
 use tmr_base::OutOfMemory;
+use tmr_texts::{FormNumbers, counted, form_lines, greatest_depth, join};
 use tmr_trial::{design, schedule};
+use tmr_words::TrialWords;
 use triplicate::{Hardened, harden};
 use validator::check;
 

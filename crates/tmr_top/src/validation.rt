@@ -4,8 +4,9 @@ ghost use Rattle.flat_net.specs.Net.{net_count};
 ghost use Rattle.certificate.specs.Cert.{Fits};
 ghost use Rattle.certificate.specs.Rules.{FreeCorresponds};
 ghost use Rattle.tmr_outside.specs.Contents.{Contents};
-ghost use Rattle.tmr_top.specs.Line.{Replay};
-ghost use Rattle.tmr_top.specs.FileWords.{pair_in, replaying_in, task_over, files_over};
+ghost use Rattle.tmr_words.specs.Line.{Replay};
+ghost use Rattle.tmr_words.specs.FileWords.{pair_in, replaying_in};
+ghost use Rattle.tmr_top.specs.FileWords.{task_over, files_over};
 ghost use Rattle.tmr_top.specs.Loads.{original_file, hardened_file, certificate_file, pair_files, loads_of};
 ghost use Rattle.tmr_top.specs.Loaded.{HoldsText, HoldsBytes, HoldsEach, FitsEach};
 ghost use Rattle.tmr_top.specs.Designs.{HoldsDesign};
@@ -14,19 +15,18 @@ ghost use Rattle.tmr_top.specs.Works.{IsWork, HasTexts, HoldsTask, Tells};
 
 use crate::decision::{Verdict, Work, refusal};
 use crate::designs::{Unread, read_design};
-use crate::line::PairWords;
+use crate::file_task::{FileTask, ScheduleFile};
 use crate::loads::{HARDENED_LIMIT, Loaded, ORIGINAL_LIMIT};
 use crate::pair_task::PairTask;
-use crate::reasons::cert_reason;
-use crate::replay_words::{FileTask, ReplayWords, ScheduleFile};
 use crate::replaying::judge_schedule;
-use crate::texts::{accepted, not_accepted};
 use blif_text::{Library, TextFault};
 use certificate::{Certificate, read_cert};
 use flat_net::FreeNet;
 use reports::report;
 use std::alloc::Global;
 use tmr_base::OutOfMemory;
+use tmr_texts::{accepted, cert_reason, not_accepted};
+use tmr_words::{PairWords, ReplayWords};
 use validator::check_free;
 
 /// What a task tells of a pair that is accepted.

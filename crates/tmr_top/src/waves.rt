@@ -4,17 +4,18 @@ ghost use Rattle.flat_net.specs.Net.{net_count};
 ghost use Rattle.certificate.specs.Cert.{Fits};
 ghost use Rattle.schedule_replay.specs.Waves.{AreFreeWaves};
 ghost use Rattle.tmr_base.specs.Names.{is_name};
-ghost use Rattle.tmr_top.specs.FileWords.{texts_in, word_in};
-ghost use Rattle.tmr_top.specs.ReplayText.{waves_of, output_waves};
+ghost use Rattle.tmr_words.specs.FileWords.{word_in};
+ghost use Rattle.tmr_top.specs.FileWords.{texts_in};
+ghost use Rattle.tmr_texts.specs.ReplayText.{waves_of, output_waves};
 ghost use Rattle.tmr_top.specs.Replayed.{AreSaved, SavesWaves, is_too_large};
 
 use crate::designs::checked_nodes;
-use crate::replay_text::output_name;
 use certificate::Certificate;
 use flat_net::{FlatNet, FreeNet};
 use schedule_replay::{Schedule, wave_values};
 use std::alloc::Global;
 use tmr_base::{Name, NameFault, OutOfMemory};
+use tmr_texts::output_name;
 use vcd_text::write_vcd;
 
 /// The name, and then these bytes.

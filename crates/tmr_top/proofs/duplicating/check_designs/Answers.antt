@@ -4,7 +4,8 @@ use Rattle.dwc.specs.declared.check.GuardAnswer.{GuardAnswer}
 use Rattle.dwc.specs.Answer.{BreaksFirst, IsAnswer}
 use Rattle.dwc.specs.Guard.{guard_net}
 use Rattle.dwc.specs.Tells.{Guards}
-use Rattle.tmr_top.specs.FileWords.{guarding_in, texts_in}
+use Rattle.tmr_words.specs.FileWords.{guarding_in}
+use Rattle.tmr_top.specs.FileWords.{texts_in}
 use Rattle.tmr_top.proofs.GuardLaws.{guard_found_work, no_guard_work}
 use Rattle.tmr_top.proofs.duplicating.check_designs.Goals as goal
 

@@ -5,8 +5,9 @@ use Rattle.flat_net.specs.Net.{Design}
 use Rattle.blif_writer.specs.Length.{flat_length}
 use Rattle.dwc.specs.Guard.{guard_net}
 use Rattle.dwc.specs.Tells.{Guards}
-use Rattle.tmr_top.specs.FileWords.{guarding_in, texts_in}
-use Rattle.tmr_top.specs.Texts.{guard_line}
+use Rattle.tmr_words.specs.FileWords.{guarding_in}
+use Rattle.tmr_top.specs.FileWords.{texts_in}
+use Rattle.tmr_texts.specs.Texts.{guard_line}
 use Rattle.tmr_top.proofs.GuardLaws.{guarded_work}
 use Rattle.tmr_top.proofs.duplicating.guard_design.Goals as goal
 

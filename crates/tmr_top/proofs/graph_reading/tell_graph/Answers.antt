@@ -1,7 +1,8 @@
 use Rattle.std.proofs.Common.{ℕ, List, [], ◌∷◌, ◌++◌, refl, ap, ◌∙◌}
 use Rattle.std.specs.Prelude.{Vec}
 use Rattle.std.specs.declared.alloc.Global.{Global}
-use Rattle.tmr_top.specs.FileWords.{graph_reading_in, texts_in}
+use Rattle.tmr_words.specs.FileWords.{graph_reading_in}
+use Rattle.tmr_top.specs.FileWords.{texts_in}
 use Rattle.tmr_top.proofs.GraphReadLaws.{graph_read_work}
 use Rattle.tmr_top.proofs.graph_reading.tell_graph.Goals as goal
 

@@ -1,6 +1,6 @@
 use Rattle.std.proofs.Common.{◌≡◌, List, ℕ, length, subst, sym, ap, ◌∙◌, IfOk}
 use Rattle.flat_net.specs.Net.{Design}
-use Rattle.tmr_top.specs.Texts.{greatest}
+use Rattle.tmr_texts.specs.Texts.{greatest}
 use Rattle.tmr_top.proofs.HardenLaws.{told_numbers}
 use Rattle.tmr_top.proofs.hardening.form_text.Goals as goal
 

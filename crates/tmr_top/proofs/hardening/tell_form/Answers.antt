@@ -2,7 +2,8 @@ use Rattle.std.proofs.Common.{◌≤◌, Bool, List, ℕ, [], ◌∷◌, ◌++�
 use Rattle.std.specs.Prelude.{◌↔◌, IsTrue}
 use Rattle.partitioner.specs.Refining.{IsMinimal}
 use Rattle.triplicate.specs.Form.{parts_of}
-use Rattle.tmr_top.specs.FileWords.{hardening_in, texts_in}
+use Rattle.tmr_words.specs.FileWords.{hardening_in}
+use Rattle.tmr_top.specs.FileWords.{texts_in}
 use Rattle.tmr_top.proofs.HardenLaws.{hardened_work}
 use Rattle.tmr_top.proofs.hardening.tell_form.Goals as goal
 

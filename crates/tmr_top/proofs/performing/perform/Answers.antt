@@ -1,4 +1,4 @@
-use Rattle.tmr_top.specs.FileWords.{command_in}
+use Rattle.tmr_words.specs.FileWords.{command_in}
 use Rattle.tmr_top.proofs.ChangeLaws.{match_since}
 use Rattle.tmr_top.proofs.PerformLaws.{loaded_comes, performs_since, leaves_since}
 use Rattle.tmr_top.proofs.performing.perform.Goals as goal

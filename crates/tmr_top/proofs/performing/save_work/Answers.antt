@@ -1,4 +1,4 @@
-use Rattle.tmr_top.specs.FileWords.{command_in}
+use Rattle.tmr_words.specs.FileWords.{command_in}
 use Rattle.tmr_top.proofs.ChangeLaws.{match_err}
 use Rattle.tmr_top.proofs.PerformLaws.{save_fails, save_wants}
 use Rattle.tmr_top.proofs.performing.save_work.Goals as goal

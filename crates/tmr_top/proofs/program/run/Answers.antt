@@ -1,6 +1,6 @@
 use Rattle.tmr_top.proofs.RunClauses.{usage, usage_only, fault, refused, refused_only, not_accepted, not_accepted_only, done, otherwise, complete, complete_steady, missing_only, untouched, load_failed}
-use Rattle.tmr_top.specs.Words.{texts}
-use Rattle.tmr_top.proofs.LineLaws.{two_names}
+use Rattle.tmr_words.specs.Words.{texts}
+use Rattle.tmr_words.proofs.LineLaws.{two_names}
 use Rattle.tmr_top.proofs.LeaveLaws.{leaves}
 use Rattle.tmr_top.proofs.GuardLeaves.{guards}
 use Rattle.tmr_top.proofs.program.run.Goals as goal

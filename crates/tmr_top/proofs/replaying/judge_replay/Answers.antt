@@ -1,9 +1,10 @@
 use Rattle.std.proofs.Common.{ℕ, length, refl, sym, ap, ◌∙◌}
 use Rattle.flat_net.specs.Net.{Design}
-use Rattle.tmr_top.specs.FileWords.{pair_in, replaying_over, word_in}
-use Rattle.tmr_top.specs.Line.{Replay}
+use Rattle.tmr_words.specs.FileWords.{pair_in, word_in}
+use Rattle.tmr_top.specs.FileWords.{replaying_over}
+use Rattle.tmr_words.specs.Line.{Replay}
 use Rattle.tmr_top.specs.Replayed.{is_too_large}
-use Rattle.tmr_top.specs.Texts.{not_accepted_line}
+use Rattle.tmr_texts.specs.Texts.{not_accepted_line}
 use Rattle.tmr_top.specs.Works.{IsWork}
 use Rattle.tmr_top.proofs.ReplayLaws.{both_ok, replayed_work, denied_work, large_work}
 use Rattle.tmr_top.proofs.replaying.judge_replay.Goals as goal

@@ -1,8 +1,9 @@
 use Rattle.std.proofs.Common.{ap, ◌∙◌}
-use Rattle.tmr_top.specs.FileWords.{pair_in, replaying_over}
-use Rattle.tmr_top.specs.Line.{Replay}
+use Rattle.tmr_words.specs.FileWords.{pair_in}
+use Rattle.tmr_top.specs.FileWords.{replaying_over}
+use Rattle.tmr_words.specs.Line.{Replay}
 use Rattle.tmr_top.specs.Loads.{schedule_file}
-use Rattle.tmr_top.specs.Texts.{refused_line}
+use Rattle.tmr_texts.specs.Texts.{refused_line}
 use Rattle.tmr_top.specs.Works.{IsWork}
 use Rattle.tmr_top.proofs.ReplayLaws.{both_ok, schedule_work, schedule_fault, holds_no_schedule}
 use Rattle.tmr_top.proofs.replaying.judge_schedule.Goals as goal

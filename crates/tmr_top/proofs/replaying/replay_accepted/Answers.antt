@@ -4,8 +4,9 @@ use Rattle.certificate.specs.Starts.{counted, spread_start}
 use Rattle.schedule_replay.specs.declared.outcome.Difference.{Difference}
 use Rattle.schedule_replay.specs.OutcomeView.{plain_outcome}
 use Rattle.schedule_replay.specs.Starts.{given_starts}
-use Rattle.tmr_top.specs.FileWords.{texts_in, word_in}
-use Rattle.tmr_top.specs.ReplayText.{replay_lines}
+use Rattle.tmr_words.specs.FileWords.{word_in}
+use Rattle.tmr_top.specs.FileWords.{texts_in}
+use Rattle.tmr_texts.specs.ReplayText.{replay_lines}
 use Rattle.tmr_top.proofs.ReplayLaws.{three_inputs, outputs_in_threes, shown_outputs, told}
 use Rattle.tmr_top.proofs.replaying.replay_accepted.Goals as goal
 

@@ -1,7 +1,8 @@
 use Rattle.std.proofs.Common.{◌≡◌, take, []}
 use Rattle.tmr_outside.specs.Counts.{NoneRose}
 use Rattle.tmr_outside.specs.Seen.{IsTold}
-use Rattle.tmr_top.specs.FileWords.{read_words, texts_in}
+use Rattle.tmr_words.specs.FileWords.{read_words}
+use Rattle.tmr_top.specs.FileWords.{texts_in}
 use Rattle.tmr_top.specs.Changes.{ChangesOnly}
 use Rattle.tmr_top.specs.Saved.{after_saves}
 use Rattle.tmr_top.proofs.saves.save_all.Given as goal

@@ -1,7 +1,7 @@
 use Rattle.std.proofs.Common.{refl, ap, ◌∙◌}
-use Rattle.tmr_top.specs.declared.form_text.FormNumbers.{FormNumbers}
+use Rattle.tmr_texts.specs.declared.form_text.FormNumbers.{FormNumbers}
 use Rattle.tmr_top.specs.FileWords.{texts_in}
-use Rattle.tmr_top.specs.TrialWords.{trial_in}
+use Rattle.tmr_words.specs.TrialWords.{trial_in}
 use Rattle.tmr_top.specs.Tried.{trial_lines}
 use Rattle.tmr_top.proofs.TrialLaws.{tried_text, tried_work}
 use Rattle.tmr_top.proofs.trying.try_out.Goals as goal

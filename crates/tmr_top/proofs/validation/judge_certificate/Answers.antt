@@ -1,9 +1,10 @@
 use Rattle.std.proofs.Common.{sym, ap, ◌∙◌}
 use Rattle.flat_net.specs.Net.{Design}
 use Rattle.certificate.specs.Reading.{cert_of_text}
-use Rattle.tmr_top.specs.FileWords.{pair_in, files_over}
+use Rattle.tmr_words.specs.FileWords.{pair_in}
+use Rattle.tmr_top.specs.FileWords.{files_over}
 use Rattle.tmr_top.specs.Loads.{certificate_file}
-use Rattle.tmr_top.specs.Texts.{refused_line}
+use Rattle.tmr_texts.specs.Texts.{refused_line}
 use Rattle.tmr_top.specs.Works.{IsWork}
 use Rattle.tmr_top.proofs.PairLaws.{certificate_work, holds_no_certificate, read_fault}
 use Rattle.tmr_top.proofs.ReplayLaws.{both_ok}

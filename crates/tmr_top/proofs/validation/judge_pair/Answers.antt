@@ -1,7 +1,8 @@
 use Rattle.std.proofs.Common.{◌∙◌, ap, refl}
 use Rattle.flat_net.specs.Net.{Design}
-use Rattle.tmr_top.specs.FileWords.{pair_in, texts_in}
-use Rattle.tmr_top.specs.Texts.{not_accepted_line}
+use Rattle.tmr_words.specs.FileWords.{pair_in}
+use Rattle.tmr_top.specs.FileWords.{texts_in}
+use Rattle.tmr_texts.specs.Texts.{not_accepted_line}
 use Rattle.tmr_top.proofs.PairLaws.{accepted_work, not_accepted_work}
 use Rattle.tmr_top.proofs.validation.judge_pair.Goals as goal
 

@@ -1,5 +1,5 @@
 use Rattle.std.proofs.Common.{◌≡◌, ◌++◌, drop}
-use Rattle.tmr_top.specs.ReplayText.{waves_at, output_waves}
+use Rattle.tmr_texts.specs.ReplayText.{waves_at, output_waves}
 use Rattle.tmr_top.proofs.waves.output_waves.Given as goal
 
 abbrev pub invariant-loop-k : goal.invariant-loop-k

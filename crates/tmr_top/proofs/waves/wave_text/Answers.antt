@@ -1,6 +1,6 @@
 use Rattle.std.proofs.Common.{ℕ, ◌*◌, length, sym, ap, ◌∙◌}
 use Rattle.flat_net.specs.Net.{Design}
-use Rattle.tmr_top.specs.ReplayText.{output_waves}
+use Rattle.tmr_texts.specs.ReplayText.{output_waves}
 use Rattle.tmr_top.proofs.WaveLaws.{values_long}
 use Rattle.tmr_top.proofs.waves.wave_text.Goals as goal
 

@@ -1,0 +1,6 @@
+use Rattle.std.proofs.Common.{◌≡◌, max, drop}
+use Rattle.tmr_texts.specs.Texts.{greatest}
+use Rattle.tmr_texts.proofs.texts.greatest_of.Given as goal
+
+abbrev pub invariant-loop-p : goal.invariant-loop-p
+invariant-loop-p l = max l.most (greatest (drop l.p l.depths)) ≡ greatest l.depths

@@ -1,0 +1,4 @@
+pub mod Texts
+pub mod Reasons
+pub mod FormText
+pub mod ReplayText

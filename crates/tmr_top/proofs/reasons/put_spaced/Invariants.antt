@@ -1,6 +1,0 @@
-use Rattle.std.proofs.Common.{◌≡◌, ◌++◌, drop}
-use Rattle.tmr_top.specs.Reasons.{spaced}
-use Rattle.tmr_top.proofs.reasons.put_spaced.Given as goal
-
-abbrev pub invariant-loop-name : goal.invariant-loop-name
-invariant-loop-name l = l.text.items ++ spaced (drop l.name-index l.names) ≡ l.fn.text.items ++ spaced l.names

@@ -1,7 +1,0 @@
-use Rattle.std.proofs.Common.{◌≡◌, ◌++◌, drop}
-use Rattle.tmr_top.specs.FileWords.{read_words}
-use Rattle.tmr_top.specs.Texts.{joined}
-use Rattle.tmr_top.proofs.texts.join.Given as goal
-
-abbrev pub invariant-loop-piece : goal.invariant-loop-piece
-invariant-loop-piece l = l.text.items ++ joined (read_words (drop l.piece-index l.pieces)) ≡ joined (read_words l.pieces)

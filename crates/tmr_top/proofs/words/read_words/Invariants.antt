@@ -1,8 +1,0 @@
-use Rattle.std.proofs.Common.{◌≡◌, drop}
-use Rattle.tmr_top.specs.Words.{texts, words_from, words_of}
-use Rattle.tmr_top.specs.WordsRead.{words_in}
-use Rattle.tmr_top.proofs.WordLaws.{behind}
-use Rattle.tmr_top.proofs.words.read_words.Given as goal
-
-abbrev pub invariant-loop-word : goal.invariant-loop-word
-invariant-loop-word l = behind (words_in l.read) (words_from l.mode (texts (drop l.word-index l.words))) ≡ words_of (texts l.words)

@@ -1,0 +1,18 @@
+use Rattle.std.proofs.Common.{ap, ◌∙◌}
+use Rattle.std.specs.Prelude.{string_bytes}
+use Rattle.tmr_words.specs.Words.{Words, texts, words_from}
+use Rattle.tmr_words.specs.WordsRead.{words_in, item_in}
+use Rattle.std.proofs.Common.{drop, ◌+◌}
+use Rattle.tmr_words.proofs.WordLaws.{behind, at_none, after_word, no_more_words}
+use Rattle.tmr_words.proofs.words.read_words.Goals as goal
+
+pub returns-in-None : goal.returns-in-None
+returns-in-None c = at_none c.loop-word.mode (words_in c.loop-word.read) c.loop-word.word-index c.args.words.now c.word-item.result c.as_str.result.now _ c.loop-word-test.true (c.as_str.ensures.value ∙ ap string_bytes c.word-item.is) c.loop-word.invariant c.in-None.ensures
+
+pub loop-word-preserved : goal.loop-word-preserved
+loop-word-preserved c =
+    ap (λ (w : Words). behind w (words_from c.in-Some.taken.next (texts (drop (c.loop-word.word-index + 1) c.args.words.now)))) c.in_ok-add-in-Some.ensures
+    ∙ after_word c.loop-word.mode (words_in c.loop-word.read) c.loop-word.word-index c.args.words.now c.word-item.result c.as_str.result.now _ c.loop-word-test.true (c.as_str.ensures.value ∙ ap string_bytes c.word-item.is) c.loop-word.invariant (item_in c.in-Some.taken.item) c.in-Some.taken.next c.in-Some.ensures
+
+pub returns : goal.returns
+returns c = c.ended.ensures ∙ no_more_words c.loop-word.mode (words_in c.loop-word.read) c.loop-word.word-index c.args.words.now _ c.loop-word-test.false c.loop-word.invariant

@@ -1,0 +1,6 @@
+pub mod Words
+pub mod WordsRead
+pub mod Trials
+pub mod TrialWords
+pub mod Line
+pub mod FileWords
