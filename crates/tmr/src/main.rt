@@ -1,6 +1,12 @@
 //! `tmr`: hardens BLIF netlists and checks that hardened ones mask upsets.
 #![tactic(auto)]
 
+ghost use Rattle.std.specs.Prelude.{◌≡◌, ◌≢◌};
+ghost use Rattle.std.specs.IoError.{error_kind};
+ghost use Rattle.std.specs.Process.{exit_status};
+ghost use Rattle.tmr_top.specs.Codes.{code_of};
+
+use std::io::ErrorKind;
 use std::process::ExitCode;
 use std::{env, io};
 use tmr_outside::{DiskFiles, StdSink};
@@ -16,12 +22,22 @@ fn words(rt: &HostRuntime) -> io::Result<Vec<String>> {
 }
 
 /// The status where the runtime gives no words.
-fn status_without_words(error: &io::Error) -> Status {
-    if error.kind() == io::ErrorKind::OutOfMemory {
+fn status_without_words(error: &io::Error) -> Status
+    ensures memory { error_kind error.now ≡ ErrorKind.OutOfMemory → result ≡ Status.Memory }
+    ensures other { error_kind error.now ≢ ErrorKind.OutOfMemory → result ≡ Status.Fault }
+{
+    if error.kind() == ErrorKind::OutOfMemory {
         Status::Memory
     } else {
         Status::Fault
     }
+}
+
+/// What the process ends with: the number of the status.
+fn exit_code(status: Status) -> ExitCode
+    ensures { exit_status result ≡ code_of status }
+{
+    ExitCode::from(status.code())
 }
 
 fn main(rt: HostRuntime) -> ExitCode {
@@ -33,5 +49,5 @@ fn main(rt: HostRuntime) -> ExitCode {
         }
         Err(error) => status_without_words(&error),
     };
-    ExitCode::from(status.code())
+    exit_code(status)
 }
