@@ -76,6 +76,7 @@ class Chip:
         self.bits = bits
         self.wires: dict[Segment, Wire] = {}
         self.patterns: dict[int, list[Pattern]] = {}
+        self.last: dict[Tile, tuple[int, int, list[list[str]]]] = {}
         self.column = {(x, y): (sx, sy) for sx, sy, x, y in bits.colbuf_db()}
         self.enable = {e[:3]: e[3:] for e in bits.ieren_db()}
 
@@ -94,6 +95,19 @@ class Chip:
         if id(entries) not in self.patterns:
             self.patterns[id(entries)] = [Pattern(mask(e[0], False), mask(e[0], True), e[1:]) for e in entries]
         return self.patterns[id(entries)]
+
+    def on(self, x: int, y: int, bits: int) -> tuple[int, list[list[str]]]:
+        """The bits of a tile that are known, and what is on. The last answer for each tile is kept: tests ask again."""
+        if (x, y) not in self.last or self.last[x, y][0] != bits:
+            known, found = 0, []
+            for ones, zeros, what in self.of(x, y) if bits else []:
+                if what[0].startswith("LC_"):
+                    known |= ones
+                elif bits & ones == ones and not bits & zeros and self.bits.tile_has_entry(x, y, [None] + what):
+                    known |= ones
+                    found.append(what)
+            self.last[x, y] = (bits, known, found)
+        return self.last[x, y][1:]
 
 
 def tiles_of(bits: Any) -> dict[Tile, list[str]]:
@@ -115,13 +129,9 @@ class Switches:
 
     def tile(self, x: int, y: int, bits: int) -> None:
         """Reads one tile."""
-        known = 0
-        for ones, zeros, what in self.chip.of(x, y) if bits else []:
-            if what[0].startswith("LC_"):
-                known |= ones
-            elif bits & ones == ones and not bits & zeros and self.bits.tile_has_entry(x, y, [None] + what):
-                known |= ones
-                self.on(x, y, what)
+        known, found = self.chip.on(x, y, bits)
+        for what in found:
+            self.on(x, y, what)
         rest = bits & ~known
         if rest:
             at = (rest & -rest).bit_length() - 1
