@@ -39,6 +39,8 @@ OWN = re.compile(r"(lutff_(\d)/out|lutff_\d/[lc]out|io_(\d)/D_IN_\d|ram/RDATA_\d
 OPTIONS = re.compile(r"ColBufCtrl|IOB_|IoCtrl\.(IE|REN)|NegClk|RamConfig")
 INPUT, OUTPUT, UNUSED = "000001", "011001", "000000"
 WIDTH = 64
+# Where the bits of the first logic cell's table stand: from column 36 on, tens are rows. Each cell has two rows.
+TABLE_BITS = (4, 14, 15, 5, 6, 16, 17, 7, 3, 13, 12, 2, 1, 11, 10, 0)
 
 
 class Pattern(NamedTuple):
@@ -53,6 +55,12 @@ class Wire(NamedTuple):
     name: Segment
     own: list[Segment]
     network: Optional[int]
+
+
+def place(where: str) -> tuple[int, int, int]:
+    """The tile and the number of a logic cell."""
+    x, y, k = (int(part.strip("XYlc")) for part in where.split("/"))
+    return x, y, k
 
 
 def mask(bits: list[str], negated: bool) -> int:
@@ -282,20 +290,23 @@ def fit(device: Device, placed: Device) -> None:
     """Takes pass-through cells for wiring. Outputs get the names of their ports, and each input port its net."""
     through = pass_through(device, placed)
 
-    def end(net: Optional[Net]) -> Optional[Net]:
+    def end(net: Net) -> Net:
         for _ in through:
             if net not in through:
                 break
             net = through[net]
         return net
 
+    def maybe(net: Optional[Net]) -> Optional[Net]:
+        return None if net is None else end(net)
+
     device.cells = [c for c in device.cells if c.where not in through]
     for c in device.cells:
-        c.pins = [end(p) for p in c.pins]
+        c.pins = [maybe(p) for p in c.pins]
         if c.register:
             r = c.register
-            c.register = r._replace(clock=end(r.clock), enable=end(r.enable), reset=end(r.reset))
-    device.outputs = {placed.pads.get(where, "pad " + where): end(net) for where, net in device.outputs.items()}
+            c.register = r._replace(clock=end(r.clock), enable=maybe(r.enable), reset=maybe(r.reset))
+    device.outputs = {placed.pads.get(where, "pad " + where): maybe(net) for where, net in device.outputs.items()}
     device.inputs = {port: where for where, port in placed.pads.items() if port in placed.inputs}
 
 
