@@ -39,6 +39,8 @@ OWN = re.compile(r"(lutff_(\d)/out|lutff_\d/[lc]out|io_(\d)/D_IN_\d|ram/RDATA_\d
 OPTIONS = re.compile(r"ColBufCtrl|IOB_|IoCtrl\.(IE|REN)|NegClk|RamConfig")
 INPUT, OUTPUT, UNUSED = "000001", "011001", "000000"
 WIDTH = 64
+# Where the bits of the first logic cell's table stand: from column 36 on, tens are rows. Each cell has two rows.
+TABLE_BITS = (4, 14, 15, 5, 6, 16, 17, 7, 3, 13, 12, 2, 1, 11, 10, 0)
 
 
 class Pattern(NamedTuple):
@@ -53,6 +55,12 @@ class Wire(NamedTuple):
     name: Segment
     own: list[Segment]
     network: Optional[int]
+
+
+def place(where: str) -> tuple[int, int, int]:
+    """The tile and the number of a logic cell."""
+    x, y, k = (int(part.strip("XYlc")) for part in where.split("/"))
+    return x, y, k
 
 
 def mask(bits: list[str], negated: bool) -> int:
@@ -76,6 +84,7 @@ class Chip:
         self.bits = bits
         self.wires: dict[Segment, Wire] = {}
         self.patterns: dict[int, list[Pattern]] = {}
+        self.last: dict[Tile, tuple[int, int, list[list[str]]]] = {}
         self.column = {(x, y): (sx, sy) for sx, sy, x, y in bits.colbuf_db()}
         self.enable = {e[:3]: e[3:] for e in bits.ieren_db()}
 
@@ -94,6 +103,19 @@ class Chip:
         if id(entries) not in self.patterns:
             self.patterns[id(entries)] = [Pattern(mask(e[0], False), mask(e[0], True), e[1:]) for e in entries]
         return self.patterns[id(entries)]
+
+    def on(self, x: int, y: int, bits: int) -> tuple[int, list[list[str]]]:
+        """The bits of a tile that are known, and what is on. The last answer for each tile is kept: tests ask again."""
+        if (x, y) not in self.last or self.last[x, y][0] != bits:
+            known, found = 0, []
+            for ones, zeros, what in self.of(x, y) if bits else []:
+                if what[0].startswith("LC_"):
+                    known |= ones
+                elif bits & ones == ones and not bits & zeros and self.bits.tile_has_entry(x, y, [None] + what):
+                    known |= ones
+                    found.append(what)
+            self.last[x, y] = (bits, known, found)
+        return self.last[x, y][1:]
 
 
 def tiles_of(bits: Any) -> dict[Tile, list[str]]:
@@ -115,13 +137,9 @@ class Switches:
 
     def tile(self, x: int, y: int, bits: int) -> None:
         """Reads one tile."""
-        known = 0
-        for ones, zeros, what in self.chip.of(x, y) if bits else []:
-            if what[0].startswith("LC_"):
-                known |= ones
-            elif bits & ones == ones and not bits & zeros and self.bits.tile_has_entry(x, y, [None] + what):
-                known |= ones
-                self.on(x, y, what)
+        known, found = self.chip.on(x, y, bits)
+        for what in found:
+            self.on(x, y, what)
         rest = bits & ~known
         if rest:
             at = (rest & -rest).bit_length() - 1
@@ -272,20 +290,23 @@ def fit(device: Device, placed: Device) -> None:
     """Takes pass-through cells for wiring. Outputs get the names of their ports, and each input port its net."""
     through = pass_through(device, placed)
 
-    def end(net: Optional[Net]) -> Optional[Net]:
+    def end(net: Net) -> Net:
         for _ in through:
             if net not in through:
                 break
             net = through[net]
         return net
 
+    def maybe(net: Optional[Net]) -> Optional[Net]:
+        return None if net is None else end(net)
+
     device.cells = [c for c in device.cells if c.where not in through]
     for c in device.cells:
-        c.pins = [end(p) for p in c.pins]
+        c.pins = [maybe(p) for p in c.pins]
         if c.register:
             r = c.register
-            c.register = r._replace(clock=end(r.clock), enable=end(r.enable), reset=end(r.reset))
-    device.outputs = {placed.pads.get(where, "pad " + where): end(net) for where, net in device.outputs.items()}
+            c.register = r._replace(clock=end(r.clock), enable=maybe(r.enable), reset=maybe(r.reset))
+    device.outputs = {placed.pads.get(where, "pad " + where): maybe(net) for where, net in device.outputs.items()}
     device.inputs = {port: where for where, port in placed.pads.items() if port in placed.inputs}
 
 

@@ -49,7 +49,7 @@ class Judge:
         if said.startswith("accepted"):
             return "accepted, " + ("the same netlist" if text == base else FOUND)
         said = re.sub(r"line \d+: ", "", re.sub(r"refused \S+: ", "refused: ", said))
-        return re.sub(r" at .*| \S*~\S*", "", said)
+        return re.sub(r" at .*| \S*~\S*| net\$\S*", "", said)
 
 
 class Edits:

@@ -16,13 +16,10 @@ import random
 import re
 from typing import Any, NamedTuple, Optional
 
-from bitstream_to_blif import WIDTH, Chip, Tile, fit, hints, load_bits, read_bits, tiles_of
+from bitstream_to_blif import TABLE_BITS, WIDTH, Chip, Tile, fit, hints, load_bits, place, read_bits, tiles_of
 from edits import Judge, show
 from netlist import Cell, Netlist, Unknown, load, program, write_back
 from placed_to_blif import read_placed
-
-# Where the bits of the first logic cell's table stand: from column 36 on, tens are rows. Each cell has two rows.
-TABLE_BITS = (4, 14, 15, 5, 6, 16, 17, 7, 3, 13, 12, 2, 1, 11, 10, 0)
 
 
 class Bit(NamedTuple):
@@ -32,12 +29,6 @@ class Bit(NamedTuple):
     column: int
     cell: Optional[str] = None
     value: int = 0
-
-
-def place(where: str) -> tuple[int, int, int]:
-    """The tile and the number of a logic cell."""
-    x, y, k = (int(part.strip("XYlc")) for part in where.split("/"))
-    return x, y, k
 
 
 def table_bits(live: dict[str, Cell]) -> list[Bit]:

@@ -22,7 +22,7 @@ import collections
 import itertools
 import re
 import sys
-from typing import Callable, Iterable, NamedTuple, NoReturn, Optional, Union
+from typing import Any, Callable, Iterable, NamedTuple, NoReturn, Optional, Union
 
 Net = Union[int, str]
 
@@ -49,7 +49,10 @@ class Netlist:
     """A flat BLIF netlist with one model."""
 
     def __init__(self, text: str):
-        self.model, self.inputs, self.outputs, self.order = "", [], [], []
+        self.model = ""
+        self.inputs: list[str] = []
+        self.outputs: list[str] = []
+        self.order: list[str] = []
         self.tables: dict[str, Table] = {}
         self.registers: dict[str, Latch] = {}
         self._read(text)
@@ -80,7 +83,7 @@ class Netlist:
             self.tables[words[-1]] = Table(words[1:-1], rows)
             self.order.append(words[-1])
         elif words[0] == ".latch":
-            edge, clock = words[3:5] if len(words) > 4 else ("re", None)
+            edge, clock = (words[3], words[4]) if len(words) > 4 else ("re", None)
             self.registers[words[2]] = Latch(words[1], edge, clock, words[-1] if len(words) in (4, 6) else "3")
             self.order.append(words[2])
         else:
@@ -210,7 +213,7 @@ class Device:
         self.inputs: dict[str, Net] = {}
         self.outputs: dict[str, Optional[Net]] = {}
         self.pads: dict[str, str] = {}
-        self.wires: dict[tuple, set[tuple]] = {}
+        self.wires: dict[tuple[int, int, str], set[tuple[str, Any]]] = {}
 
 
 class Walk:
@@ -224,13 +227,14 @@ class Walk:
         read = [hard.root(x) for y in hard.order if y not in hard.buffers for x in hard.sources(y)]
         counts = collections.Counter(read + [hard.root(x) for x in hard.outputs])
         self.once = {x for x, n in counts.items() if n == 1}
-        ports = list(device.inputs.items()) + list(device.outputs.items())
-        self.todo = collections.deque((net, port) for port, net in ports)
+        self.todo: collections.deque[tuple[Optional[Net], str]] = collections.deque()
+        self.todo.extend((net, port) for port, net in device.inputs.items())
+        self.todo.extend((net, port) for port, net in device.outputs.items())
 
     def run(self) -> dict[Net, str]:
         while self.todo:
             net, name = self.todo.popleft()
-            cell = self.drivers.get(net)
+            cell = self.drivers.get(net) if net is not None else None
             if cell is None or cell.register or cell.passes() is None:
                 name = self.hard.root(name)
             if net is None or net in self.names or name in self.taken or name in self.hard.constant:
@@ -320,17 +324,18 @@ class Writer:
 
     def data(self, name: str, cell: Cell) -> str:
         """What a register reads. A table before it in its cell is written."""
-        hint = self.hard.registers[name].d if name in self.hard.registers else None
-        end = self.root(hint) if hint is not None else None
-        passed = cell.passes()
-        if passed is not None and (end == self.of(passed) or end in self.taken):
-            return hint if end == self.of(passed) else self.of(passed)
+        latch, passed = self.hard.registers.get(name), cell.passes()
+        end = self.root(latch.d) if latch else self.fresh(name + "$d")
+        d = latch.d if latch else end
+        if latch and passed is not None and (end == self.of(passed) or end in self.taken):
+            return d if end == self.of(passed) else self.of(passed)
         if end in self.hard.constant and self.hard.constant[end] == cell.constant():
-            return hint
-        inner = self.fresh(name + "$d") if end is None or end in self.taken else end
-        self.taken.add(inner)
-        self.put_table(inner, cell)
-        return hint if inner == end else inner
+            return d
+        if latch and end in self.taken:
+            end = d = self.fresh(name + "$d")
+        self.taken.add(end)
+        self.put_table(end, cell)
+        return d
 
     def gated(self, name: str, d: str, register: Register) -> str:
         """What a register with enable or reset takes in the next cycle, as a table before it."""
@@ -424,7 +429,7 @@ def load(path: str) -> str:
         return file.read()
 
 
-def program(doc: Optional[str], least: int, most: int, body: Callable[[list[str]], object]) -> NoReturn:
+def program(doc: Optional[str], least: int, most: int, body: Callable[[list[str]], Optional[int]]) -> NoReturn:
     """Runs a script: its text of use for a wrong number of words, and status 2 with a word for what is not known."""
     words = sys.argv[1:]
     if not least <= len(words) <= most:

@@ -17,8 +17,7 @@ import collections
 import re
 from typing import Any, Iterable
 
-from bitstream_to_blif import WIDTH, Chip, Segment, Sink, fit, hints, load_bits, read_bits
-from flips import TABLE_BITS, place
+from bitstream_to_blif import TABLE_BITS, WIDTH, Chip, Segment, Sink, fit, hints, load_bits, place, read_bits
 from netlist import Cell, Copies, Device, Net, Netlist, Unknown, load, program
 from placed_to_blif import read_placed
 
@@ -209,7 +208,9 @@ class Count:
 
     def lines(self) -> list[str]:
         """The numbers of bits of each kind, and what those are that strike several copies."""
-        total, many, which = collections.Counter(), collections.Counter(), collections.Counter()
+        total: collections.Counter[str] = collections.Counter()
+        many: collections.Counter[str] = collections.Counter()
+        which: collections.Counter[tuple[str, str]] = collections.Counter()
         for key, struck in self.struck.items():
             if struck:
                 total[self.kinds[key]] += 1
