@@ -10,7 +10,7 @@ use Rattle.tmr_words.specs.Words.{Words, has_no_options, words_of}
 use Rattle.tmr_words.specs.Trials.{Trial, trial_of}
 use Rattle.tmr_words.specs.declared.topic.Topic.{Topic}
 use Rattle.tmr_words.specs.Topics.{help_of}
-use Rattle.tmr_words.specs.Line.{Command, Pair, Hardening, Flattening, Guarding, Graphing, GraphReading, Validate, Harden, Flatten, Report, Guard, CheckGuard, WriteGraph, ReadGraph, TryOut, Help, Version, is_file, said, positive_number, version_number, form_named, pair_of, over_pair, over_trial, over_help, version_of, flattening_of, guarding_of, over_guarding, graphing_of, graph_reading_of, replay_over, replaying_of, waving_of, hardening_with, hardening_as, hardening_of, of_words, of_plain, line_of}
+use Rattle.tmr_words.specs.Line.{Command, Pair, Hardening, Flattening, Guarding, Graphing, GraphReading, Validate, Harden, Flatten, Report, Guard, CheckGuard, WriteGraph, ReadGraph, TryOut, Help, is_file, said, positive_number, version_number, form_named, pair_of, over_pair, over_trial, over_help, version_of, flattening_of, guarding_of, over_guarding, graphing_of, graph_reading_of, replay_over, replaying_of, waving_of, hardening_with, hardening_as, hardening_of, of_words, of_plain, line_of}
 
 pub all_said : (form : Form) (words : Words) (size version most : ℕ) → said positive_number 64 words.sizes ≡ Some size → said version_number 1 words.versions ≡ Some version → said positive_number 4294967295 words.depths ≡ Some most → hardening_as form words ≡ hardening_with form size version most words.plain
 unfolding hardening_as

@@ -1,6 +1,5 @@
 //! What `help` can tell of.
 ghost use Rattle.std.specs.Prelude.{◌≡◌};
-ghost use Rattle.std.specs.Option.{option_map};
 ghost use Rattle.tmr_words.specs.Topics.{topic_of, help_of};
 ghost use Rattle.tmr_words.specs.FileWords.{read_words as read_texts};
 
