@@ -1,4 +1,5 @@
 pub mod Texts
+pub mod Help
 pub mod Reasons
 pub mod FormText
 pub mod ReplayText

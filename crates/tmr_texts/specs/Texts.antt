@@ -97,6 +97,8 @@ usage_text = joined (
     ∷ codes "       tmr to-aag ORIG AAG\n"
     ∷ codes "       tmr from-aag AAG FLAT\n"
     ∷ codes "       tmr wave ORIG HARD CERT SCHED VCD\n"
+    ∷ codes "       tmr help [COMMAND]\n"
+    ∷ codes "       tmr version\n"
     ∷ [])
 
 unfoldable pub memory_text : List ℕ

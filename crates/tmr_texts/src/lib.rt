@@ -4,11 +4,13 @@
 #![tactic(auto)]
 
 mod form_text;
+mod help;
 mod reasons;
 mod replay_text;
 mod texts;
 
 pub use form_text::{FormNumbers, form_lines, hardened_lines};
+pub use help::{help_text, version_text};
 pub use reasons::{aag_reason, bad_line, cert_reason, flat_reason, schedule_reason};
 pub use replay_text::{output_name, replay_lines};
 pub use texts::{

@@ -18,7 +18,7 @@ use validator::Refusal;
 pub fn usage() -> &'static str
     ensures { result.now ≡ usage_text }
 {
-    "usage: tmr validate ORIG HARD CERT\n       tmr harden ORIG HARD CERT [--size S] [--cert V] [--depth D] [--form F]\n       tmr flatten ORIG FLAT\n       tmr replay ORIG HARD CERT SCHED\n       tmr report ORIG HARD CERT\n       tmr trial NUMBER NODES\n       tmr guard ORIG GUARDED\n       tmr guarded ORIG GUARDED\n       tmr to-aag ORIG AAG\n       tmr from-aag AAG FLAT\n       tmr wave ORIG HARD CERT SCHED VCD\n"
+    "usage: tmr validate ORIG HARD CERT\n       tmr harden ORIG HARD CERT [--size S] [--cert V] [--depth D] [--form F]\n       tmr flatten ORIG FLAT\n       tmr replay ORIG HARD CERT SCHED\n       tmr report ORIG HARD CERT\n       tmr trial NUMBER NODES\n       tmr guard ORIG GUARDED\n       tmr guarded ORIG GUARDED\n       tmr to-aag ORIG AAG\n       tmr from-aag AAG FLAT\n       tmr wave ORIG HARD CERT SCHED VCD\n       tmr help [COMMAND]\n       tmr version\n"
 }
 
 /// What is put where there was no memory.

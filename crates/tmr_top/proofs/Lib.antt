@@ -15,6 +15,7 @@ pub mod PerformLaws
 pub mod RunLaws
 pub mod TrialVerdicts
 pub mod TrialLaws
+pub mod HelpLaws
 pub mod OutcomeLaws
 pub mod RunClauses
 pub mod LeaveLaws

@@ -4,7 +4,7 @@ use Rattle.std.specs.FinMap.{get}
 use Rattle.tmr_outside.specs.Contents.{Contents}
 use Rattle.tmr_top.specs.declared.decision.Verdict.{Verdict}
 use Rattle.tmr_top.specs.declared.decision.Verdict.TheVariants.{Done, NotAccepted, Refused}
-use Rattle.tmr_words.specs.Line.{Command, Pair, Hardening, Flattening, Replaying, Guarding, Graphing, Validate, Harden, Flatten, Replay, Report, Guard, CheckGuard, WriteGraph, ReadGraph, TryOut}
+use Rattle.tmr_words.specs.Line.{Command, Pair, Hardening, Flattening, Replaying, Guarding, Graphing, Validate, Harden, Flatten, Replay, Report, Guard, CheckGuard, WriteGraph, ReadGraph, TryOut, Help, Version}
 use Rattle.tmr_top.specs.Loads.{original_file, hardened_file}
 use Rattle.tmr_top.specs.Pairs.{ReadPair, Accepts}
 use Rattle.tmr_top.specs.Replayed.{Replayed, ReadFiles, IsReplayDenied, IsReplayRefused, is_too_large}
@@ -25,6 +25,8 @@ use Rattle.certificate.specs.Starts.{counted}
 use Rattle.tmr_top.proofs.PairLaws.{one_pair, unread_pair, agrees}
 use Rattle.tmr_top.proofs.GraphReadLaws.{one_graph_read}
 use Rattle.tmr_top.proofs.TrialVerdicts.{one_tried}
+use Rattle.tmr_texts.specs.Help.{help_text, version_text}
+use Rattle.tmr_top.proofs.HelpLaws.{one_told}
 
 one_validated : (p : Pair) (held : Contents) (v w : Verdict) (s t : List (List ℕ)) (x y : List ℕ) → Validated p held v s x → Validated p held w t y → v ≡ w
 one_validated p held Done Done s t x y one other = refl
@@ -177,5 +179,7 @@ one_verdict (Report p) held v w s t x y one other = one_reported p held v w s t 
 one_verdict (Guard g) held v w s t x y one other = one_guarded g held v w s t x y one other
 one_verdict (CheckGuard g) held v w s t x y one other = one_checked g held v w s t x y one other
 one_verdict (TryOut q) held v w s t x y one other = one_tried q v w s t x y one other
+one_verdict (Help topic) held v w s t x y one other = one_told (help_text topic) v w s t x y one other
+one_verdict Version held v w s t x y one other = one_told version_text v w s t x y one other
 one_verdict (WriteGraph g) held v w s t x y one other = one_graphed g held v w s t x y one other
 one_verdict (ReadGraph g) held v w s t x y one other = one_graph_read g held v w s t x y one other

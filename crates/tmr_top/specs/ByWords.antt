@@ -1,6 +1,6 @@
 -- What rests on the words alone, whatever files tell.
 use Rattle.std.specs.Prelude.{Bool, true, false}
-use Rattle.tmr_words.specs.Line.{Command, Validate, Harden, Flatten, Replay, Report, Guard, CheckGuard, WriteGraph, ReadGraph, TryOut}
+use Rattle.tmr_words.specs.Line.{Command, Validate, Harden, Flatten, Replay, Report, Guard, CheckGuard, WriteGraph, ReadGraph, TryOut, Help, Version}
 
 -- the command compares what files hold, and so may find that they do not agree
 abbrev pub compares : Command → Bool
@@ -14,3 +14,5 @@ compares (CheckGuard w) = true
 compares (WriteGraph w) = false
 compares (ReadGraph w) = false
 compares (TryOut t) = false
+compares (Help topic) = false
+compares Version = false

@@ -20,6 +20,7 @@ pub mod GraphRead
 pub mod GraphCounted
 pub mod Tried
 pub mod Trying
+pub mod Told
 pub mod Outcomes
 pub mod ByWords
 pub mod Causes

@@ -2,7 +2,7 @@
 use Rattle.std.specs.Prelude.{ℕ, List, [], ◌∷◌, ◌++◌, map, Option, Some, None}
 use Rattle.tmr_top.specs.declared.file_words.FileKind.{FileKind}
 use Rattle.tmr_top.specs.declared.file_words.FileKind.TheVariants.{Netlist, Bytes}
-use Rattle.tmr_words.specs.Line.{Command, Pair, Replaying, Validate, Harden, Flatten, Replay, Report, Guard, CheckGuard, WriteGraph, ReadGraph, TryOut}
+use Rattle.tmr_words.specs.Line.{Command, Pair, Replaying, Validate, Harden, Flatten, Replay, Report, Guard, CheckGuard, WriteGraph, ReadGraph, TryOut, Help, Version}
 
 -- a file to be loaded, and the most bytes that it may have; a netlist is read while it is loaded, and of other files the bytes are kept
 pub record Load : Type 0 where
@@ -55,6 +55,8 @@ loads_of (CheckGuard w) = original_file w.original ∷ hardened_file w.guarded �
 loads_of (WriteGraph w) = original_file w.original ∷ []
 loads_of (ReadGraph w) = graph_file w.graph ∷ []
 loads_of (TryOut t) = []
+loads_of (Help topic) = []
+loads_of Version = []
 
 -- the names that a command saves, in this order
 abbrev pub saves_of : Command → List (List ℕ)
@@ -68,6 +70,8 @@ saves_of (CheckGuard w) = []
 saves_of (WriteGraph w) = w.graph ∷ []
 saves_of (ReadGraph w) = w.flat ∷ []
 saves_of (TryOut t) = []
+saves_of (Help topic) = []
+saves_of Version = []
 
 abbrev pub load_name : Load → List ℕ
 load_name load = load.name

@@ -2,7 +2,7 @@
 use Rattle.std.specs.Prelude.{ℕ, List}
 use Rattle.tmr_outside.specs.Contents.{Contents}
 use Rattle.tmr_top.specs.declared.decision.Verdict.{Verdict}
-use Rattle.tmr_words.specs.Line.{Command, Validate, Harden, Flatten, Replay, Report, Guard, CheckGuard, WriteGraph, ReadGraph, TryOut}
+use Rattle.tmr_words.specs.Line.{Command, Validate, Harden, Flatten, Replay, Report, Guard, CheckGuard, WriteGraph, ReadGraph, TryOut, Help, Version}
 use Rattle.tmr_top.specs.Validated.{Validated}
 use Rattle.tmr_top.specs.Hardened.{Hardened}
 use Rattle.tmr_top.specs.Flattened.{Flattened}
@@ -12,6 +12,7 @@ use Rattle.tmr_top.specs.Guarded.{Guarded, GuardChecked}
 use Rattle.tmr_top.specs.Graphed.{Graphed}
 use Rattle.tmr_top.specs.GraphRead.{GraphRead}
 use Rattle.tmr_top.specs.Tried.{Tried}
+use Rattle.tmr_top.specs.Told.{IsHelped, IsVersion}
 
 -- The contents at entry, where every file to be loaded is there and is not too long, the status that is decided before the put, the
 -- texts to be saved, in the order of the names to be saved, and the text to be printed. Where the status is not Done nothing is saved.
@@ -26,3 +27,5 @@ Outcome (CheckGuard w) held verdict saved text = GuardChecked w held verdict sav
 Outcome (WriteGraph w) held verdict saved text = Graphed w held verdict saved text
 Outcome (ReadGraph w) held verdict saved text = GraphRead w held verdict saved text
 Outcome (TryOut t) held verdict saved text = Tried t verdict saved text
+Outcome (Help topic) held verdict saved text = IsHelped topic verdict saved text
+Outcome Version held verdict saved text = IsVersion verdict saved text

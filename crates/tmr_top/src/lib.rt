@@ -10,6 +10,7 @@ mod flattening;
 mod graph_reading;
 mod graphing;
 mod hardening;
+mod helping;
 mod loads;
 mod pair_task;
 mod performing;

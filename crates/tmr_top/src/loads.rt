@@ -148,7 +148,7 @@ pub fn list_loads<'a>(
         }
         CommandWords::WriteGraph(graph) => loads.push(original_file(graph.original))?,
         CommandWords::ReadGraph(graph) => loads.push(graph_file(graph.graph))?,
-        CommandWords::Trial(_) => {}
+        CommandWords::Trial(_) | CommandWords::Help(_) | CommandWords::Version => {}
     }
     Ok(loads)
 }

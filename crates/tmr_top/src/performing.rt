@@ -23,6 +23,7 @@ use crate::flattening::flatten;
 use crate::graph_reading::read_graph_file;
 use crate::graphing::graph_file;
 use crate::hardening::harden;
+use crate::helping::{help, version};
 use crate::loads::{Loaded, list_loads, load_all};
 use crate::pair_task::PairTask;
 use crate::saves::{SaveStop, list_saves, save_all};
@@ -55,6 +56,8 @@ fn work(alloc: Global, words: &CommandWords, loaded: &mut [Loaded]) -> Result<Wo
         CommandWords::WriteGraph(words) => graph_file(alloc, words, loaded),
         CommandWords::ReadGraph(words) => read_graph_file(alloc, words, loaded),
         CommandWords::Trial(trial) => try_out(alloc, trial),
+        CommandWords::Help(topic) => help(alloc, *topic),
+        CommandWords::Version => version(alloc),
     }
 }
 

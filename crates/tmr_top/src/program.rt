@@ -122,9 +122,9 @@ fn decide_and_put<F: Files, S: Sink>(
 /// Runs the program once: reads the words (without the program's own name), loads the files, does
 /// the command, saves its texts, and puts its text.
 ///
-/// Five commands save nothing: `validate ORIG HARD CERT`, `report ORIG HARD CERT`,
-/// `replay ORIG HARD CERT SCHED`, `guarded ORIG GUARDED` and `trial NUMBER NODES`. The others save
-/// what they make: `harden ORIG HARD CERT` saves HARD and CERT, `flatten ORIG FLAT` saves FLAT,
+/// Seven commands save nothing: `validate ORIG HARD CERT`, `report ORIG HARD CERT`,
+/// `replay ORIG HARD CERT SCHED`, `guarded ORIG GUARDED`, `trial NUMBER NODES`, `help [COMMAND]` and
+/// `version`. The others save what they make: `harden ORIG HARD CERT` saves HARD and CERT, `flatten ORIG FLAT` saves FLAT,
 /// `guard ORIG GUARDED` saves GUARDED, `to-aag ORIG AAG` saves AAG, `from-aag AAG FLAT` saves FLAT,
 /// and `wave ORIG HARD CERT SCHED VCD` saves VCD.
 /// Where memory is short, the answer may be `Memory` in place of any other.

@@ -50,7 +50,7 @@ pub fn list_saves<'a>(alloc: Global, words: &CommandWords<'a>) -> Result<Vec<&'a
         CommandWords::CheckGuard(_) => {}
         CommandWords::WriteGraph(graph) => names.push(graph.graph)?,
         CommandWords::ReadGraph(graph) => names.push(graph.flat)?,
-        CommandWords::Trial(_) => {}
+        CommandWords::Trial(_) | CommandWords::Help(_) | CommandWords::Version => {}
     }
     Ok(names)
 }

@@ -8,7 +8,9 @@ use Rattle.triplicate.specs.declared.form.Form.{Form}
 use Rattle.triplicate.specs.declared.form.Form.TheVariants.{Plain}
 use Rattle.tmr_words.specs.Words.{Words, has_no_options, words_of}
 use Rattle.tmr_words.specs.Trials.{Trial, trial_of}
-use Rattle.tmr_words.specs.Line.{Command, Pair, Hardening, Flattening, Guarding, Graphing, GraphReading, Validate, Harden, Flatten, Report, Guard, CheckGuard, WriteGraph, ReadGraph, TryOut, is_file, said, positive_number, version_number, form_named, pair_of, over_pair, over_trial, flattening_of, guarding_of, over_guarding, graphing_of, graph_reading_of, replay_over, replaying_of, waving_of, hardening_with, hardening_as, hardening_of, of_words, of_plain, line_of}
+use Rattle.tmr_words.specs.declared.topic.Topic.{Topic}
+use Rattle.tmr_words.specs.Topics.{help_of}
+use Rattle.tmr_words.specs.Line.{Command, Pair, Hardening, Flattening, Guarding, Graphing, GraphReading, Validate, Harden, Flatten, Report, Guard, CheckGuard, WriteGraph, ReadGraph, TryOut, Help, is_file, said, positive_number, version_number, form_named, pair_of, over_pair, over_trial, over_help, version_of, flattening_of, guarding_of, over_guarding, graphing_of, graph_reading_of, replay_over, replaying_of, waving_of, hardening_with, hardening_as, hardening_of, of_words, of_plain, line_of}
 
 pub all_said : (form : Form) (words : Words) (size version most : ℕ) → said positive_number 64 words.sizes ≡ Some size → said version_number 1 words.versions ≡ Some version → said positive_number 4294967295 words.depths ≡ Some most → hardening_as form words ≡ hardening_with form size version most words.plain
 unfolding hardening_as
@@ -84,6 +86,17 @@ trial_has words = go (trial_of words)
     go : (o : Option Trial) → HasTwoNames (option_map TryOut o)
     go None = none_has
     go (Some t) = λ w is. absurd cc
+
+help_has : (words : List (List ℕ)) → HasTwoNames (over_help words)
+help_has words = go (help_of words)
+  where
+    go : (o : Option (Option Topic)) → HasTwoNames (option_map Help o)
+    go None = none_has
+    go (Some topic) = λ w is. absurd cc
+
+version_has : (words : List (List ℕ)) → HasTwoNames (version_of words)
+version_has [] = λ w is. absurd cc
+version_has (word ∷ words) = none_has
 
 flattening_has : (words : List (List ℕ)) → HasTwoNames (flattening_of words)
 unfolding flattening_of
@@ -186,4 +199,6 @@ two_names (command ∷ words) =
     (choice_has (bytes_eq command (codes "guarded")) _ _ (plain_has (over_guarding CheckGuard) guarded_has (words_of words))
     (choice_has (bytes_eq command (codes "to-aag")) _ _ (plain_has graphing_of graphing_has (words_of words))
     (choice_has (bytes_eq command (codes "from-aag")) _ _ (plain_has graph_reading_of graph_reading_has (words_of words))
-    (choice_has (bytes_eq command (codes "wave")) _ _ (plain_has waving_of waving_has (words_of words)) none_has))))))))))
+    (choice_has (bytes_eq command (codes "wave")) _ _ (plain_has waving_of waving_has (words_of words))
+    (choice_has (bytes_eq command (codes "help")) _ _ (plain_has over_help help_has (words_of words))
+    (choice_has (bytes_eq command (codes "version")) _ _ (plain_has version_of version_has (words_of words)) none_has))))))))))))

@@ -12,7 +12,7 @@ use Rattle.tmr_words.specs.declared.line.GraphWords.{GraphWords}
 use Rattle.tmr_words.specs.declared.line.GraphReadWords.{GraphReadWords}
 use Rattle.tmr_words.specs.declared.line.CommandWords.{CommandWords}
 use Rattle.tmr_words.specs.declared.line.CommandWords.TheVariants as words
-use Rattle.tmr_words.specs.Line.{Pair, Hardening, Flattening, Replaying, Guarding, Graphing, GraphReading, Command, Validate, Harden, Flatten, Replay, Report, Guard, CheckGuard, WriteGraph, ReadGraph, TryOut}
+use Rattle.tmr_words.specs.Line.{Pair, Hardening, Flattening, Replaying, Guarding, Graphing, GraphReading, Command, Validate, Harden, Flatten, Replay, Report, Guard, CheckGuard, WriteGraph, ReadGraph, TryOut, Help, Version}
 use Rattle.tmr_words.specs.TrialWords.{trial_in}
 
 abbrev pub pair_in : PairWords → Pair
@@ -58,6 +58,8 @@ command_in (words.CheckGuard guard) = CheckGuard (guarding_in guard)
 command_in (words.WriteGraph graph) = WriteGraph (graphing_in graph)
 command_in (words.ReadGraph graph) = ReadGraph (graph_reading_in graph)
 command_in (words.Trial trial) = TryOut (trial_in trial)
+command_in (words.Help topic) = Help topic
+command_in words.Version = Version
 
 -- words without where they lie in memory
 abbrev pub read_words : List (Bor (List ℕ)) → List (List ℕ)

@@ -8,6 +8,8 @@ use Rattle.triplicate.specs.declared.form.Form.{Form}
 use Rattle.triplicate.specs.declared.form.Form.TheVariants.{Plain, Lean}
 use Rattle.tmr_words.specs.Words.{texts, Words, has_no_options, words_of}
 use Rattle.tmr_words.specs.Trials.{Trial, trial_of}
+use Rattle.tmr_words.specs.declared.topic.Topic.{Topic}
+use Rattle.tmr_words.specs.Topics.{help_of}
 
 -- the three files of `validate ORIG HARD CERT` and of `report ORIG HARD CERT`
 pub record Pair : Type 0 where
@@ -51,7 +53,7 @@ pub record GraphReading : Type 0 where
   pub graph : List ℕ
   pub flat : List ℕ
 
--- what the words of a command line can mean
+-- what the words of a command line can mean; `help` without a word has no topic
 pub data Command : Type 0 where
   Validate : Pair → Command
   Harden : Hardening → Command
@@ -63,6 +65,8 @@ pub data Command : Type 0 where
   CheckGuard : Guarding → Command
   WriteGraph : Graphing → Command
   ReadGraph : GraphReading → Command
+  Help : Option Topic → Command
+  Version : Command
 
 -- a file word is not empty
 abbrev pub is_file : List ℕ → Bool
@@ -81,6 +85,14 @@ over_pair command words = option_map command (pair_of words)
 
 abbrev pub over_trial : List (List ℕ) → Option Command
 over_trial words = option_map TryOut (trial_of words)
+
+abbrev pub over_help : List (List ℕ) → Option Command
+over_help words = option_map Help (help_of words)
+
+-- `version` has no words
+abbrev pub version_of : List (List ℕ) → Option Command
+version_of [] = Some Version
+version_of (word ∷ words) = None
 
 unfoldable pub flattening_of : List (List ℕ) → Option Command
 flattening_of (original ∷ flat ∷ []) =
@@ -185,6 +197,8 @@ line_of (command ∷ words) =
     else if bytes_eq command (codes "to-aag") then of_plain graphing_of (words_of words)
     else if bytes_eq command (codes "from-aag") then of_plain graph_reading_of (words_of words)
     else if bytes_eq command (codes "wave") then of_plain waving_of (words_of words)
+    else if bytes_eq command (codes "help") then of_plain over_help (words_of words)
+    else if bytes_eq command (codes "version") then of_plain version_of (words_of words)
     else None
 
 -- what the words of a command line mean

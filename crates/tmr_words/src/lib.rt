@@ -7,6 +7,7 @@
 mod harden_words;
 mod line;
 mod replay_words;
+mod topic;
 mod trial_line;
 mod trial_words;
 mod words;
@@ -16,4 +17,5 @@ pub use line::{
     CommandWords, FlatWords, GraphReadWords, GraphWords, GuardWords, PairWords, read_line,
 };
 pub use replay_words::ReplayWords;
+pub use topic::Topic;
 pub use trial_words::TrialWords;

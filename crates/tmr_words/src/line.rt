@@ -3,11 +3,12 @@ ghost use Rattle.std.specs.Prelude.{◌≡◌, ◌<◌, ◌∷◌, [], IfOk, IfS
 ghost use Rattle.std.specs.Option.{option_map};
 ghost use Rattle.tmr_words.specs.Words.{texts};
 ghost use Rattle.tmr_words.specs.WordsRead.{words_in};
-ghost use Rattle.tmr_words.specs.Line.{Validate, Report, Guard, CheckGuard, is_file, pair_of, over_pair, over_trial, flattening_of, guarding_of, over_guarding, graphing_of, graph_reading_of, replay_over, replaying_of, waving_of, positive_number, version_number, form_named, said, hardening_with, hardening_as, hardening_of, line_of};
+ghost use Rattle.tmr_words.specs.Line.{Validate, Report, Guard, CheckGuard, is_file, pair_of, over_pair, over_trial, over_help, version_of, flattening_of, guarding_of, over_guarding, graphing_of, graph_reading_of, replay_over, replaying_of, waving_of, positive_number, version_number, form_named, said, hardening_with, hardening_as, hardening_of, line_of};
 ghost use Rattle.tmr_words.specs.FileWords.{pair_in, word_in, guarding_in, command_in, read_words as read_texts};
 
 use crate::harden_words::HardenWords;
 use crate::replay_words::ReplayWords;
+use crate::topic::{Topic, read_help_words};
 use crate::trial_line::read_trial_words;
 use crate::trial_words::TrialWords;
 use crate::words::{ReadWords, is_plain, read_words};
@@ -65,6 +66,8 @@ pub enum CommandWords<'a> {
     CheckGuard(GuardWords<'a>),
     WriteGraph(GraphWords<'a>),
     ReadGraph(GraphReadWords<'a>),
+    Help(Option<Topic>),
+    Version,
 }
 
 /// A pair of these files, where none is empty.
@@ -124,6 +127,26 @@ fn read_trial<'a>(plain: &[&'a str]) -> Option<CommandWords<'a>>
     match read_trial_words(plain) {
         None => None,
         Some(trial) => Some(CommandWords::Trial(trial)),
+    }
+}
+
+/// `help`, where no word or the name of a command stands behind it.
+fn read_help<'a>(plain: &[&'a str]) -> Option<CommandWords<'a>>
+    ensures { option_map command_in result ≡ over_help (read_texts plain.now) }
+{
+    match read_help_words(plain) {
+        None => None,
+        Some(topic) => Some(CommandWords::Help(topic)),
+    }
+}
+
+/// `version`, where no word stands behind it.
+fn read_version_line<'a>(plain: &[&'a str]) -> Option<CommandWords<'a>>
+    ensures { option_map command_in result ≡ version_of (read_texts plain.now) }
+{
+    match plain {
+        [] => Some(CommandWords::Version),
+        _ => None,
     }
 }
 
@@ -468,6 +491,12 @@ pub fn read_line<'a>(
     }
     if command.as_str() == "wave" {
         return Ok(read_waving(read.plain.as_slice()));
+    }
+    if command.as_str() == "help" {
+        return Ok(read_help(read.plain.as_slice()));
+    }
+    if command.as_str() == "version" {
+        return Ok(read_version_line(read.plain.as_slice()));
     }
     Ok(None)
 }
