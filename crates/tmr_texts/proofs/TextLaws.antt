@@ -4,7 +4,10 @@ use Rattle.std.specs.Borrow.{Bor}
 use Rattle.std.specs.Fmt.{decimal}
 use Rattle.std.proofs.lemmas.List.{nil_from_length, length-drop, append-nil}
 use Rattle.tmr_words.specs.FileWords.{read_words}
-use Rattle.tmr_texts.specs.Texts.{joined, greatest}
+use Rattle.std.specs.Prelude.{codes}
+use Rattle.tmr_words.specs.declared.topic.Topic.{Topic}
+use Rattle.tmr_words.specs.Topics.{call_of}
+use Rattle.tmr_texts.specs.Texts.{joined, greatest, usage_lines}
 use Rattle.tmr_texts.specs.Reasons.{spaced}
 
 next : {A : Type 0} (i : ℕ) (xs : List A) (d : A) → i < length xs → drop i xs ≡ get_or xs i d ∷ drop (i + 1) xs
@@ -64,3 +67,18 @@ all_numbers_spaced text numbers i whole h e =
     sym (append-nil text) ∙ (ap (λ (ns : List ℕ). text ++ spaced (map decimal ns)) (sym none) ∙ e)
 
 pub ruleset spaced_numbers = (number_spaced, all_numbers_spaced)
+
+-- one command more
+pub call_put : (text head : List ℕ) (commands : List Topic) (i : ℕ) (d : Topic) (whole : List ℕ) → i < length commands → text ++ usage_lines head (drop i commands) ≡ whole → (text ++ (head ++ (call_of (get_or commands i d) ++ codes "\n"))) ++ usage_lines (codes "       tmr ") (drop (i + 1) commands) ≡ whole
+call_put text head commands i d whole h e =
+    append_assoc text (head ++ (call_of (get_or commands i d) ++ codes "\n")) (usage_lines (codes "       tmr ") (drop (i + 1) commands))
+    ∙ (ap (λ (t : List ℕ). text ++ t) (append_assoc head (call_of (get_or commands i d) ++ codes "\n") (usage_lines (codes "       tmr ") (drop (i + 1) commands))
+    ∙ ap (λ (t : List ℕ). head ++ t) (append_assoc (call_of (get_or commands i d)) (codes "\n") (usage_lines (codes "       tmr ") (drop (i + 1) commands))))
+    ∙ (ap (λ (cs : List Topic). text ++ usage_lines head cs) (sym (next i commands d h)) ∙ e))
+
+pub all_put : (text head : List ℕ) (commands : List Topic) (i : ℕ) (whole : List ℕ) → length commands ≤ i → text ++ usage_lines head (drop i commands) ≡ whole → text ≡ whole
+all_put text head commands i whole h e =
+    let none : drop i commands ≡ [] = nil_from_length (drop i commands) (omega (arith, length-drop i commands)) in
+    sym (append-nil text) ∙ (ap (λ (cs : List Topic). text ++ usage_lines head cs) (sym none) ∙ e)
+
+pub ruleset calls = (call_put, all_put)

@@ -2,6 +2,7 @@
 use Rattle.std.specs.Prelude.{ℕ, List, [], ◌∷◌, Option, Some, None, codes}
 use Rattle.tmr_words.specs.declared.topic.Topic.{Topic}
 use Rattle.tmr_words.specs.declared.topic.Topic.TheVariants as topic
+use Rattle.tmr_words.specs.Topics.{call_of}
 use Rattle.tmr_texts.specs.Texts.{joined}
 
 -- the version of these sources
@@ -27,6 +28,12 @@ all_help = joined (
     ∷ codes "  to-aag    writes a netlist as an and-inverter graph (AIGER)\n"
     ∷ codes "  from-aag  reads such a graph, and writes it as a flat netlist\n"
     ∷ codes "  wave      does what replay does, and saves waves (VCD)\n"
+    ∷ codes "  certify   finds a certificate of a hardened netlist from the netlist alone\n"
+    ∷ codes "  exposure  checks a hardened pair, and counts pairs of upsets that are too near\n"
+    ∷ codes "  sweep     tells what hardening costs with partitions of each size\n"
+    ∷ codes "  explain   tells each place where a hardened pair breaks a rule, and why\n"
+    ∷ codes "  campaign  checks a hardened pair, and runs 64 drawn schedules on it\n"
+    ∷ codes "  picture   checks a hardened pair, and draws its partitions (DOT)\n"
     ∷ codes "  help      tells this, or more of one command: tmr help COMMAND\n"
     ∷ codes "  version   tells which version of tmr this is\n"
     ∷ codes "statuses\n"
@@ -38,12 +45,11 @@ all_help = joined (
     ∷ codes "  5  want of memory\n"
     ∷ [])
 
--- what `help` prints of one command: how it is called, what it does, which files it reads and writes, its options, what it prints, with which statuses it ends,
+-- what `help` prints of one command behind its call: what it does, which files it reads and writes, its options, what it prints, with which statuses it ends,
 -- and an example
 unfoldable pub validate_help : List ℕ
 validate_help = joined (
-    codes "usage: tmr validate ORIG HARD CERT\n"
-    ∷ codes "Checks a hardened netlist against its original and a certificate.\n"
+    codes "Checks a hardened netlist against its original and a certificate.\n"
     ∷ codes "reads     ORIG: the original netlist, BLIF, at most 8388608 bytes\n"
     ∷ codes "          HARD: the hardened netlist, BLIF, at most 1073741824 bytes\n"
     ∷ codes "          CERT: its certificate, at most 1073741824 bytes\n"
@@ -58,8 +64,7 @@ validate_help = joined (
 
 unfoldable pub harden_help : List ℕ
 harden_help = joined (
-    codes "usage: tmr harden ORIG HARD CERT [--size S] [--cert V] [--depth D] [--form F]\n"
-    ∷ codes "Hardens a netlist: three copies in partitions, with voters and a certificate.\n"
+    codes "Hardens a netlist: three copies in partitions, with voters and a certificate.\n"
     ∷ codes "reads     ORIG: a netlist, BLIF, at most 8388608 bytes\n"
     ∷ codes "writes    HARD: the hardened netlist, BLIF\n"
     ∷ codes "          CERT: its certificate, under another name than HARD\n"
@@ -75,8 +80,7 @@ harden_help = joined (
 
 unfoldable pub flatten_help : List ℕ
 flatten_help = joined (
-    codes "usage: tmr flatten ORIG FLAT\n"
-    ∷ codes "Writes a netlist as one flat model. Each net is named by its path.\n"
+    codes "Writes a netlist as one flat model. Each net is named by its path.\n"
     ∷ codes "reads     ORIG: a netlist, BLIF, at most 8388608 bytes\n"
     ∷ codes "writes    FLAT: the flat netlist, BLIF\n"
     ∷ codes "options   none\n"
@@ -87,8 +91,7 @@ flatten_help = joined (
 
 unfoldable pub replay_help : List ℕ
 replay_help = joined (
-    codes "usage: tmr replay ORIG HARD CERT SCHED\n"
-    ∷ codes "Checks a hardened pair, and runs a schedule of upsets on it.\n"
+    codes "Checks a hardened pair, and runs a schedule of upsets on it.\n"
     ∷ codes "reads     ORIG: the original netlist, BLIF, at most 8388608 bytes\n"
     ∷ codes "          HARD: the hardened netlist, BLIF, at most 1073741824 bytes\n"
     ∷ codes "          CERT: its certificate, at most 1073741824 bytes\n"
@@ -104,8 +107,7 @@ replay_help = joined (
 
 unfoldable pub report_help : List ℕ
 report_help = joined (
-    codes "usage: tmr report ORIG HARD CERT\n"
-    ∷ codes "Checks a hardened pair, and tells of each partition.\n"
+    codes "Checks a hardened pair, and tells of each partition.\n"
     ∷ codes "reads     ORIG: the original netlist, BLIF, at most 8388608 bytes\n"
     ∷ codes "          HARD: the hardened netlist, BLIF, at most 1073741824 bytes\n"
     ∷ codes "          CERT: its certificate, at most 1073741824 bytes\n"
@@ -120,8 +122,7 @@ report_help = joined (
 
 unfoldable pub trial_help : List ℕ
 trial_help = joined (
-    codes "usage: tmr trial NUMBER NODES\n"
-    ∷ codes "Draws a design, hardens it, and runs 64 drawn schedules of upsets on the pair.\n"
+    codes "Draws a design, hardens it, and runs 64 drawn schedules of upsets on the pair.\n"
     ∷ codes "words     NUMBER: what is drawn from, 0 to 18446744073709551615\n"
     ∷ codes "          NODES: how many nodes the design has, 0 to 100000\n"
     ∷ codes "reads     nothing\n"
@@ -135,8 +136,7 @@ trial_help = joined (
 
 unfoldable pub guard_help : List ℕ
 guard_help = joined (
-    codes "usage: tmr guard ORIG GUARDED\n"
-    ∷ codes "Writes two copies of a netlist, with comparators and an alarm.\n"
+    codes "Writes two copies of a netlist, with comparators and an alarm.\n"
     ∷ codes "reads     ORIG: a netlist, BLIF, at most 8388608 bytes\n"
     ∷ codes "writes    GUARDED: the guarded netlist, BLIF\n"
     ∷ codes "options   none\n"
@@ -147,8 +147,7 @@ guard_help = joined (
 
 unfoldable pub guarded_help : List ℕ
 guarded_help = joined (
-    codes "usage: tmr guarded ORIG GUARDED\n"
-    ∷ codes "Checks that a netlist is the guarded one of another.\n"
+    codes "Checks that a netlist is the guarded one of another.\n"
     ∷ codes "reads     ORIG: the original netlist, BLIF, at most 8388608 bytes\n"
     ∷ codes "          GUARDED: the guarded netlist, BLIF, at most 1073741824 bytes\n"
     ∷ codes "writes    nothing\n"
@@ -161,8 +160,7 @@ guarded_help = joined (
 
 unfoldable pub to_aag_help : List ℕ
 to_aag_help = joined (
-    codes "usage: tmr to-aag ORIG AAG\n"
-    ∷ codes "Writes a netlist as an and-inverter graph (AIGER ASCII).\n"
+    codes "Writes a netlist as an and-inverter graph (AIGER ASCII).\n"
     ∷ codes "reads     ORIG: a netlist, BLIF, at most 8388608 bytes\n"
     ∷ codes "writes    AAG: the graph\n"
     ∷ codes "options   none\n"
@@ -173,8 +171,7 @@ to_aag_help = joined (
 
 unfoldable pub from_aag_help : List ℕ
 from_aag_help = joined (
-    codes "usage: tmr from-aag AAG FLAT\n"
-    ∷ codes "Reads an and-inverter graph (AIGER ASCII), and writes it as a flat netlist.\n"
+    codes "Reads an and-inverter graph (AIGER ASCII), and writes it as a flat netlist.\n"
     ∷ codes "reads     AAG: the graph, at most 8388608 bytes\n"
     ∷ codes "writes    FLAT: the flat netlist, BLIF\n"
     ∷ codes "options   none\n"
@@ -185,8 +182,7 @@ from_aag_help = joined (
 
 unfoldable pub wave_help : List ℕ
 wave_help = joined (
-    codes "usage: tmr wave ORIG HARD CERT SCHED VCD\n"
-    ∷ codes "Does what replay does, and saves the outputs and their copies as waves.\n"
+    codes "Does what replay does, and saves the outputs and their copies as waves.\n"
     ∷ codes "reads     ORIG: the original netlist, BLIF, at most 8388608 bytes\n"
     ∷ codes "          HARD: the hardened netlist, BLIF, at most 1073741824 bytes\n"
     ∷ codes "          CERT: its certificate, at most 1073741824 bytes\n"
@@ -201,10 +197,101 @@ wave_help = joined (
     ∷ codes "example   tmr wave sh.blif sh.hard.blif sh.cert apart.toml apart.vcd\n"
     ∷ [])
 
+unfoldable pub certify_help : List ℕ
+certify_help = joined (
+    codes "Finds a certificate of a hardened netlist from the netlist alone.\n"
+    ∷ codes "reads     ORIG: the original netlist, BLIF, at most 8388608 bytes\n"
+    ∷ codes "          HARD: the hardened netlist, BLIF, at most 1073741824 bytes\n"
+    ∷ codes "writes    CERT: the certificate, under another name than ORIG and HARD\n"
+    ∷ codes "options   --cert V   the version of the certificate, 1 or 2; default 1\n"
+    ∷ codes "prints    accepted partitions K depth D assumed A B\n"
+    ∷ codes "          with --cert 2: free in place of assumed\n"
+    ∷ codes "          or: no certificate: CAUSE\n"
+    ∷ codes "statuses  0 done, 1 not accepted, 2 usage, 3 fault, 4 refused, 5 want of memory\n"
+    ∷ codes "example   tmr certify and.blif and.hard.blif and.found.cert\n"
+    ∷ [])
+
+unfoldable pub exposure_help : List ℕ
+exposure_help = joined (
+    codes "Checks a hardened pair, and counts the pairs of upsets that are too near.\n"
+    ∷ codes "reads     ORIG: the original netlist, BLIF, at most 8388608 bytes\n"
+    ∷ codes "          HARD: the hardened netlist, BLIF, at most 1073741824 bytes\n"
+    ∷ codes "          CERT: its certificate, at most 1073741824 bytes\n"
+    ∷ codes "writes    nothing\n"
+    ∷ codes "options   none\n"
+    ∷ codes "prints    part P copies N N N depth D near X for each partition with nodes\n"
+    ∷ codes "          near X\n"
+    ∷ codes "          or: not accepted: rule R at PLACE\n"
+    ∷ codes "statuses  0 done, 1 not accepted, 2 usage, 3 fault, 4 refused, 5 want of memory\n"
+    ∷ codes "example   tmr exposure sh.blif sh.hard.blif sh.cert\n"
+    ∷ [])
+
+unfoldable pub sweep_help : List ℕ
+sweep_help = joined (
+    codes "Tells what hardening costs with partitions of 16, 32, 64 and more nodes.\n"
+    ∷ codes "reads     ORIG: a netlist, BLIF, at most 8388608 bytes\n"
+    ∷ codes "writes    nothing\n"
+    ∷ codes "options   --cert V   the version of the certificate, 1 or 2; default 1\n"
+    ∷ codes "          --depth D  the greatest depth, 1 to 4294967295; default no bound\n"
+    ∷ codes "          --form F   the form, plain or lean; default plain\n"
+    ∷ codes "prints    nodes N registers R levels L\n"
+    ∷ codes "          size S partitions K voters V percent P depth D levels L near X\n"
+    ∷ codes "          for each size\n"
+    ∷ codes "statuses  0 done, 2 usage, 3 fault, 4 refused, 5 want of memory\n"
+    ∷ codes "example   tmr sweep sh.blif --form lean\n"
+    ∷ [])
+
+unfoldable pub explain_help : List ℕ
+explain_help = joined (
+    codes "Tells each place where a hardened pair breaks a rule, and why.\n"
+    ∷ codes "reads     ORIG: the original netlist, BLIF, at most 8388608 bytes\n"
+    ∷ codes "          HARD: the hardened netlist, BLIF, at most 1073741824 bytes\n"
+    ∷ codes "          CERT: its certificate, at most 1073741824 bytes\n"
+    ∷ codes "writes    nothing\n"
+    ∷ codes "options   none\n"
+    ∷ codes "prints    rule R at PLACE: WHY for each of the first 100 places\n"
+    ∷ codes "          and N more, where there are more\n"
+    ∷ codes "          or, where all rules hold, what validate prints\n"
+    ∷ codes "statuses  0 done, 1 not accepted, 2 usage, 3 fault, 4 refused, 5 want of memory\n"
+    ∷ codes "example   tmr explain and.blif and.hard.blif and.cert\n"
+    ∷ [])
+
+unfoldable pub campaign_help : List ℕ
+campaign_help = joined (
+    codes "Checks a hardened pair, and runs 64 drawn schedules of upsets on it.\n"
+    ∷ codes "words     NUMBER: what is drawn from, 0 to 18446744073709551615\n"
+    ∷ codes "          CYCLES: how many cycles each schedule has, 1 to 100000\n"
+    ∷ codes "          near: upsets of two copies are as far apart as is just not allowed\n"
+    ∷ codes "reads     ORIG: the original netlist, BLIF, at most 8388608 bytes\n"
+    ∷ codes "          HARD: the hardened netlist, BLIF, at most 1073741824 bytes\n"
+    ∷ codes "          CERT: its certificate, at most 1073741824 bytes\n"
+    ∷ codes "writes    nothing\n"
+    ∷ codes "options   none\n"
+    ∷ codes "prints    five lines: runs, upsets, differences, wrong, late\n"
+    ∷ codes "          with near, where an output is wrong: first wrong CYCLE OUTPUT RUN\n"
+    ∷ codes "          or: not accepted: rule R at PLACE\n"
+    ∷ codes "statuses  0 done, 1 not accepted, 2 usage, 3 fault, 4 refused, 5 want of memory\n"
+    ∷ codes "example   tmr campaign sh.blif sh.hard.blif sh.cert 7 1000\n"
+    ∷ [])
+
+unfoldable pub picture_help : List ℕ
+picture_help = joined (
+    codes "Checks a hardened pair, and draws its partitions as a graph.\n"
+    ∷ codes "reads     ORIG: the original netlist, BLIF, at most 8388608 bytes\n"
+    ∷ codes "          HARD: the hardened netlist, BLIF, at most 1073741824 bytes\n"
+    ∷ codes "          CERT: its certificate, at most 1073741824 bytes\n"
+    ∷ codes "writes    DOT: the graph, for dot of graphviz\n"
+    ∷ codes "options   none\n"
+    ∷ codes "prints    accepted partitions K depth D assumed A B\n"
+    ∷ codes "          with a certificate of version 2: free in place of assumed\n"
+    ∷ codes "          or: not accepted: rule R at PLACE\n"
+    ∷ codes "statuses  0 done, 1 not accepted, 2 usage, 3 fault, 4 refused, 5 want of memory\n"
+    ∷ codes "example   tmr picture sh.blif sh.hard.blif sh.cert sh.dot\n"
+    ∷ [])
+
 unfoldable pub help_help : List ℕ
 help_help = joined (
-    codes "usage: tmr help [COMMAND]\n"
-    ∷ codes "Tells of all commands and statuses, or of one command.\n"
+    codes "Tells of all commands and statuses, or of one command.\n"
     ∷ codes "reads     nothing\n"
     ∷ codes "writes    nothing\n"
     ∷ codes "options   none\n"
@@ -216,8 +303,7 @@ help_help = joined (
 
 unfoldable pub version_help : List ℕ
 version_help = joined (
-    codes "usage: tmr version\n"
-    ∷ codes "Tells which version of tmr this is.\n"
+    codes "Tells which version of tmr this is.\n"
     ∷ codes "reads     nothing\n"
     ∷ codes "writes    nothing\n"
     ∷ codes "options   none\n"
@@ -226,6 +312,7 @@ version_help = joined (
     ∷ codes "example   tmr version\n"
     ∷ [])
 
+-- what is told of a command, behind its call
 abbrev pub topic_help : Topic → List ℕ
 topic_help topic.Validate = validate_help
 topic_help topic.Harden = harden_help
@@ -238,10 +325,20 @@ topic_help topic.CheckGuard = guarded_help
 topic_help topic.WriteGraph = to_aag_help
 topic_help topic.ReadGraph = from_aag_help
 topic_help topic.Wave = wave_help
+topic_help topic.Certify = certify_help
+topic_help topic.Exposure = exposure_help
+topic_help topic.Sweep = sweep_help
+topic_help topic.Explain = explain_help
+topic_help topic.Campaign = campaign_help
+topic_help topic.Picture = picture_help
 topic_help topic.Help = help_help
 topic_help topic.Version = version_help
+
+-- how a command is called, and what is told of it
+abbrev pub command_help : Topic → List ℕ
+command_help topic = joined (codes "usage: tmr " ∷ call_of topic ∷ codes "\n" ∷ topic_help topic ∷ [])
 
 -- what `help` prints: of one command, or of all where none is named
 abbrev pub help_text : Option Topic → List ℕ
 help_text None = all_help
-help_text (Some topic) = topic_help topic
+help_text (Some topic) = command_help topic

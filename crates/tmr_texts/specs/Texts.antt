@@ -3,6 +3,8 @@ use Rattle.std.specs.Prelude.{ℕ, ◌+◌, nat_eq, max, List, [], ◌∷◌, �
 use Rattle.std.specs.Fmt.{decimal}
 use Rattle.flat_net.specs.Net.{Net, name_of, register_count}
 use Rattle.certificate.specs.Cert.{PlainCert}
+use Rattle.tmr_words.specs.declared.topic.Topic.{Topic}
+use Rattle.tmr_words.specs.Topics.{commands, call_of}
 use Rattle.aag_design.specs.declared.counts.Counts.{Counts}
 
 -- pieces, one behind the other
@@ -83,23 +85,14 @@ line_reason line kind = joined (codes "line " ∷ decimal line ∷ codes ": " �
 unfoldable pub save_fault_line : List ℕ → List ℕ
 save_fault_line file = joined (codes "fault: save " ∷ file ∷ codes "\n" ∷ [])
 
--- how the program is called
+-- a line for each command as it is called, the first with this head
+abbrev pub usage_lines : List ℕ → List Topic → List ℕ
+usage_lines head [] = []
+usage_lines head (command ∷ commands) = head ++ (call_of command ++ (codes "\n" ++ usage_lines (codes "       tmr ") commands))
+
+-- how the program is called: each command of the table
 unfoldable pub usage_text : List ℕ
-usage_text = joined (
-    codes "usage: tmr validate ORIG HARD CERT\n"
-    ∷ codes "       tmr harden ORIG HARD CERT [--size S] [--cert V] [--depth D] [--form F]\n"
-    ∷ codes "       tmr flatten ORIG FLAT\n"
-    ∷ codes "       tmr replay ORIG HARD CERT SCHED\n"
-    ∷ codes "       tmr report ORIG HARD CERT\n"
-    ∷ codes "       tmr trial NUMBER NODES\n"
-    ∷ codes "       tmr guard ORIG GUARDED\n"
-    ∷ codes "       tmr guarded ORIG GUARDED\n"
-    ∷ codes "       tmr to-aag ORIG AAG\n"
-    ∷ codes "       tmr from-aag AAG FLAT\n"
-    ∷ codes "       tmr wave ORIG HARD CERT SCHED VCD\n"
-    ∷ codes "       tmr help [COMMAND]\n"
-    ∷ codes "       tmr version\n"
-    ∷ [])
+usage_text = usage_lines (codes "usage: tmr ") commands
 
 unfoldable pub memory_text : List ℕ
 memory_text = codes "want of memory\n"

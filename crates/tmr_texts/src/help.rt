@@ -1,11 +1,11 @@
 //! What `help` and `version` print.
 ghost use Rattle.std.specs.Prelude.{◌≡◌, IfOk};
-ghost use Rattle.tmr_texts.specs.Help.{version_text, all_help, validate_help, harden_help, flatten_help, replay_help, report_help, trial_help, guard_help, guarded_help, to_aag_help, from_aag_help, wave_help, help_help, version_help, topic_help, help_text};
+ghost use Rattle.tmr_texts.specs.Help.{version_text, all_help, validate_help, harden_help, flatten_help, replay_help, report_help, trial_help, guard_help, guarded_help, to_aag_help, from_aag_help, wave_help, certify_help, exposure_help, sweep_help, explain_help, campaign_help, picture_help, help_help, version_help, topic_help, command_help, help_text};
 
 use crate::texts::join;
 use std::alloc::Global;
 use tmr_base::OutOfMemory;
-use tmr_words::Topic;
+use tmr_words::{Topic, call_of};
 
 /// The version of these sources.
 const VERSION: &str = "1.0.0";
@@ -39,6 +39,12 @@ fn all_help() -> &'static str
         "  to-aag    writes a netlist as an and-inverter graph (AIGER)\n",
         "  from-aag  reads such a graph, and writes it as a flat netlist\n",
         "  wave      does what replay does, and saves waves (VCD)\n",
+        "  certify   finds a certificate of a hardened netlist from the netlist alone\n",
+        "  exposure  checks a hardened pair, and counts pairs of upsets that are too near\n",
+        "  sweep     tells what hardening costs with partitions of each size\n",
+        "  explain   tells each place where a hardened pair breaks a rule, and why\n",
+        "  campaign  checks a hardened pair, and runs 64 drawn schedules on it\n",
+        "  picture   checks a hardened pair, and draws its partitions (DOT)\n",
         "  help      tells this, or more of one command: tmr help COMMAND\n",
         "  version   tells which version of tmr this is\n",
         "statuses\n",
@@ -57,7 +63,6 @@ fn validate_help() -> &'static str
     ensures { result.now ≡ validate_help }
 {
     concat!(
-        "usage: tmr validate ORIG HARD CERT\n",
         "Checks a hardened netlist against its original and a certificate.\n",
         "reads     ORIG: the original netlist, BLIF, at most 8388608 bytes\n",
         "          HARD: the hardened netlist, BLIF, at most 1073741824 bytes\n",
@@ -78,7 +83,6 @@ fn harden_help() -> &'static str
     ensures { result.now ≡ harden_help }
 {
     concat!(
-        "usage: tmr harden ORIG HARD CERT [--size S] [--cert V] [--depth D] [--form F]\n",
         "Hardens a netlist: three copies in partitions, with voters and a certificate.\n",
         "reads     ORIG: a netlist, BLIF, at most 8388608 bytes\n",
         "writes    HARD: the hardened netlist, BLIF\n",
@@ -100,7 +104,6 @@ fn flatten_help() -> &'static str
     ensures { result.now ≡ flatten_help }
 {
     concat!(
-        "usage: tmr flatten ORIG FLAT\n",
         "Writes a netlist as one flat model. Each net is named by its path.\n",
         "reads     ORIG: a netlist, BLIF, at most 8388608 bytes\n",
         "writes    FLAT: the flat netlist, BLIF\n",
@@ -117,7 +120,6 @@ fn replay_help() -> &'static str
     ensures { result.now ≡ replay_help }
 {
     concat!(
-        "usage: tmr replay ORIG HARD CERT SCHED\n",
         "Checks a hardened pair, and runs a schedule of upsets on it.\n",
         "reads     ORIG: the original netlist, BLIF, at most 8388608 bytes\n",
         "          HARD: the hardened netlist, BLIF, at most 1073741824 bytes\n",
@@ -139,7 +141,6 @@ fn report_help() -> &'static str
     ensures { result.now ≡ report_help }
 {
     concat!(
-        "usage: tmr report ORIG HARD CERT\n",
         "Checks a hardened pair, and tells of each partition.\n",
         "reads     ORIG: the original netlist, BLIF, at most 8388608 bytes\n",
         "          HARD: the hardened netlist, BLIF, at most 1073741824 bytes\n",
@@ -160,7 +161,6 @@ fn trial_help() -> &'static str
     ensures { result.now ≡ trial_help }
 {
     concat!(
-        "usage: tmr trial NUMBER NODES\n",
         "Draws a design, hardens it, and runs 64 drawn schedules of upsets on the pair.\n",
         "words     NUMBER: what is drawn from, 0 to 18446744073709551615\n",
         "          NODES: how many nodes the design has, 0 to 100000\n",
@@ -180,7 +180,6 @@ fn guard_help() -> &'static str
     ensures { result.now ≡ guard_help }
 {
     concat!(
-        "usage: tmr guard ORIG GUARDED\n",
         "Writes two copies of a netlist, with comparators and an alarm.\n",
         "reads     ORIG: a netlist, BLIF, at most 8388608 bytes\n",
         "writes    GUARDED: the guarded netlist, BLIF\n",
@@ -197,7 +196,6 @@ fn guarded_help() -> &'static str
     ensures { result.now ≡ guarded_help }
 {
     concat!(
-        "usage: tmr guarded ORIG GUARDED\n",
         "Checks that a netlist is the guarded one of another.\n",
         "reads     ORIG: the original netlist, BLIF, at most 8388608 bytes\n",
         "          GUARDED: the guarded netlist, BLIF, at most 1073741824 bytes\n",
@@ -216,7 +214,6 @@ fn to_aag_help() -> &'static str
     ensures { result.now ≡ to_aag_help }
 {
     concat!(
-        "usage: tmr to-aag ORIG AAG\n",
         "Writes a netlist as an and-inverter graph (AIGER ASCII).\n",
         "reads     ORIG: a netlist, BLIF, at most 8388608 bytes\n",
         "writes    AAG: the graph\n",
@@ -233,7 +230,6 @@ fn from_aag_help() -> &'static str
     ensures { result.now ≡ from_aag_help }
 {
     concat!(
-        "usage: tmr from-aag AAG FLAT\n",
         "Reads an and-inverter graph (AIGER ASCII), and writes it as a flat netlist.\n",
         "reads     AAG: the graph, at most 8388608 bytes\n",
         "writes    FLAT: the flat netlist, BLIF\n",
@@ -250,7 +246,6 @@ fn wave_help() -> &'static str
     ensures { result.now ≡ wave_help }
 {
     concat!(
-        "usage: tmr wave ORIG HARD CERT SCHED VCD\n",
         "Does what replay does, and saves the outputs and their copies as waves.\n",
         "reads     ORIG: the original netlist, BLIF, at most 8388608 bytes\n",
         "          HARD: the hardened netlist, BLIF, at most 1073741824 bytes\n",
@@ -267,13 +262,134 @@ fn wave_help() -> &'static str
     )
 }
 
+/// `certify`.
+#[tactic(auto, unfolding(crate::specs::Help::certify_help))]
+fn certify_help() -> &'static str
+    ensures { result.now ≡ certify_help }
+{
+    concat!(
+        "Finds a certificate of a hardened netlist from the netlist alone.\n",
+        "reads     ORIG: the original netlist, BLIF, at most 8388608 bytes\n",
+        "          HARD: the hardened netlist, BLIF, at most 1073741824 bytes\n",
+        "writes    CERT: the certificate, under another name than ORIG and HARD\n",
+        "options   --cert V   the version of the certificate, 1 or 2; default 1\n",
+        "prints    accepted partitions K depth D assumed A B\n",
+        "          with --cert 2: free in place of assumed\n",
+        "          or: no certificate: CAUSE\n",
+        "statuses  0 done, 1 not accepted, 2 usage, 3 fault, 4 refused, 5 want of memory\n",
+        "example   tmr certify and.blif and.hard.blif and.found.cert\n",
+    )
+}
+
+/// `exposure`.
+#[tactic(auto, unfolding(crate::specs::Help::exposure_help))]
+fn exposure_help() -> &'static str
+    ensures { result.now ≡ exposure_help }
+{
+    concat!(
+        "Checks a hardened pair, and counts the pairs of upsets that are too near.\n",
+        "reads     ORIG: the original netlist, BLIF, at most 8388608 bytes\n",
+        "          HARD: the hardened netlist, BLIF, at most 1073741824 bytes\n",
+        "          CERT: its certificate, at most 1073741824 bytes\n",
+        "writes    nothing\n",
+        "options   none\n",
+        "prints    part P copies N N N depth D near X for each partition with nodes\n",
+        "          near X\n",
+        "          or: not accepted: rule R at PLACE\n",
+        "statuses  0 done, 1 not accepted, 2 usage, 3 fault, 4 refused, 5 want of memory\n",
+        "example   tmr exposure sh.blif sh.hard.blif sh.cert\n",
+    )
+}
+
+/// `sweep`.
+#[tactic(auto, unfolding(crate::specs::Help::sweep_help))]
+fn sweep_help() -> &'static str
+    ensures { result.now ≡ sweep_help }
+{
+    concat!(
+        "Tells what hardening costs with partitions of 16, 32, 64 and more nodes.\n",
+        "reads     ORIG: a netlist, BLIF, at most 8388608 bytes\n",
+        "writes    nothing\n",
+        "options   --cert V   the version of the certificate, 1 or 2; default 1\n",
+        "          --depth D  the greatest depth, 1 to 4294967295; default no bound\n",
+        "          --form F   the form, plain or lean; default plain\n",
+        "prints    nodes N registers R levels L\n",
+        "          size S partitions K voters V percent P depth D levels L near X\n",
+        "          for each size\n",
+        "statuses  0 done, 2 usage, 3 fault, 4 refused, 5 want of memory\n",
+        "example   tmr sweep sh.blif --form lean\n",
+    )
+}
+
+/// `explain`.
+#[tactic(auto, unfolding(crate::specs::Help::explain_help))]
+fn explain_help() -> &'static str
+    ensures { result.now ≡ explain_help }
+{
+    concat!(
+        "Tells each place where a hardened pair breaks a rule, and why.\n",
+        "reads     ORIG: the original netlist, BLIF, at most 8388608 bytes\n",
+        "          HARD: the hardened netlist, BLIF, at most 1073741824 bytes\n",
+        "          CERT: its certificate, at most 1073741824 bytes\n",
+        "writes    nothing\n",
+        "options   none\n",
+        "prints    rule R at PLACE: WHY for each of the first 100 places\n",
+        "          and N more, where there are more\n",
+        "          or, where all rules hold, what validate prints\n",
+        "statuses  0 done, 1 not accepted, 2 usage, 3 fault, 4 refused, 5 want of memory\n",
+        "example   tmr explain and.blif and.hard.blif and.cert\n",
+    )
+}
+
+/// `campaign`.
+#[tactic(auto, unfolding(crate::specs::Help::campaign_help))]
+fn campaign_help() -> &'static str
+    ensures { result.now ≡ campaign_help }
+{
+    concat!(
+        "Checks a hardened pair, and runs 64 drawn schedules of upsets on it.\n",
+        "words     NUMBER: what is drawn from, 0 to 18446744073709551615\n",
+        "          CYCLES: how many cycles each schedule has, 1 to 100000\n",
+        "          near: upsets of two copies are as far apart as is just not allowed\n",
+        "reads     ORIG: the original netlist, BLIF, at most 8388608 bytes\n",
+        "          HARD: the hardened netlist, BLIF, at most 1073741824 bytes\n",
+        "          CERT: its certificate, at most 1073741824 bytes\n",
+        "writes    nothing\n",
+        "options   none\n",
+        "prints    five lines: runs, upsets, differences, wrong, late\n",
+        "          with near, where an output is wrong: first wrong CYCLE OUTPUT RUN\n",
+        "          or: not accepted: rule R at PLACE\n",
+        "statuses  0 done, 1 not accepted, 2 usage, 3 fault, 4 refused, 5 want of memory\n",
+        "example   tmr campaign sh.blif sh.hard.blif sh.cert 7 1000\n",
+    )
+}
+
+/// `picture`.
+#[tactic(auto, unfolding(crate::specs::Help::picture_help))]
+fn picture_help() -> &'static str
+    ensures { result.now ≡ picture_help }
+{
+    concat!(
+        "Checks a hardened pair, and draws its partitions as a graph.\n",
+        "reads     ORIG: the original netlist, BLIF, at most 8388608 bytes\n",
+        "          HARD: the hardened netlist, BLIF, at most 1073741824 bytes\n",
+        "          CERT: its certificate, at most 1073741824 bytes\n",
+        "writes    DOT: the graph, for dot of graphviz\n",
+        "options   none\n",
+        "prints    accepted partitions K depth D assumed A B\n",
+        "          with a certificate of version 2: free in place of assumed\n",
+        "          or: not accepted: rule R at PLACE\n",
+        "statuses  0 done, 1 not accepted, 2 usage, 3 fault, 4 refused, 5 want of memory\n",
+        "example   tmr picture sh.blif sh.hard.blif sh.cert sh.dot\n",
+    )
+}
+
 /// `help`.
 #[tactic(auto, unfolding(crate::specs::Help::help_help))]
 fn help_help() -> &'static str
     ensures { result.now ≡ help_help }
 {
     concat!(
-        "usage: tmr help [COMMAND]\n",
         "Tells of all commands and statuses, or of one command.\n",
         "reads     nothing\n",
         "writes    nothing\n",
@@ -291,7 +407,6 @@ fn version_help() -> &'static str
     ensures { result.now ≡ version_help }
 {
     concat!(
-        "usage: tmr version\n",
         "Tells which version of tmr this is.\n",
         "reads     nothing\n",
         "writes    nothing\n",
@@ -302,7 +417,7 @@ fn version_help() -> &'static str
     )
 }
 
-/// What `help` prints of one command.
+/// What is told of a command, behind its call.
 fn topic_help(topic: Topic) -> &'static str
     ensures { result.now ≡ topic_help topic }
 {
@@ -318,17 +433,38 @@ fn topic_help(topic: Topic) -> &'static str
         Topic::WriteGraph => to_aag_help(),
         Topic::ReadGraph => from_aag_help(),
         Topic::Wave => wave_help(),
+        Topic::Certify => certify_help(),
+        Topic::Exposure => exposure_help(),
+        Topic::Sweep => sweep_help(),
+        Topic::Explain => explain_help(),
+        Topic::Campaign => campaign_help(),
+        Topic::Picture => picture_help(),
         Topic::Help => help_help(),
         Topic::Version => version_help(),
     }
 }
 
+/// How a command is called, and what is told of it.
+fn command_help(alloc: Global, topic: Topic) -> Result<Vec<u8>, OutOfMemory>
+    ensures { IfOk result (λ text. text.items ≡ command_help topic) }
+{
+    join(
+        alloc,
+        &[
+            b"usage: tmr ".as_slice(),
+            call_of(topic).as_bytes(),
+            b"\n".as_slice(),
+            topic_help(topic).as_bytes(),
+        ],
+    )
+}
+
 /// What `help` prints: of one command, or of all where none is named.
-pub fn help_text(topic: Option<Topic>) -> &'static str
-    ensures { result.now ≡ help_text topic }
+pub fn help_text(alloc: Global, topic: Option<Topic>) -> Result<Vec<u8>, OutOfMemory>
+    ensures { IfOk result (λ text. text.items ≡ help_text topic) }
 {
     match topic {
-        None => all_help(),
-        Some(topic) => topic_help(topic),
+        None => join(alloc, &[all_help().as_bytes()]),
+        Some(topic) => command_help(alloc, topic),
     }
 }

@@ -1,8 +1,9 @@
 //! The printed lines.
-ghost use Rattle.std.specs.Prelude.{◌≡◌, ◌+◌, ◌≤◌, ◌<◌, ◌∷◌, [], codes, length, max, IfOk};
+ghost use Rattle.std.specs.Prelude.{◌≡◌, ◌+◌, ◌≤◌, ◌<◌, ◌∷◌, [], ◌++◌, codes, length, max, IfOk, OnOk};
 ghost use Rattle.std.specs.Fmt.{decimal};
 ghost use Rattle.tmr_words.specs.FileWords.{read_words as read_pieces};
 ghost use Rattle.tmr_texts.specs.Texts.{joined, greatest, open_word, accepted_line, place_text, not_accepted_line, refused_line, load_fault_line, save_fault_line, counted_text, flattened_line, guard_line, aag_line, graph_line, guarded_line, not_guarded_line, line_reason, usage_text, memory_text};
+ghost use Rattle.tmr_words.specs.Topics.{call_of};
 ghost use Rattle.flat_net.specs.Net.{net_count};
 ghost use Rattle.validator.specs.Place.{IsPlace};
 
@@ -11,15 +12,8 @@ use certificate::Certificate;
 use flat_net::FlatNet;
 use std::alloc::Global;
 use tmr_base::{NetId, OutOfMemory, PartId};
+use tmr_words::{Topic, call_of, commands};
 use validator::Refusal;
-
-/// How the program is called.
-#[tactic(auto, unfolding(crate::specs::Texts::usage_text))]
-pub fn usage() -> &'static str
-    ensures { result.now ≡ usage_text }
-{
-    "usage: tmr validate ORIG HARD CERT\n       tmr harden ORIG HARD CERT [--size S] [--cert V] [--depth D] [--form F]\n       tmr flatten ORIG FLAT\n       tmr replay ORIG HARD CERT SCHED\n       tmr report ORIG HARD CERT\n       tmr trial NUMBER NODES\n       tmr guard ORIG GUARDED\n       tmr guarded ORIG GUARDED\n       tmr to-aag ORIG AAG\n       tmr from-aag AAG FLAT\n       tmr wave ORIG HARD CERT SCHED VCD\n       tmr help [COMMAND]\n       tmr version\n"
-}
 
 /// What is put where there was no memory.
 #[tactic(auto, unfolding(crate::specs::Texts::memory_text))]
@@ -37,6 +31,31 @@ pub fn join(alloc: Global, pieces: &[&[u8]]) -> Result<Vec<u8>, OutOfMemory>
     let mut text = Vec::new(alloc);
     for piece in pieces {
         text.extend_from_slice(piece)?;
+    }
+    Ok(text)
+}
+
+/// Puts how a command is called behind a text.
+fn put_call(text: &mut Vec<u8>, head: &[u8], command: Topic) -> Result<(), OutOfMemory>
+    ensures { OnOk result (text.new.items ≡ text.old.items ++ (head.now ++ (call_of command ++ codes "\n"))) }
+{
+    text.extend_from_slice(head)?;
+    text.extend_from_slice(call_of(command).as_bytes())?;
+    text.extend_from_slice(b"\n".as_slice())?;
+    Ok(())
+}
+
+/// How the program is called: a line for each command.
+#[tactic(auto, unfolding(crate::specs::Texts::usage_text), using(crate::proofs::TextLaws::calls))]
+pub fn usage(alloc: Global) -> Result<Vec<u8>, OutOfMemory>
+    ensures { IfOk result (λ text. text.items ≡ usage_text) }
+{
+    let mut text = Vec::new(alloc);
+    let mut head = b"usage: tmr ".as_slice();
+    let all = commands();
+    for i in 0..all.len() {
+        put_call(&mut text, head, all[i])?;
+        head = b"       tmr ".as_slice();
     }
     Ok(text)
 }

@@ -1,132 +1,111 @@
--- What the words of `harden` mean.
-use Rattle.std.proofs.Common.{◌≡◌, ◌≢◌, ℕ, Bool, true, false, cond, ◌&&◌, List, [], ◌∷◌, Option, Some, None, refl, sym, ◌∙◌}
+-- What a command line that means a command keeps.
+use Rattle.std.proofs.Common.{◌≡◌, ◌≢◌, ℕ, Bool, true, false, cond, ◌&&◌, List, [], ◌∷◌, Option, Some, None, refl, sym, subst}
 use Rattle.std.specs.Prelude.{codes, not}
 use Rattle.std.specs.Option.{option_and_then, option_map}
 use Rattle.std.specs.Str.{bytes_eq}
 use Rattle.flat_net.proofs.Names.{eq_true}
 use Rattle.triplicate.specs.declared.form.Form.{Form}
 use Rattle.triplicate.specs.declared.form.Form.TheVariants.{Plain}
-use Rattle.tmr_words.specs.Words.{Words, has_no_options, words_of}
-use Rattle.tmr_words.specs.Trials.{Trial, trial_of}
+use Rattle.tmr_words.specs.Words.{Words, has_no_options, has_versions_alone, words_of}
+use Rattle.tmr_words.specs.Trials.{trial_of}
 use Rattle.tmr_words.specs.declared.topic.Topic.{Topic}
-use Rattle.tmr_words.specs.Topics.{help_of}
-use Rattle.tmr_words.specs.Line.{Command, Pair, Hardening, Flattening, Guarding, Graphing, GraphReading, Validate, Harden, Flatten, Report, Guard, CheckGuard, WriteGraph, ReadGraph, TryOut, Help, is_file, said, positive_number, version_number, form_named, pair_of, over_pair, over_trial, over_help, version_of, flattening_of, guarding_of, over_guarding, graphing_of, graph_reading_of, replay_over, replaying_of, waving_of, hardening_with, hardening_as, hardening_of, of_words, of_plain, line_of}
+use Rattle.tmr_words.specs.declared.topic.Topic.TheVariants as topic
+use Rattle.tmr_words.specs.Topics.{topic_of, help_of}
+use Rattle.tmr_words.specs.Line.{Command, Pair, Hardening, Certifying, Validate, Harden, Flatten, Replay, Report, Guard, CheckGuard, WriteGraph, ReadGraph, TryOut, Help, Version}
+use Rattle.tmr_words.specs.Line.{Certify, Exposure, Sweep, Explain, Campaign, Picture}
+use Rattle.tmr_words.specs.Line.{is_file, said, positive_number, version_number, form_named, pair_of, version_of, flattening_of, guarding_of, graphing_of, graph_reading_of, replay_over, replaying_of, waving_of}
+use Rattle.tmr_words.specs.Line.{hardening_with, hardening_as, hardening_of, certifying_with, certifying_of, sweeping_of, campaigning_of, picturing_of, plain_meaning, meaning_of, line_of}
 
 pub all_said : (form : Form) (words : Words) (size version most : ℕ) → said positive_number 64 words.sizes ≡ Some size → said version_number 1 words.versions ≡ Some version → said positive_number 4294967295 words.depths ≡ Some most → hardening_as form words ≡ hardening_with form size version most words.plain
 unfolding hardening_as
 all_said form words size version most one two three = rw (one, two, three) refl
 
--- ---- the two names of a hardening differ
+-- ---- files that are saved have names of their own
 
--- what is meant, where it is a hardening, has two names
-abbrev HasTwoNames : Option Command → Type 0
-HasTwoNames meant = (w : Hardening) → meant ≡ Some (Harden w) → w.hardened ≢ w.certificate
+-- a hardening saves under two names, and a certificate that is found has the name of neither design
+NamesApart : Command → Type 0
+NamesApart (Harden w) = w.hardened ≢ w.certificate
+NamesApart (Certify w) = (w.certificate ≢ w.original) × (w.certificate ≢ w.hardened)
+NamesApart (Validate p) = Unit {0}
+NamesApart (Flatten f) = Unit {0}
+NamesApart (Replay w) = Unit {0}
+NamesApart (Report p) = Unit {0}
+NamesApart (TryOut t) = Unit {0}
+NamesApart (Guard w) = Unit {0}
+NamesApart (CheckGuard w) = Unit {0}
+NamesApart (WriteGraph w) = Unit {0}
+NamesApart (ReadGraph w) = Unit {0}
+NamesApart (Exposure p) = Unit {0}
+NamesApart (Sweep w) = Unit {0}
+NamesApart (Explain p) = Unit {0}
+NamesApart (Campaign w) = Unit {0}
+NamesApart (Picture w) = Unit {0}
+NamesApart (Help t) = Unit {0}
+NamesApart Version = Unit {0}
 
-none_has : HasTwoNames None
-none_has w is = absurd cc
+Keeps : Option Command → Type 0
+Keeps None = Unit {0}
+Keeps (Some c) = NamesApart c
 
-choice_has : (b : Bool) (x y : Option Command) → HasTwoNames x → HasTwoNames y → HasTwoNames (cond b x y)
-choice_has true x y one other = one
-choice_has false x y one other = other
+choice : (b : Bool) (x y : Option Command) → Keeps x → Keeps y → Keeps (cond b x y)
+choice true x y one other = one
+choice false x y one other = other
 
-flatten_has : (f : Flattening) → HasTwoNames (Some (Flatten f))
-flatten_has f w is = absurd cc
+mapped : {A : Type 0} (C : A → Command) → ((a : A) → NamesApart (C a)) → (o : Option A) → Keeps (option_map C o)
+mapped C each None = tt
+mapped C each (Some a) = each a
 
-validate_has : (words : List (List ℕ)) → HasTwoNames (over_pair Validate words)
-validate_has words = go (pair_of words)
-  where
-    go : (o : Option Pair) → HasTwoNames (option_map Validate o)
-    go None = none_has
-    go (Some p) = λ w is. absurd cc
-
-report_has : (words : List (List ℕ)) → HasTwoNames (over_pair Report words)
-report_has words = go (pair_of words)
-  where
-    go : (o : Option Pair) → HasTwoNames (option_map Report o)
-    go None = none_has
-    go (Some p) = λ w is. absurd cc
-
-graph_has : (g : Graphing) → HasTwoNames (Some (WriteGraph g))
-graph_has g w is = absurd cc
-
-graphing_has : (words : List (List ℕ)) → HasTwoNames (graphing_of words)
-unfolding graphing_of
-graphing_has [] = none_has
-graphing_has (a ∷ []) = none_has
-graphing_has (a ∷ b ∷ []) = choice_has (is_file a && is_file b) _ _ (graph_has _) none_has
-graphing_has (a ∷ b ∷ c ∷ words) = none_has
-
-graph_read_has : (g : GraphReading) → HasTwoNames (Some (ReadGraph g))
-graph_read_has g w is = absurd cc
-
-graph_reading_has : (words : List (List ℕ)) → HasTwoNames (graph_reading_of words)
-unfolding graph_reading_of
-graph_reading_has [] = none_has
-graph_reading_has (a ∷ []) = none_has
-graph_reading_has (a ∷ b ∷ []) = choice_has (is_file a && is_file b) _ _ (graph_read_has _) none_has
-graph_reading_has (a ∷ b ∷ c ∷ words) = none_has
-
-guard_has : (words : List (List ℕ)) → HasTwoNames (over_guarding Guard words)
-guard_has words = go (guarding_of words)
-  where
-    go : (o : Option Guarding) → HasTwoNames (option_map Guard o)
-    go None = none_has
-    go (Some g) = λ w is. absurd cc
-
-guarded_has : (words : List (List ℕ)) → HasTwoNames (over_guarding CheckGuard words)
-guarded_has words = go (guarding_of words)
-  where
-    go : (o : Option Guarding) → HasTwoNames (option_map CheckGuard o)
-    go None = none_has
-    go (Some g) = λ w is. absurd cc
-
-trial_has : (words : List (List ℕ)) → HasTwoNames (over_trial words)
-trial_has words = go (trial_of words)
-  where
-    go : (o : Option Trial) → HasTwoNames (option_map TryOut o)
-    go None = none_has
-    go (Some t) = λ w is. absurd cc
-
-help_has : (words : List (List ℕ)) → HasTwoNames (over_help words)
-help_has words = go (help_of words)
-  where
-    go : (o : Option (Option Topic)) → HasTwoNames (option_map Help o)
-    go None = none_has
-    go (Some topic) = λ w is. absurd cc
-
-version_has : (words : List (List ℕ)) → HasTwoNames (version_of words)
-version_has [] = λ w is. absurd cc
-version_has (word ∷ words) = none_has
-
-flattening_has : (words : List (List ℕ)) → HasTwoNames (flattening_of words)
+flattening_keeps : (words : List (List ℕ)) → Keeps (flattening_of words)
 unfolding flattening_of
-flattening_has [] = none_has
-flattening_has (a ∷ []) = none_has
-flattening_has (a ∷ b ∷ []) = choice_has (is_file a && is_file b) _ _ (flatten_has _) none_has
-flattening_has (a ∷ b ∷ c ∷ words) = none_has
+flattening_keeps [] = tt
+flattening_keeps (a ∷ []) = tt
+flattening_keeps (a ∷ b ∷ []) = choice (is_file a && is_file b) _ _ tt tt
+flattening_keeps (a ∷ b ∷ c ∷ words) = tt
 
-replay_has : (pair : Option Pair) (schedule : List ℕ) (waves : Option (List ℕ)) → HasTwoNames (replay_over pair schedule waves)
-replay_has None schedule waves = none_has
-replay_has (Some pair) schedule waves = choice_has (is_file schedule) _ _ (λ w is. absurd cc) none_has
+graphing_keeps : (words : List (List ℕ)) → Keeps (graphing_of words)
+unfolding graphing_of
+graphing_keeps [] = tt
+graphing_keeps (a ∷ []) = tt
+graphing_keeps (a ∷ b ∷ []) = choice (is_file a && is_file b) _ _ tt tt
+graphing_keeps (a ∷ b ∷ c ∷ words) = tt
 
-replaying_has : (words : List (List ℕ)) → HasTwoNames (replaying_of words)
+graph_reading_keeps : (words : List (List ℕ)) → Keeps (graph_reading_of words)
+unfolding graph_reading_of
+graph_reading_keeps [] = tt
+graph_reading_keeps (a ∷ []) = tt
+graph_reading_keeps (a ∷ b ∷ []) = choice (is_file a && is_file b) _ _ tt tt
+graph_reading_keeps (a ∷ b ∷ c ∷ words) = tt
+
+version_keeps : (words : List (List ℕ)) → Keeps (version_of words)
+version_keeps [] = tt
+version_keeps (word ∷ words) = tt
+
+replay_keeps : (pair : Option Pair) (schedule : List ℕ) (waves : Option (List ℕ)) → Keeps (replay_over pair schedule waves)
+replay_keeps None schedule waves = tt
+replay_keeps (Some pair) schedule waves = choice (is_file schedule) _ _ tt tt
+
+replaying_keeps : (words : List (List ℕ)) → Keeps (replaying_of words)
 unfolding replaying_of
-replaying_has [] = none_has
-replaying_has (a ∷ []) = none_has
-replaying_has (a ∷ b ∷ []) = none_has
-replaying_has (a ∷ b ∷ c ∷ []) = none_has
-replaying_has (a ∷ b ∷ c ∷ d ∷ []) = replay_has (pair_of (a ∷ b ∷ c ∷ [])) d None
-replaying_has (a ∷ b ∷ c ∷ d ∷ e ∷ words) = none_has
+replaying_keeps [] = tt
+replaying_keeps (a ∷ []) = tt
+replaying_keeps (a ∷ b ∷ []) = tt
+replaying_keeps (a ∷ b ∷ c ∷ []) = tt
+replaying_keeps (a ∷ b ∷ c ∷ d ∷ []) = replay_keeps (pair_of (a ∷ b ∷ c ∷ [])) d None
+replaying_keeps (a ∷ b ∷ c ∷ d ∷ e ∷ words) = tt
 
-waving_has : (words : List (List ℕ)) → HasTwoNames (waving_of words)
+waving_keeps : (words : List (List ℕ)) → Keeps (waving_of words)
 unfolding waving_of
-waving_has [] = none_has
-waving_has (a ∷ []) = none_has
-waving_has (a ∷ b ∷ []) = none_has
-waving_has (a ∷ b ∷ c ∷ []) = none_has
-waving_has (a ∷ b ∷ c ∷ d ∷ []) = none_has
-waving_has (a ∷ b ∷ c ∷ d ∷ e ∷ []) = choice_has (is_file e) _ _ (replay_has (pair_of (a ∷ b ∷ c ∷ [])) d (Some e)) none_has
-waving_has (a ∷ b ∷ c ∷ d ∷ e ∷ f ∷ words) = none_has
+waving_keeps [] = tt
+waving_keeps (a ∷ []) = tt
+waving_keeps (a ∷ b ∷ []) = tt
+waving_keeps (a ∷ b ∷ c ∷ []) = tt
+waving_keeps (a ∷ b ∷ c ∷ d ∷ []) = tt
+waving_keeps (a ∷ b ∷ c ∷ d ∷ e ∷ []) = choice (is_file e) _ _ (replay_keeps (pair_of (a ∷ b ∷ c ∷ [])) d (Some e)) tt
+waving_keeps (a ∷ b ∷ c ∷ d ∷ e ∷ f ∷ words) = tt
+
+first_of : (x y : Bool) → (x && y) ≡ true → x ≡ true
+first_of true y e = refl
+first_of false y e = absurd cc
 
 last_of : (x y : Bool) → (x && y) ≡ true → y ≡ true
 last_of true y e = e
@@ -136,69 +115,150 @@ not_same : (b : Bool) → not b ≡ true → b ≡ true → ⊥
 not_same true e f = absurd cc
 not_same false e f = absurd cc
 
-made_has : (form : Form) (size version most : ℕ) (a b c : List ℕ) (test : Bool) → (test ≡ true → b ≢ c) → HasTwoNames (cond test (Some (Harden (record { original = a; hardened = b; certificate = c; form = form; size = size; version = version; most = most }))) None)
-made_has form size version most a b c false differ w is = absurd cc
-made_has form size version most a b c true differ w is = λ same.
-    let one : b ≡ w.hardened = cc in
-    let two : c ≡ w.certificate = cc in
-    differ refl (one ∙ (same ∙ sym two))
+-- two texts of which the test says that they differ
+differ : (a b : List ℕ) → not (bytes_eq a b) ≡ true → a ≢ b
+differ a b e same = not_same (bytes_eq a b) e (eq_true a b same)
 
-with_has : (form : Form) (size version most : ℕ) (words : List (List ℕ)) → HasTwoNames (hardening_with form size version most words)
+-- ---- hardening
+
+made_keeps : (form : Form) (size version most : ℕ) (a b c : List ℕ) (test : Bool) → (test ≡ true → b ≢ c) → Keeps (cond test (Some (Harden (record { original = a; hardened = b; certificate = c; form = form; size = size; version = version; most = most }))) None)
+made_keeps form size version most a b c false differ = tt
+made_keeps form size version most a b c true differ = differ refl
+
+with_keeps : (form : Form) (size version most : ℕ) (words : List (List ℕ)) → Keeps (hardening_with form size version most words)
 unfolding hardening_with
-with_has form size version most [] = none_has
-with_has form size version most (a ∷ []) = none_has
-with_has form size version most (a ∷ b ∷ []) = none_has
-with_has form size version most (a ∷ b ∷ c ∷ []) =
-    made_has form size version most a b c (is_file a && is_file b && is_file c && not (bytes_eq b c))
-    (λ test same. not_same (bytes_eq b c) (last_of (is_file a && is_file b && is_file c) (not (bytes_eq b c)) test) (eq_true b c same))
-with_has form size version most (a ∷ b ∷ c ∷ d ∷ words) = none_has
+with_keeps form size version most [] = tt
+with_keeps form size version most (a ∷ []) = tt
+with_keeps form size version most (a ∷ b ∷ []) = tt
+with_keeps form size version most (a ∷ b ∷ c ∷ []) =
+    made_keeps form size version most a b c (is_file a && is_file b && is_file c && not (bytes_eq b c))
+    (λ test. differ b c (last_of (is_file a && is_file b && is_file c) (not (bytes_eq b c)) test))
+with_keeps form size version most (a ∷ b ∷ c ∷ d ∷ words) = tt
 
-form_has : (form : Form) (words : Words) → HasTwoNames (hardening_as form words)
+form_keeps : (form : Form) (words : Words) → Keeps (hardening_as form words)
 unfolding hardening_as
-form_has form words = by_size (said positive_number 64 words.sizes)
+form_keeps form words = by_size (said positive_number 64 words.sizes)
   where
-    by_most : (size version : ℕ) (o : Option ℕ) → HasTwoNames (option_and_then (λ most. hardening_with form size version most words.plain) o)
-    by_most size version None = none_has
-    by_most size version (Some most) = with_has form size version most words.plain
+    by_most : (size version : ℕ) (o : Option ℕ) → Keeps (option_and_then (λ most. hardening_with form size version most words.plain) o)
+    by_most size version None = tt
+    by_most size version (Some most) = with_keeps form size version most words.plain
 
-    by_version : (size : ℕ) (o : Option ℕ) → HasTwoNames (option_and_then (λ version. option_and_then (λ most. hardening_with form size version most words.plain) (said positive_number 4294967295 words.depths)) o)
-    by_version size None = none_has
+    by_version : (size : ℕ) (o : Option ℕ) → Keeps (option_and_then (λ version. option_and_then (λ most. hardening_with form size version most words.plain) (said positive_number 4294967295 words.depths)) o)
+    by_version size None = tt
     by_version size (Some version) = by_most size version (said positive_number 4294967295 words.depths)
 
-    by_size : (o : Option ℕ) → HasTwoNames (option_and_then (λ size. option_and_then (λ version. option_and_then (λ most. hardening_with form size version most words.plain) (said positive_number 4294967295 words.depths)) (said version_number 1 words.versions)) o)
-    by_size None = none_has
+    by_size : (o : Option ℕ) → Keeps (option_and_then (λ size. option_and_then (λ version. option_and_then (λ most. hardening_with form size version most words.plain) (said positive_number 4294967295 words.depths)) (said version_number 1 words.versions)) o)
+    by_size None = tt
     by_size (Some size) = by_version size (said version_number 1 words.versions)
 
-hardening_has : (words : Words) → HasTwoNames (hardening_of words)
+hardening_keeps : (words : Words) → Keeps (hardening_of words)
 unfolding hardening_of
-hardening_has words = by_form (said form_named Plain words.forms)
+hardening_keeps words = by_form (said form_named Plain words.forms)
   where
-    by_form : (o : Option Form) → HasTwoNames (option_and_then (λ form. hardening_as form words) o)
-    by_form None = none_has
-    by_form (Some form) = form_has form words
+    by_form : (o : Option Form) → Keeps (option_and_then (λ form. hardening_as form words) o)
+    by_form None = tt
+    by_form (Some form) = form_keeps form words
 
-hardened_has : (words : Option Words) → HasTwoNames (of_words hardening_of words)
-hardened_has None = none_has
-hardened_has (Some words) = hardening_has words
+-- ---- certifying
 
-plain_has : (meant : List (List ℕ) → Option Command) → ((words : List (List ℕ)) → HasTwoNames (meant words)) → (words : Option Words) → HasTwoNames (of_plain meant words)
-plain_has meant each None = none_has
-plain_has meant each (Some words) = choice_has (has_no_options words) _ _ (each words.plain) none_has
+IsApart : Option Certifying → Type 0
+IsApart None = Unit {0}
+IsApart (Some w) = (w.certificate ≢ w.original) × (w.certificate ≢ w.hardened)
 
-pub two_names : (words : List (List ℕ)) → HasTwoNames (line_of words)
+found_apart : (version : ℕ) (a b c : List ℕ) (files : Bool) (test : Bool) → (test ≡ true → (c ≢ a) × (c ≢ b)) → IsApart (cond test (Some (record { original = a; hardened = b; certificate = c; version = version })) None)
+found_apart version a b c files false both = tt
+found_apart version a b c files true both = both refl
+
+certify_apart : (version : ℕ) (words : List (List ℕ)) → IsApart (certifying_with version words)
+unfolding certifying_with
+certify_apart version [] = tt
+certify_apart version (a ∷ []) = tt
+certify_apart version (a ∷ b ∷ []) = tt
+certify_apart version (a ∷ b ∷ c ∷ []) =
+    found_apart version a b c true (is_file a && is_file b && is_file c && not (bytes_eq c a) && not (bytes_eq c b))
+    (λ test. (differ c a (last_of (is_file a && is_file b && is_file c) (not (bytes_eq c a)) (first_of (is_file a && is_file b && is_file c && not (bytes_eq c a)) (not (bytes_eq c b)) test)))
+    , differ c b (last_of (is_file a && is_file b && is_file c && not (bytes_eq c a)) (not (bytes_eq c b)) test))
+certify_apart version (a ∷ b ∷ c ∷ d ∷ words) = tt
+
+certifying_apart : (words : Words) → IsApart (certifying_of words)
+unfolding certifying_of
+certifying_apart words = go (has_versions_alone words) (said version_number 1 words.versions)
+  where
+    go : (b : Bool) (o : Option ℕ) → IsApart (cond b (option_and_then (λ version. certifying_with version words.plain) o) None)
+    go false o = tt
+    go true None = tt
+    go true (Some version) = certify_apart version words.plain
+
+found_keeps : (o : Option Certifying) → IsApart o → Keeps (option_map Certify o)
+found_keeps None apart = tt
+found_keeps (Some w) apart = apart
+
+-- ---- all commands
+
+plain_keeps : (name : Topic) (words : List (List ℕ)) → Keeps (plain_meaning name words)
+unfolding plain_meaning
+plain_keeps topic.Validate words = mapped Validate (λ p. tt) (pair_of words)
+plain_keeps topic.Harden words = tt
+plain_keeps topic.Flatten words = flattening_keeps words
+plain_keeps topic.Replay words = replaying_keeps words
+plain_keeps topic.Report words = mapped Report (λ p. tt) (pair_of words)
+plain_keeps topic.Trial words = mapped TryOut (λ t. tt) (trial_of words)
+plain_keeps topic.Guard words = mapped Guard (λ g. tt) (guarding_of words)
+plain_keeps topic.CheckGuard words = mapped CheckGuard (λ g. tt) (guarding_of words)
+plain_keeps topic.WriteGraph words = graphing_keeps words
+plain_keeps topic.ReadGraph words = graph_reading_keeps words
+plain_keeps topic.Wave words = waving_keeps words
+plain_keeps topic.Certify words = tt
+plain_keeps topic.Exposure words = mapped Exposure (λ p. tt) (pair_of words)
+plain_keeps topic.Sweep words = tt
+plain_keeps topic.Explain words = mapped Explain (λ p. tt) (pair_of words)
+plain_keeps topic.Campaign words = mapped Campaign (λ w. tt) (campaigning_of words)
+plain_keeps topic.Picture words = mapped Picture (λ w. tt) (picturing_of words)
+plain_keeps topic.Help words = mapped Help (λ t. tt) (help_of words)
+plain_keeps topic.Version words = version_keeps words
+
+without_options : (name : Topic) (words : Words) → Keeps (cond (has_no_options words) (plain_meaning name words.plain) None)
+without_options name words = choice (has_no_options words) _ _ (plain_keeps name words.plain) tt
+
+command_keeps : (name : Topic) (words : Words) → Keeps (meaning_of name words)
+unfolding meaning_of
+command_keeps topic.Validate words = without_options topic.Validate words
+command_keeps topic.Harden words = hardening_keeps words
+command_keeps topic.Flatten words = without_options topic.Flatten words
+command_keeps topic.Replay words = without_options topic.Replay words
+command_keeps topic.Report words = without_options topic.Report words
+command_keeps topic.Trial words = without_options topic.Trial words
+command_keeps topic.Guard words = without_options topic.Guard words
+command_keeps topic.CheckGuard words = without_options topic.CheckGuard words
+command_keeps topic.WriteGraph words = without_options topic.WriteGraph words
+command_keeps topic.ReadGraph words = without_options topic.ReadGraph words
+command_keeps topic.Wave words = without_options topic.Wave words
+command_keeps topic.Certify words = found_keeps (certifying_of words) (certifying_apart words)
+command_keeps topic.Exposure words = without_options topic.Exposure words
+command_keeps topic.Sweep words = mapped Sweep (λ w. tt) (sweeping_of words)
+command_keeps topic.Explain words = without_options topic.Explain words
+command_keeps topic.Campaign words = without_options topic.Campaign words
+command_keeps topic.Picture words = without_options topic.Picture words
+command_keeps topic.Help words = without_options topic.Help words
+command_keeps topic.Version words = without_options topic.Version words
+
+line_keeps : (words : List (List ℕ)) → Keeps (line_of words)
 unfolding line_of
-two_names [] = none_has
-two_names (command ∷ words) =
-    choice_has (bytes_eq command (codes "validate")) _ _ (plain_has (over_pair Validate) validate_has (words_of words))
-    (choice_has (bytes_eq command (codes "harden")) _ _ (hardened_has (words_of words))
-    (choice_has (bytes_eq command (codes "flatten")) _ _ (plain_has flattening_of flattening_has (words_of words))
-    (choice_has (bytes_eq command (codes "replay")) _ _ (plain_has replaying_of replaying_has (words_of words))
-    (choice_has (bytes_eq command (codes "report")) _ _ (plain_has (over_pair Report) report_has (words_of words))
-    (choice_has (bytes_eq command (codes "trial")) _ _ (plain_has over_trial trial_has (words_of words))
-    (choice_has (bytes_eq command (codes "guard")) _ _ (plain_has (over_guarding Guard) guard_has (words_of words))
-    (choice_has (bytes_eq command (codes "guarded")) _ _ (plain_has (over_guarding CheckGuard) guarded_has (words_of words))
-    (choice_has (bytes_eq command (codes "to-aag")) _ _ (plain_has graphing_of graphing_has (words_of words))
-    (choice_has (bytes_eq command (codes "from-aag")) _ _ (plain_has graph_reading_of graph_reading_has (words_of words))
-    (choice_has (bytes_eq command (codes "wave")) _ _ (plain_has waving_of waving_has (words_of words))
-    (choice_has (bytes_eq command (codes "help")) _ _ (plain_has over_help help_has (words_of words))
-    (choice_has (bytes_eq command (codes "version")) _ _ (plain_has version_of version_has (words_of words)) none_has))))))))))))
+line_keeps [] = tt
+line_keeps (command ∷ words) = by_name (topic_of command)
+  where
+    by_words : (name : Topic) (o : Option Words) → Keeps (option_and_then (meaning_of name) o)
+    by_words name None = tt
+    by_words name (Some read) = command_keeps name read
+
+    by_name : (o : Option Topic) → Keeps (option_and_then (λ name. option_and_then (meaning_of name) (words_of words)) o)
+    by_name None = tt
+    by_name (Some name) = by_words name (words_of words)
+
+-- a hardening saves under two names
+pub two_names : (words : List (List ℕ)) (w : Hardening) → line_of words ≡ Some (Harden w) → w.hardened ≢ w.certificate
+two_names words w is = subst Keeps is (line_keeps words)
+
+-- a certificate that is found is saved under the name of neither design
+pub name_apart : (words : List (List ℕ)) (w : Certifying) → line_of words ≡ Some (Certify w) → (w.certificate ≢ w.original) × (w.certificate ≢ w.hardened)
+name_apart words w is = subst Keeps is (line_keeps words)

@@ -10,9 +10,15 @@ use Rattle.tmr_words.specs.declared.harden_words.HardenWords.{HardenWords}
 use Rattle.tmr_words.specs.declared.line.GuardWords.{GuardWords}
 use Rattle.tmr_words.specs.declared.line.GraphWords.{GraphWords}
 use Rattle.tmr_words.specs.declared.line.GraphReadWords.{GraphReadWords}
+use Rattle.tmr_words.specs.declared.certify_words.CertifyWords.{CertifyWords}
+use Rattle.tmr_words.specs.declared.sweep_words.SweepWords.{SweepWords}
+use Rattle.tmr_words.specs.declared.campaign_words.CampaignWords.{CampaignWords}
+use Rattle.tmr_words.specs.declared.picture_words.PictureWords.{PictureWords}
 use Rattle.tmr_words.specs.declared.line.CommandWords.{CommandWords}
 use Rattle.tmr_words.specs.declared.line.CommandWords.TheVariants as words
-use Rattle.tmr_words.specs.Line.{Pair, Hardening, Flattening, Replaying, Guarding, Graphing, GraphReading, Command, Validate, Harden, Flatten, Replay, Report, Guard, CheckGuard, WriteGraph, ReadGraph, TryOut, Help, Version}
+use Rattle.tmr_words.specs.Line.{Pair, Hardening, Flattening, Replaying, Guarding, Graphing, GraphReading, Certifying, Sweeping, Campaigning, Picturing}
+use Rattle.tmr_words.specs.Line.{Command, Validate, Harden, Flatten, Replay, Report, Guard, CheckGuard, WriteGraph, ReadGraph, TryOut, Help, Version}
+use Rattle.tmr_words.specs.Line.{Certify, Exposure, Sweep, Explain, Campaign, Picture}
 use Rattle.tmr_words.specs.TrialWords.{trial_in}
 
 abbrev pub pair_in : PairWords → Pair
@@ -47,6 +53,23 @@ word_in word = option_map (λ w. w.now) word
 abbrev pub replaying_in : ReplayWords → Replaying
 replaying_in words = record { pair = pair_in words.pair; schedule = words.schedule.now; waves = word_in words.waves }
 
+abbrev pub certifying_in : CertifyWords → Certifying
+certifying_in words = record {
+  original = words.original.now;
+  hardened = words.hardened.now;
+  certificate = words.certificate.now;
+  version = words.version;
+}
+
+abbrev pub sweeping_in : SweepWords → Sweeping
+sweeping_in words = record { original = words.original.now; form = words.form; version = words.version; most = words.most }
+
+abbrev pub campaigning_in : CampaignWords → Campaigning
+campaigning_in words = record { pair = pair_in words.pair; number = words.number; cycles = words.cycles; near = words.near }
+
+abbrev pub picturing_in : PictureWords → Picturing
+picturing_in words = record { pair = pair_in words.pair; picture = words.picture.now }
+
 abbrev pub command_in : CommandWords → Command
 command_in (words.Validate pair) = Validate (pair_in pair)
 command_in (words.Harden harden) = Harden (hardening_in harden)
@@ -58,6 +81,12 @@ command_in (words.CheckGuard guard) = CheckGuard (guarding_in guard)
 command_in (words.WriteGraph graph) = WriteGraph (graphing_in graph)
 command_in (words.ReadGraph graph) = ReadGraph (graph_reading_in graph)
 command_in (words.Trial trial) = TryOut (trial_in trial)
+command_in (words.Certify certify) = Certify (certifying_in certify)
+command_in (words.Exposure pair) = Exposure (pair_in pair)
+command_in (words.Sweep sweep) = Sweep (sweeping_in sweep)
+command_in (words.Explain pair) = Explain (pair_in pair)
+command_in (words.Campaign campaign) = Campaign (campaigning_in campaign)
+command_in (words.Picture picture) = Picture (picturing_in picture)
 command_in (words.Help topic) = Help topic
 command_in words.Version = Version
 

@@ -1,7 +1,8 @@
+pub mod Campaigns
+pub mod FileWords
+pub mod Line
+pub mod Topics
+pub mod TrialWords
+pub mod Trials
 pub mod Words
 pub mod WordsRead
-pub mod Trials
-pub mod TrialWords
-pub mod Topics
-pub mod Line
-pub mod FileWords

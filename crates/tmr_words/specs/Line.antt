@@ -1,15 +1,17 @@
 -- What the words of a command line mean.
-use Rattle.std.specs.Prelude.{ℕ, ◌&&◌, nat_lt, nat_eq, not, Bool, List, [], ◌∷◌, length, Option, Some, None, codes, String, if◌then◌else◌}
+use Rattle.std.specs.Prelude.{ℕ, ◌&&◌, nat_lt, nat_eq, not, Bool, true, false, List, [], ◌∷◌, length, Option, Some, None, codes, String, if◌then◌else◌}
 use Rattle.std.specs.Option.{option_and_then, option_map}
 use Rattle.std.specs.Str.{bytes_eq}
 use Rattle.std.specs.declared.alloc.Global.{Global}
 use Rattle.tmr_base.specs.Numbers.{number_of}
 use Rattle.triplicate.specs.declared.form.Form.{Form}
 use Rattle.triplicate.specs.declared.form.Form.TheVariants.{Plain, Lean}
-use Rattle.tmr_words.specs.Words.{texts, Words, has_no_options, words_of}
+use Rattle.tmr_words.specs.Words.{texts, Words, has_no_options, has_versions_alone, has_no_sizes, words_of}
 use Rattle.tmr_words.specs.Trials.{Trial, trial_of}
+use Rattle.tmr_words.specs.Campaigns.{cycles_number}
 use Rattle.tmr_words.specs.declared.topic.Topic.{Topic}
-use Rattle.tmr_words.specs.Topics.{help_of}
+use Rattle.tmr_words.specs.declared.topic.Topic.TheVariants as topic
+use Rattle.tmr_words.specs.Topics.{topic_of, help_of}
 
 -- the three files of `validate ORIG HARD CERT` and of `report ORIG HARD CERT`
 pub record Pair : Type 0 where
@@ -53,6 +55,33 @@ pub record GraphReading : Type 0 where
   pub graph : List ℕ
   pub flat : List ℕ
 
+-- the three files of `certify ORIG HARD CERT`, and the version of the certificate
+pub record Certifying : Type 0 where
+  pub original : List ℕ
+  pub hardened : List ℕ
+  pub certificate : List ℕ
+  pub version : ℕ
+
+-- the file of `sweep ORIG`, the form, the version of the certificate, and the most that a depth may be
+pub record Sweeping : Type 0 where
+  pub original : List ℕ
+  pub form : Form
+  pub version : ℕ
+  pub most : ℕ
+
+-- the files of `campaign ORIG HARD CERT NUMBER CYCLES`, the number that schedules are drawn from, how many cycles each has, and whether
+-- `near` stands behind them
+pub record Campaigning : Type 0 where
+  pub pair : Pair
+  pub number : ℕ
+  pub cycles : ℕ
+  pub near : Bool
+
+-- the files of `picture ORIG HARD CERT DOT`, which saves the picture as DOT
+pub record Picturing : Type 0 where
+  pub pair : Pair
+  pub picture : List ℕ
+
 -- what the words of a command line can mean; `help` without a word has no topic
 pub data Command : Type 0 where
   Validate : Pair → Command
@@ -65,6 +94,12 @@ pub data Command : Type 0 where
   CheckGuard : Guarding → Command
   WriteGraph : Graphing → Command
   ReadGraph : GraphReading → Command
+  Certify : Certifying → Command
+  Exposure : Pair → Command
+  Sweep : Sweeping → Command
+  Explain : Pair → Command
+  Campaign : Campaigning → Command
+  Picture : Picturing → Command
   Help : Option Topic → Command
   Version : Command
 
@@ -174,32 +209,94 @@ hardening_as form words =
 unfoldable pub hardening_of : Words → Option Command
 hardening_of words = option_and_then (λ form. hardening_as form words) (said form_named Plain words.forms)
 
-abbrev pub of_words : (Words → Option Command) → Option Words → Option Command
-of_words meaning None = None
-of_words meaning (Some words) = meaning words
+-- the certificate has another name than the two designs, which are read
+unfoldable pub certifying_with : ℕ → List (List ℕ) → Option Certifying
+certifying_with version (original ∷ hardened ∷ certificate ∷ []) =
+    if is_file original && is_file hardened && is_file certificate && not (bytes_eq certificate original) && not (bytes_eq certificate hardened)
+    then Some (record { original = original; hardened = hardened; certificate = certificate; version = version })
+    else None
+certifying_with version words = None
 
--- a command without options
-abbrev pub of_plain : (List (List ℕ) → Option Command) → Option Words → Option Command
-of_plain meaning = of_words (λ words. if has_no_options words then meaning words.plain else None)
+-- its one option is the version, which is 1 where it is not said
+unfoldable pub certifying_of : Words → Option Certifying
+certifying_of words =
+    if has_versions_alone words
+    then option_and_then (λ version. certifying_with version words.plain) (said version_number 1 words.versions)
+    else None
+
+unfoldable pub sweeping_with : Form → ℕ → ℕ → List (List ℕ) → Option Sweeping
+sweeping_with form version most (original ∷ []) =
+    if is_file original then Some (record { original = original; form = form; version = version; most = most }) else None
+sweeping_with form version most words = None
+
+-- a sweep of this form; without the other options the version is 1, and a depth may be any
+unfoldable pub sweeping_as : Form → Words → Option Sweeping
+sweeping_as form words =
+    option_and_then (λ version. option_and_then (λ most. sweeping_with form version most words.plain)
+    (said positive_number 4294967295 words.depths)) (said version_number 1 words.versions)
+
+-- a sweep goes over the sizes, so none is said; without the option the form is plain
+unfoldable pub sweeping_of : Words → Option Sweeping
+sweeping_of words =
+    if has_no_sizes words then option_and_then (λ form. sweeping_as form words) (said form_named Plain words.forms) else None
+
+-- a campaign over a pair, from a number below 2^64, with 1 to 100,000 cycles
+unfoldable pub campaign_over : Option Pair → List ℕ → List ℕ → Bool → Option Campaigning
+campaign_over None number cycles near = None
+campaign_over (Some pair) number cycles near =
+    option_and_then (λ n. option_map (λ t. record { pair = pair; number = n; cycles = t; near = near }) (cycles_number cycles)) (number_of 64 number)
+
+-- a sixth word can be `near` alone
+unfoldable pub campaigning_of : List (List ℕ) → Option Campaigning
+campaigning_of (original ∷ hardened ∷ certificate ∷ number ∷ cycles ∷ []) =
+    campaign_over (pair_of (original ∷ hardened ∷ certificate ∷ [])) number cycles false
+campaigning_of (original ∷ hardened ∷ certificate ∷ number ∷ cycles ∷ near ∷ []) =
+    if bytes_eq near (codes "near") then campaign_over (pair_of (original ∷ hardened ∷ certificate ∷ [])) number cycles true else None
+campaigning_of words = None
+
+unfoldable pub picturing_of : List (List ℕ) → Option Picturing
+picturing_of (original ∷ hardened ∷ certificate ∷ picture ∷ []) =
+    if is_file picture
+    then option_map (λ pair. record { pair = pair; picture = picture }) (pair_of (original ∷ hardened ∷ certificate ∷ []))
+    else None
+picturing_of words = None
+
+-- what the words mean behind the name of a command that has no options
+unfoldable pub plain_meaning : Topic → List (List ℕ) → Option Command
+plain_meaning topic.Validate words = over_pair Validate words
+plain_meaning topic.Harden words = None
+plain_meaning topic.Flatten words = flattening_of words
+plain_meaning topic.Replay words = replaying_of words
+plain_meaning topic.Report words = over_pair Report words
+plain_meaning topic.Trial words = over_trial words
+plain_meaning topic.Guard words = over_guarding Guard words
+plain_meaning topic.CheckGuard words = over_guarding CheckGuard words
+plain_meaning topic.WriteGraph words = graphing_of words
+plain_meaning topic.ReadGraph words = graph_reading_of words
+plain_meaning topic.Wave words = waving_of words
+plain_meaning topic.Certify words = None
+plain_meaning topic.Exposure words = over_pair Exposure words
+plain_meaning topic.Sweep words = None
+plain_meaning topic.Explain words = over_pair Explain words
+plain_meaning topic.Campaign words = option_map Campaign (campaigning_of words)
+plain_meaning topic.Picture words = option_map Picture (picturing_of words)
+plain_meaning topic.Help words = over_help words
+plain_meaning topic.Version words = version_of words
+
+-- what the words mean behind the name of a command
+unfoldable pub meaning_of : Topic → Words → Option Command
+meaning_of topic.Harden words = hardening_of words
+meaning_of topic.Certify words = option_map Certify (certifying_of words)
+meaning_of topic.Sweep words = option_map Sweep (sweeping_of words)
+meaning_of name words = if has_no_options words then plain_meaning name words.plain else None
+
+abbrev pub named_meaning : Topic → List (List ℕ) → Option Command
+named_meaning name words = option_and_then (meaning_of name) (words_of words)
 
 -- what the words mean: a command with its files and options, or nothing
 unfoldable pub line_of : List (List ℕ) → Option Command
 line_of [] = None
-line_of (command ∷ words) =
-    if bytes_eq command (codes "validate") then of_plain (over_pair Validate) (words_of words)
-    else if bytes_eq command (codes "harden") then of_words hardening_of (words_of words)
-    else if bytes_eq command (codes "flatten") then of_plain flattening_of (words_of words)
-    else if bytes_eq command (codes "replay") then of_plain replaying_of (words_of words)
-    else if bytes_eq command (codes "report") then of_plain (over_pair Report) (words_of words)
-    else if bytes_eq command (codes "trial") then of_plain over_trial (words_of words)
-    else if bytes_eq command (codes "guard") then of_plain (over_guarding Guard) (words_of words)
-    else if bytes_eq command (codes "guarded") then of_plain (over_guarding CheckGuard) (words_of words)
-    else if bytes_eq command (codes "to-aag") then of_plain graphing_of (words_of words)
-    else if bytes_eq command (codes "from-aag") then of_plain graph_reading_of (words_of words)
-    else if bytes_eq command (codes "wave") then of_plain waving_of (words_of words)
-    else if bytes_eq command (codes "help") then of_plain over_help (words_of words)
-    else if bytes_eq command (codes "version") then of_plain version_of (words_of words)
-    else None
+line_of (command ∷ words) = option_and_then (λ name. named_meaning name words) (topic_of command)
 
 -- what the words of a command line mean
 abbrev pub meaning : List (String Global) → Option Command

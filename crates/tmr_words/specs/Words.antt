@@ -47,6 +47,14 @@ both these those = record {
 abbrev pub has_no_options : Words → Bool
 has_no_options words = length words.sizes == 0 && length words.versions == 0 && length words.depths == 0 && length words.forms == 0
 
+-- no option but `--cert` is given
+abbrev pub has_versions_alone : Words → Bool
+has_versions_alone words = length words.sizes == 0 && length words.depths == 0 && length words.forms == 0
+
+-- `--size` is not given
+abbrev pub has_no_sizes : Words → Bool
+has_no_sizes words = length words.sizes == 0
+
 -- how an option is written
 abbrev pub setting_text : Setting → List ℕ
 setting_text Size = codes "--size"

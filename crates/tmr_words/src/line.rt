@@ -1,22 +1,25 @@
 //! What the words of the command line mean.
-ghost use Rattle.std.specs.Prelude.{◌≡◌, ◌<◌, ◌∷◌, [], IfOk, IfSome};
+ghost use Rattle.std.specs.Prelude.{◌≡◌, ◌∷◌, [], IfOk};
 ghost use Rattle.std.specs.Option.{option_map};
 ghost use Rattle.tmr_words.specs.Words.{texts};
 ghost use Rattle.tmr_words.specs.WordsRead.{words_in};
-ghost use Rattle.tmr_words.specs.Line.{Validate, Report, Guard, CheckGuard, is_file, pair_of, over_pair, over_trial, over_help, version_of, flattening_of, guarding_of, over_guarding, graphing_of, graph_reading_of, replay_over, replaying_of, waving_of, positive_number, version_number, form_named, said, hardening_with, hardening_as, hardening_of, line_of};
+ghost use Rattle.tmr_words.specs.Line.{Validate, Report, Guard, CheckGuard, Exposure, Explain, Campaign, Picture, is_file, pair_of, over_pair, over_trial, over_help, version_of, flattening_of, guarding_of, over_guarding, graphing_of, graph_reading_of, replay_over, replaying_of, waving_of, campaigning_of, picturing_of, plain_meaning, meaning_of, line_of};
 ghost use Rattle.tmr_words.specs.FileWords.{pair_in, word_in, guarding_in, command_in, read_words as read_texts};
 
+use crate::campaign_words::{CampaignWords, read_campaigning};
+use crate::certify_words::{CertifyWords, read_certifying};
+use crate::harden_line::read_hardening;
 use crate::harden_words::HardenWords;
+use crate::picture_words::{PictureWords, read_picturing};
 use crate::replay_words::ReplayWords;
-use crate::topic::{Topic, read_help_words};
+use crate::sweep_words::{SweepWords, read_sweeping};
+use crate::topic::{Topic, read_help_words, read_topic};
 use crate::trial_line::read_trial_words;
 use crate::trial_words::TrialWords;
 use crate::words::{ReadWords, is_plain, read_words};
 use std::alloc::{AllocError, Global};
-use tmr_base::read_u32;
-use triplicate::Form;
 
-/// The three file words of `validate ORIG HARD CERT` and of `report ORIG HARD CERT`, which others
+/// The three file words of `validate ORIG HARD CERT`, `report`, `exposure` and `explain`, which others
 /// begin with.
 #[derive(Clone, Copy, Drop)]
 pub struct PairWords<'a> {
@@ -66,13 +69,19 @@ pub enum CommandWords<'a> {
     CheckGuard(GuardWords<'a>),
     WriteGraph(GraphWords<'a>),
     ReadGraph(GraphReadWords<'a>),
+    Certify(CertifyWords<'a>),
+    Exposure(PairWords<'a>),
+    Sweep(SweepWords<'a>),
+    Explain(PairWords<'a>),
+    Campaign(CampaignWords<'a>),
+    Picture(PictureWords<'a>),
     Help(Option<Topic>),
     Version,
 }
 
 /// A pair of these files, where none is empty.
 #[tactic(auto, unfolding(crate::specs::Line::pair_of))]
-fn pair_with<'a>(
+pub fn pair_with<'a>(
     original: &'a str,
     hardened: &'a str,
     certificate: &'a str,
@@ -117,6 +126,46 @@ fn read_report<'a>(plain: &[&'a str]) -> Option<CommandWords<'a>>
     match read_pair(plain) {
         None => None,
         Some(pair) => Some(CommandWords::Report(pair)),
+    }
+}
+
+/// `exposure`, where its files can be read.
+fn read_exposure<'a>(plain: &[&'a str]) -> Option<CommandWords<'a>>
+    ensures { option_map command_in result ≡ over_pair Exposure (read_texts plain.now) }
+{
+    match read_pair(plain) {
+        None => None,
+        Some(pair) => Some(CommandWords::Exposure(pair)),
+    }
+}
+
+/// `explain`, where its files can be read.
+fn read_explain<'a>(plain: &[&'a str]) -> Option<CommandWords<'a>>
+    ensures { option_map command_in result ≡ over_pair Explain (read_texts plain.now) }
+{
+    match read_pair(plain) {
+        None => None,
+        Some(pair) => Some(CommandWords::Explain(pair)),
+    }
+}
+
+/// `campaign`, where its files and numbers can be read.
+fn read_campaign<'a>(plain: &[&'a str]) -> Option<CommandWords<'a>>
+    ensures { option_map command_in result ≡ option_map Campaign (campaigning_of (read_texts plain.now)) }
+{
+    match read_campaigning(plain) {
+        None => None,
+        Some(campaign) => Some(CommandWords::Campaign(campaign)),
+    }
+}
+
+/// `picture`, where its files can be read.
+fn read_picture<'a>(plain: &[&'a str]) -> Option<CommandWords<'a>>
+    ensures { option_map command_in result ≡ option_map Picture (picturing_of (read_texts plain.now)) }
+{
+    match read_picturing(plain) {
+        None => None,
+        Some(picture) => Some(CommandWords::Picture(picture)),
     }
 }
 
@@ -301,144 +350,54 @@ fn read_waving<'a>(plain: &[&'a str]) -> Option<CommandWords<'a>>
     }
 }
 
-/// The number that an option's value writes, from 1.
-#[tactic(auto, unfolding(crate::specs::Line::positive_number))]
-fn read_positive(value: &[u8]) -> Option<u32>
-    ensures range { IfSome result (λ number. 0 < number) }
-    ensures number { result ≡ positive_number value.now }
+/// The command of this name, where it has no options, and its words can be read.
+#[tactic(auto, unfolding(crate::specs::Line::plain_meaning))]
+fn read_plain<'a>(name: Topic, plain: &[&'a str]) -> Option<CommandWords<'a>>
+    ensures { option_map command_in result ≡ plain_meaning name (read_texts plain.now) }
 {
-    match read_u32(value) {
-        None => None,
-        Some(number) => { if number == 0 { None } else { Some(number) } }
+    match name {
+        Topic::Validate => read_validate(plain),
+        Topic::Flatten => read_flattening(plain),
+        Topic::Replay => read_replaying(plain),
+        Topic::Report => read_report(plain),
+        Topic::Trial => read_trial(plain),
+        Topic::Guard => read_guard(plain),
+        Topic::CheckGuard => read_guarded(plain),
+        Topic::WriteGraph => read_graphing(plain),
+        Topic::ReadGraph => read_graph_reading(plain),
+        Topic::Wave => read_waving(plain),
+        Topic::Exposure => read_exposure(plain),
+        Topic::Explain => read_explain(plain),
+        Topic::Campaign => read_campaign(plain),
+        Topic::Picture => read_picture(plain),
+        Topic::Help => read_help(plain),
+        Topic::Version => read_version_line(plain),
+        Topic::Harden | Topic::Certify | Topic::Sweep => None,
     }
 }
 
-/// The version that an option's value writes.
-#[tactic(auto, unfolding(crate::specs::Line::version_number))]
-fn read_version(value: &[u8]) -> Option<u8>
-    ensures range { IfSome result (λ version. (0 < version) × (version < 3)) }
-    ensures number { result ≡ version_number value.now }
+/// The command of this name, where its options and words can be read.
+#[tactic(auto, unfolding(crate::specs::Line::meaning_of))]
+fn read_command<'a>(name: Topic, words: &ReadWords<'a>) -> Option<CommandWords<'a>>
+    ensures { option_map command_in result ≡ meaning_of name (words_in words.now) }
 {
-    if value == b"1".as_slice() {
-        return Some(1);
-    }
-    if value == b"2".as_slice() {
-        return Some(2);
-    }
-    None
-}
-
-/// The form that an option's value names.
-#[tactic(auto, unfolding(crate::specs::Line::form_named))]
-fn read_form(value: &[u8]) -> Option<Form>
-    ensures { result ≡ form_named value.now }
-{
-    if value == b"plain".as_slice() {
-        return Some(Form::Plain);
-    }
-    if value == b"lean".as_slice() {
-        return Some(Form::Lean);
-    }
-    None
-}
-
-/// What an option says that is given at most once; where it is not given, this number.
-fn said_number(default: u32, values: &[&[u8]]) -> Option<u32>
-    requires { 0 < default }
-    ensures range { IfSome result (λ number. 0 < number) }
-    ensures said { result ≡ said positive_number default (read_texts values.now) }
-{
-    match values {
-        [] => Some(default),
-        [value] => read_positive(value),
-        _ => None,
-    }
-}
-
-/// The version that is said; without the option it is 1.
-fn said_version(values: &[&[u8]]) -> Option<u8>
-    ensures range { IfSome result (λ version. (0 < version) × (version < 3)) }
-    ensures said { result ≡ said version_number 1 (read_texts values.now) }
-{
-    match values {
-        [] => Some(1),
-        [value] => read_version(value),
-        _ => None,
-    }
-}
-
-/// The form that is said; without the option it is the plain one.
-fn said_form(values: &[&[u8]]) -> Option<Form>
-    ensures { result ≡ said form_named Form.Plain (read_texts values.now) }
-{
-    match values {
-        [] => Some(Form::Plain),
-        [value] => read_form(value),
-        _ => None,
-    }
-}
-
-/// `harden`, where there are three words, none is empty, and the last two differ.
-#[tactic(auto, unfolding(crate::specs::Line::hardening_with))]
-fn hardening_words<'a>(
-    form: Form,
-    size: u32,
-    version: u8,
-    most: u32,
-    plain: &[&'a str],
-) -> Option<CommandWords<'a>>
-    requires size { 0 < size }
-    requires version { (0 < version) × (version < 3) }
-    requires most { 0 < most }
-    ensures { option_map command_in result ≡ hardening_with form size version most (read_texts plain.now) }
-{
-    match plain {
-        [original, hardened, certificate] => {
-            if original.is_empty() || hardened.is_empty() || certificate.is_empty() {
-                return None;
-            }
-            if hardened == certificate {
-                return None;
-            }
-            Some(CommandWords::Harden(HardenWords {
-                original: *original,
-                hardened: *hardened,
-                certificate: *certificate,
-                form,
-                size,
-                version,
-                most,
-            }))
-        }
-        _ => None,
-    }
-}
-
-/// `harden` of this form, where its other options and its files can be read.
-#[tactic(auto, unfolding(crate::specs::Line::hardening_as))]
-fn read_hardening_of<'a>(words: &ReadWords<'a>, form: Form) -> Option<CommandWords<'a>>
-    ensures { option_map command_in result ≡ hardening_as form (words_in words.now) }
-{
-    match said_number(64, words.sizes.as_slice()) {
-        None => None,
-        Some(size) => match said_version(words.versions.as_slice()) {
+    match name {
+        Topic::Harden => read_hardening(words),
+        Topic::Certify => match read_certifying(words) {
             None => None,
-            Some(version) => match said_number(4294967295, words.depths.as_slice()) {
-                None => None,
-                Some(most) => hardening_words(form, size, version, most, words.plain.as_slice()),
-            },
+            Some(certify) => Some(CommandWords::Certify(certify)),
         },
-    }
-}
-
-/// `harden`, where its options and files can be read.
-#[tactic(auto, unfolding(crate::specs::Line::hardening_of))]
-fn read_hardening<'a>(words: &ReadWords<'a>) -> Option<CommandWords<'a>>
-    ensures { option_map command_in result ≡ hardening_of (words_in words.now) }
-{
-    match said_form(words.forms.as_slice()) {
-        None => None,
-        Some(form) => read_hardening_of(words, form),
+        Topic::Sweep => match read_sweeping(words) {
+            None => None,
+            Some(sweep) => Some(CommandWords::Sweep(sweep)),
+        },
+        _ => {
+            if is_plain(words) {
+                read_plain(name, words.plain.as_slice())
+            } else {
+                None
+            }
+        }
     }
 }
 
@@ -453,50 +412,11 @@ pub fn read_line<'a>(
     let Some((command, rest)) = words.split_first() else {
         return Ok(None);
     };
+    let Some(name) = read_topic(command.as_str()) else {
+        return Ok(None);
+    };
     let Some(read) = read_words(alloc, rest)? else {
         return Ok(None);
     };
-    if command.as_str() == "harden" {
-        return Ok(read_hardening(&read));
-    }
-    if !is_plain(&read) {
-        return Ok(None);
-    }
-    if command.as_str() == "validate" {
-        return Ok(read_validate(read.plain.as_slice()));
-    }
-    if command.as_str() == "flatten" {
-        return Ok(read_flattening(read.plain.as_slice()));
-    }
-    if command.as_str() == "replay" {
-        return Ok(read_replaying(read.plain.as_slice()));
-    }
-    if command.as_str() == "report" {
-        return Ok(read_report(read.plain.as_slice()));
-    }
-    if command.as_str() == "trial" {
-        return Ok(read_trial(read.plain.as_slice()));
-    }
-    if command.as_str() == "guard" {
-        return Ok(read_guard(read.plain.as_slice()));
-    }
-    if command.as_str() == "guarded" {
-        return Ok(read_guarded(read.plain.as_slice()));
-    }
-    if command.as_str() == "to-aag" {
-        return Ok(read_graphing(read.plain.as_slice()));
-    }
-    if command.as_str() == "from-aag" {
-        return Ok(read_graph_reading(read.plain.as_slice()));
-    }
-    if command.as_str() == "wave" {
-        return Ok(read_waving(read.plain.as_slice()));
-    }
-    if command.as_str() == "help" {
-        return Ok(read_help(read.plain.as_slice()));
-    }
-    if command.as_str() == "version" {
-        return Ok(read_version_line(read.plain.as_slice()));
-    }
-    Ok(None)
+    Ok(read_command(name, &read))
 }

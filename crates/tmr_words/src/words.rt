@@ -1,12 +1,12 @@
 //! The words behind the command word: plain words and options.
 ghost use Rattle.std.specs.Prelude.{◌≡◌, IfOk, OnOk};
 ghost use Rattle.std.specs.Option.{option_map};
-ghost use Rattle.tmr_words.specs.Words.{texts, has_no_options, setting_text, equals_text, has_dash, is_option, take_setting, take_option, take_word, at_end, both, words_of};
+ghost use Rattle.tmr_words.specs.Words.{texts, has_no_options, has_versions_alone, has_no_sizes, setting_text, equals_text, has_dash, is_option, take_setting, take_option, take_word, at_end, both, words_of};
 ghost use Rattle.tmr_words.specs.WordsRead.{words_in, item_in, taken_in};
 
 use std::alloc::{AllocError, Global};
 
-/// An option of `harden`.
+/// An option.
 #[derive(Clone, Copy, Debug, PartialEq, Eq, Drop)]
 pub enum Setting {
     Size,
@@ -57,6 +57,20 @@ pub fn is_plain(words: &ReadWords) -> bool
         && words.versions.is_empty()
         && words.depths.is_empty()
         && words.forms.is_empty()
+}
+
+/// Whether no option but `--cert` is given.
+pub fn has_versions_alone(words: &ReadWords) -> bool
+    ensures { result ≡ has_versions_alone (words_in words.now) }
+{
+    words.sizes.is_empty() && words.depths.is_empty() && words.forms.is_empty()
+}
+
+/// Whether `--size` is not given.
+pub fn has_no_sizes(words: &ReadWords) -> bool
+    ensures { result ≡ has_no_sizes (words_in words.now) }
+{
+    words.sizes.is_empty()
 }
 
 /// How an option is written, alone and before its value.

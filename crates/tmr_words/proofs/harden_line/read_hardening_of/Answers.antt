@@ -4,7 +4,7 @@ use Rattle.tmr_words.specs.WordsRead.{words_in}
 use Rattle.tmr_words.specs.FileWords.{read_words}
 use Rattle.tmr_words.specs.Line.{said, positive_number, version_number, hardening_with}
 use Rattle.tmr_words.proofs.LineLaws.{all_said}
-use Rattle.tmr_words.proofs.line.read_hardening_of.Goals as goal
+use Rattle.tmr_words.proofs.harden_line.read_hardening_of.Goals as goal
 
 pub returns-in-Some-said_number : goal.returns-in-Some-said_number
 returns-in-Some-said_number c =
