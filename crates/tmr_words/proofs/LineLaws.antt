@@ -23,7 +23,7 @@ all_said form words size version most one two three = rw (one, two, three) refl
 -- ---- files that are saved have names of their own
 
 -- a hardening saves under two names, and a certificate that is found has the name of neither design
-NamesApart : Command → Type 0
+abbrev NamesApart : Command → Type 0
 NamesApart (Harden w) = w.hardened ≢ w.certificate
 NamesApart (Certify w) = (w.certificate ≢ w.original) × (w.certificate ≢ w.hardened)
 NamesApart (Validate p) = Unit {0}
@@ -43,7 +43,7 @@ NamesApart (Picture w) = Unit {0}
 NamesApart (Help t) = Unit {0}
 NamesApart Version = Unit {0}
 
-Keeps : Option Command → Type 0
+abbrev Keeps : Option Command → Type 0
 Keeps None = Unit {0}
 Keeps (Some c) = NamesApart c
 
@@ -122,8 +122,8 @@ differ a b e same = not_same (bytes_eq a b) e (eq_true a b same)
 -- ---- hardening
 
 made_keeps : (form : Form) (size version most : ℕ) (a b c : List ℕ) (test : Bool) → (test ≡ true → b ≢ c) → Keeps (cond test (Some (Harden (record { original = a; hardened = b; certificate = c; form = form; size = size; version = version; most = most }))) None)
-made_keeps form size version most a b c false differ = tt
-made_keeps form size version most a b c true differ = differ refl
+made_keeps form size version most a b c false apart = tt
+made_keeps form size version most a b c true apart = apart refl
 
 with_keeps : (form : Form) (size version most : ℕ) (words : List (List ℕ)) → Keeps (hardening_with form size version most words)
 unfolding hardening_with
@@ -161,13 +161,19 @@ hardening_keeps words = by_form (said form_named Plain words.forms)
 
 -- ---- certifying
 
-IsApart : Option Certifying → Type 0
+abbrev IsApart : Option Certifying → Type 0
 IsApart None = Unit {0}
 IsApart (Some w) = (w.certificate ≢ w.original) × (w.certificate ≢ w.hardened)
 
-found_apart : (version : ℕ) (a b c : List ℕ) (files : Bool) (test : Bool) → (test ≡ true → (c ≢ a) × (c ≢ b)) → IsApart (cond test (Some (record { original = a; hardened = b; certificate = c; version = version })) None)
-found_apart version a b c files false both = tt
-found_apart version a b c files true both = both refl
+found_apart : (version : ℕ) (a b c : List ℕ) (test : Bool) → (test ≡ true → (c ≢ a) × (c ≢ b)) → IsApart (cond test (Some (record { original = a; hardened = b; certificate = c; version = version })) None)
+found_apart version a b c false both = tt
+found_apart version a b c true both = both refl
+
+both_differ : (a b c : List ℕ) (files : Bool) → (files && not (bytes_eq c a) && not (bytes_eq c b)) ≡ true → (c ≢ a) × (c ≢ b)
+both_differ a b c files test = (
+  differ c a (last_of files (not (bytes_eq c a)) (first_of (files && not (bytes_eq c a)) (not (bytes_eq c b)) test)),
+  differ c b (last_of (files && not (bytes_eq c a)) (not (bytes_eq c b)) test),
+)
 
 certify_apart : (version : ℕ) (words : List (List ℕ)) → IsApart (certifying_with version words)
 unfolding certifying_with
@@ -175,9 +181,8 @@ certify_apart version [] = tt
 certify_apart version (a ∷ []) = tt
 certify_apart version (a ∷ b ∷ []) = tt
 certify_apart version (a ∷ b ∷ c ∷ []) =
-    found_apart version a b c true (is_file a && is_file b && is_file c && not (bytes_eq c a) && not (bytes_eq c b))
-    (λ test. (differ c a (last_of (is_file a && is_file b && is_file c) (not (bytes_eq c a)) (first_of (is_file a && is_file b && is_file c && not (bytes_eq c a)) (not (bytes_eq c b)) test)))
-    , differ c b (last_of (is_file a && is_file b && is_file c && not (bytes_eq c a)) (not (bytes_eq c b)) test))
+    found_apart version a b c (is_file a && is_file b && is_file c && not (bytes_eq c a) && not (bytes_eq c b))
+    (both_differ a b c (is_file a && is_file b && is_file c))
 certify_apart version (a ∷ b ∷ c ∷ d ∷ words) = tt
 
 certifying_apart : (words : Words) → IsApart (certifying_of words)

@@ -1,12 +1,7 @@
-//! What the words behind `campaign` mean.
-ghost use Rattle.std.specs.Prelude.{◌≡◌, ◌≤◌, ◌<◌, Bool, IfSome};
-ghost use Rattle.std.specs.Option.{option_map};
-ghost use Rattle.tmr_words.specs.Campaigns.{cycles_number};
-ghost use Rattle.tmr_words.specs.Line.{campaign_over, campaigning_of};
-ghost use Rattle.tmr_words.specs.FileWords.{pair_in, campaigning_in, read_words as read_texts};
+//! The words of `campaign`.
+ghost use Rattle.std.specs.Prelude.{◌<◌, ◌≤◌};
 
-use crate::line::{PairWords, pair_with};
-use tmr_base::{read_u32, read_u64};
+use crate::line::PairWords;
 
 /// The files of `campaign ORIG HARD CERT NUMBER CYCLES`, what its schedules are drawn from, how many
 /// cycles each has, and whether `near` stands behind them.
@@ -18,72 +13,4 @@ pub struct CampaignWords<'a> {
     pub near: bool,
     ghost some: { 0 < cycles },
     ghost few: { cycles ≤ 100000 },
-}
-
-/// The number of cycles that a word writes.
-#[tactic(auto, unfolding(crate::specs::Campaigns::cycles_number))]
-fn read_cycles(word: &str) -> Option<u32>
-    ensures some { IfSome result (λ cycles. 0 < cycles) }
-    ensures few { IfSome result (λ cycles. cycles ≤ 100000) }
-    ensures number { result ≡ cycles_number word.now }
-{
-    match read_u32(word.as_bytes()) {
-        None => None,
-        Some(cycles) => {
-            if 0 < cycles && cycles <= 100_000 {
-                Some(cycles)
-            } else {
-                None
-            }
-        }
-    }
-}
-
-/// A campaign over a pair, where there is one and the two numbers can be read.
-#[tactic(auto, unfolding(crate::specs::Line::campaign_over))]
-fn campaign_over<'a>(
-    pair: Option<PairWords<'a>>,
-    number: &str,
-    cycles: &str,
-    near: bool,
-) -> Option<CampaignWords<'a>>
-    ensures { option_map campaigning_in result
-        ≡ campaign_over (option_map pair_in pair.entry) number.now cycles.now near }
-{
-    match pair {
-        None => None,
-        Some(pair) => match read_u64(number.as_bytes()) {
-            None => None,
-            Some(number) => match read_cycles(cycles) {
-                None => None,
-                Some(cycles) => Some(CampaignWords {
-                    pair,
-                    number,
-                    cycles,
-                    near,
-                }),
-            },
-        },
-    }
-}
-
-/// The words of `campaign`, where there are five, or six of which the last is `near`, and they can be read.
-#[tactic(auto, unfolding(crate::specs::Line::campaigning_of))]
-pub fn read_campaigning<'a>(plain: &[&'a str]) -> Option<CampaignWords<'a>>
-    ensures { option_map campaigning_in result ≡ campaigning_of (read_texts plain.now) }
-{
-    match plain {
-        [original, hardened, certificate, number, cycles] => {
-            let pair = pair_with(*original, *hardened, *certificate);
-            campaign_over(pair, *number, *cycles, false)
-        }
-        [original, hardened, certificate, number, cycles, near] => {
-            if *near != "near" {
-                return None;
-            }
-            let pair = pair_with(*original, *hardened, *certificate);
-            campaign_over(pair, *number, *cycles, true)
-        }
-        _ => None,
-    }
 }

@@ -1,12 +1,5 @@
-//! What the words behind `certify` mean.
-ghost use Rattle.std.specs.Prelude.{◌≡◌, ◌<◌};
-ghost use Rattle.std.specs.Option.{option_map};
-ghost use Rattle.tmr_words.specs.WordsRead.{words_in};
-ghost use Rattle.tmr_words.specs.Line.{certifying_with, certifying_of};
-ghost use Rattle.tmr_words.specs.FileWords.{certifying_in, read_words as read_texts};
-
-use crate::option_values::said_version;
-use crate::words::{ReadWords, has_versions_alone};
+//! The words of `certify`.
+ghost use Rattle.std.specs.Prelude.{◌<◌};
 
 /// The three file words of `certify ORIG HARD CERT`, and the version of the certificate. The
 /// certificate's name is that of neither design.
@@ -18,43 +11,4 @@ pub struct CertifyWords<'a> {
     pub version: u8,
     ghost versioned: { 0 < version },
     ghost known: { version < 3 },
-}
-
-/// The words of `certify`, where there are three, none is empty, and the last is neither of the others.
-#[tactic(auto, unfolding(crate::specs::Line::certifying_with))]
-fn certify_words<'a>(version: u8, plain: &[&'a str]) -> Option<CertifyWords<'a>>
-    requires { (0 < version) × (version < 3) }
-    ensures { option_map certifying_in result ≡ certifying_with version (read_texts plain.now) }
-{
-    match plain {
-        [original, hardened, certificate] => {
-            if original.is_empty() || hardened.is_empty() || certificate.is_empty() {
-                return None;
-            }
-            if certificate == original || certificate == hardened {
-                return None;
-            }
-            Some(CertifyWords {
-                original: *original,
-                hardened: *hardened,
-                certificate: *certificate,
-                version,
-            })
-        }
-        _ => None,
-    }
-}
-
-/// The words of `certify`, where its option and its files can be read.
-#[tactic(auto, unfolding(crate::specs::Line::certifying_of))]
-pub fn read_certifying<'a>(words: &ReadWords<'a>) -> Option<CertifyWords<'a>>
-    ensures { option_map certifying_in result ≡ certifying_of (words_in words.now) }
-{
-    if !has_versions_alone(words) {
-        return None;
-    }
-    match said_version(words.versions.as_slice()) {
-        None => None,
-        Some(version) => certify_words(version, words.plain.as_slice()),
-    }
 }

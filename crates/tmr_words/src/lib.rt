@@ -4,7 +4,9 @@
 //! no file. `commands` and `call_of` are the table of the commands and of how each is called, and the usage text follows from it.
 #![tactic(auto)]
 
+mod campaign_line;
 mod campaign_words;
+mod certify_line;
 mod certify_words;
 mod harden_line;
 mod harden_words;
@@ -12,6 +14,7 @@ mod line;
 mod option_values;
 mod picture_words;
 mod replay_words;
+mod sweep_line;
 mod sweep_words;
 mod topic;
 mod trial_line;
