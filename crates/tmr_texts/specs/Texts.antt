@@ -85,6 +85,10 @@ line_reason line kind = joined (codes "line " ∷ decimal line ∷ codes ": " �
 unfoldable pub save_fault_line : List ℕ → List ℕ
 save_fault_line file = joined (codes "fault: save " ∷ file ∷ codes "\n" ∷ [])
 
+-- a certificate is found, and its text is longer than a certificate may be
+unfoldable pub certificate_too_long : List ℕ
+certificate_too_long = codes "no certificate: too long\n"
+
 -- a line for each command as it is called, the first with this head
 abbrev pub usage_lines : List ℕ → List Topic → List ℕ
 usage_lines head [] = []

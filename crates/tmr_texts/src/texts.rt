@@ -2,7 +2,7 @@
 ghost use Rattle.std.specs.Prelude.{◌≡◌, ◌+◌, ◌≤◌, ◌<◌, ◌∷◌, [], ◌++◌, codes, length, max, IfOk, OnOk};
 ghost use Rattle.std.specs.Fmt.{decimal};
 ghost use Rattle.tmr_words.specs.FileWords.{read_words as read_pieces};
-ghost use Rattle.tmr_texts.specs.Texts.{joined, greatest, open_word, accepted_line, place_text, not_accepted_line, refused_line, load_fault_line, save_fault_line, counted_text, flattened_line, guard_line, aag_line, graph_line, guarded_line, not_guarded_line, line_reason, usage_text, memory_text};
+ghost use Rattle.tmr_texts.specs.Texts.{joined, greatest, open_word, accepted_line, place_text, not_accepted_line, refused_line, load_fault_line, save_fault_line, counted_text, flattened_line, guard_line, aag_line, graph_line, guarded_line, not_guarded_line, line_reason, usage_text, memory_text, certificate_too_long};
 ghost use Rattle.tmr_words.specs.Topics.{call_of};
 ghost use Rattle.flat_net.specs.Net.{net_count};
 ghost use Rattle.validator.specs.Place.{IsPlace};
@@ -58,6 +58,14 @@ pub fn usage(alloc: Global) -> Result<Vec<u8>, OutOfMemory>
         head = b"       tmr ".as_slice();
     }
     Ok(text)
+}
+
+/// A certificate is found, and its text is too long.
+#[tactic(auto, unfolding(crate::specs::Texts::certificate_too_long))]
+pub fn certificate_too_long(alloc: Global) -> Result<Vec<u8>, OutOfMemory>
+    ensures { IfOk result (λ text. text.items ≡ certificate_too_long) }
+{
+    join(alloc, &[b"no certificate: too long\n".as_slice()])
 }
 
 /// The greatest certified depth, or 0 where there is no partition.
