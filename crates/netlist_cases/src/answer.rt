@@ -3,7 +3,9 @@
 use crate::keeping::{Texts, keep};
 use crate::stop::{Stop, bad_case};
 use crate::words::first_word;
-use crate::{certificates, covers, cuts, designs, drafts, hardenings, names, partitions, reading};
+use crate::{
+    certificates, covers, cuts, designs, drafts, finding, hardenings, names, partitions, reading,
+};
 use std::alloc::Global;
 
 /// What the case of this line answers. A line without words and one of `#` answer nothing.
@@ -42,6 +44,7 @@ fn design_answer(alloc: Global, texts: &Texts, verb: &str, rest: &str) -> Result
         "cert" | "certheads" | "check" | "least" => {
             certificates::answer(alloc, texts, verb, rest)
         }
+        "certify" => finding::answer(alloc, texts, rest),
         _ => Err(bad_case(alloc)),
     }
 }

@@ -13,6 +13,7 @@ mod designs;
 mod drafts;
 mod escapes;
 mod faults;
+mod finding;
 mod hardenings;
 mod hashes;
 mod keeping;

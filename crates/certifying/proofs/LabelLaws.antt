@@ -1,0 +1,50 @@
+-- Labels that are below all that are reached.
+use Rattle.std.proofs.Common.{◌≡◌, ℕ, ◌+◌, ◌-◌, ◌<◌, ◌≤◌, ◌⊎◌, inl, inr, List, [], length, get_or, map, Option, Some, None, refl, sym, ap, subst, ◌∙◌, arith}
+use Rattle.std.specs.Prelude.{slice_get}
+use Rattle.std.proofs.lemmas.Bool.{cases_lt}
+use Rattle.tmr_base.specs.declared.copies.CopyNo.{CopyNo}
+use Rattle.tmr_base.specs.Copies.{Three, of_copy}
+use Rattle.flat_net.specs.Net.{Net, Node, Table, Register, node_of, slot}
+use Rattle.flat_net.proofs.Slots.{slot_within, slot_there, slot_at}
+use Rattle.std.proofs.lemmas.Option.{slice_get-get_or}
+use Rattle.certificate.specs.declared.role.Role.{Role}
+use Rattle.certificate.specs.declared.role.Role.TheVariants.{Copy, Voter}
+use Rattle.certificate.specs.Cert.{PlainCert, IsCert, Fits, role_of, role_count, part_of, copy_of, label_of, count_of, depth_of, part_depth, three_or_zero}
+use Rattle.certificate.specs.Rules.{Rule6, Rule7, LabelReaches}
+use Rattle.certifying.specs.Finest.{SameRoles}
+use Rattle.certifying.specs.Private.Labels.{Reaches, AreReached, AreBelow}
+use Rattle.certifying.specs.Private.Depths.{three_at, no_three, AreLabels, IsAbove, AreDepths}
+
+-- what rule 6 says of a node
+pub reaches_of : (m : PlainCert) (o : Option Node) (e : ℕ) → LabelReaches m o e → Reaches (count_of m) o e
+reaches_of m None e r = r
+reaches_of m (Some (Table name cover pins)) e r = r
+reaches_of m (Some (Register name init pin)) e r = r
+
+-- where rule 6 holds of m, what its nets count is reached
+pub reached_of : (h : Net) (b m : PlainCert) → ((a x : ℕ) (c : CopyNo) → role_of b a ≡ Some (Copy (record { 0 = x }) c) → role_of m a ≡ Some (Copy (record { 0 = x }) c)) → ((a : ℕ) → Rule6 h m a) → AreReached h b (count_of m)
+reached_of h b m same rule a x c role =
+    let there : role_of m a ≡ Some (Copy (record { 0 = x }) c) = same a x c role in
+    let count : count_of m a ≡ label_of m x c = ap (role_count m) there in
+    reaches_of m (node_of h a) (count_of m a) (subst (LabelReaches m (node_of h a)) (sym count) (rule a x c there))
+
+module _ (n h : Net) (b : PlainCert) (cert : IsCert b) (fits : Fits n h b) (labels : List ℕ) (threes : List Three) (long : length labels ≡ length h.nodes) (below : AreBelow h b labels) (are : AreLabels n h b labels threes) where
+  -- the role of a copy
+  pub copy_role : (i : ℕ) (c : CopyNo) → i < length n.nodes → role_of b (copy_of b (length n.inputs + i) c) ≡ Some (Copy (record { 0 = length n.inputs + i }) c)
+  copy_role i c l = cert.copies_have_roles (length n.inputs + i) c (omega (arith, fits.original_inputs)) (omega (arith, fits.original_inputs, fits.original_nodes, l))
+
+  -- the label of a copy is at most each number that reaches what pins count
+  pub label_below : (l : ℕ → ℕ) → AreReached h b l → (i : ℕ) (c : CopyNo) → i < length n.nodes → of_copy (three_at threes i) c ≤ l (copy_of b (length n.inputs + i) c)
+  label_below l reached i c lt =
+      let w = slot_within b.hardened_inputs b.roles (copy_of b (length n.inputs + i) c) _ (copy_role i c lt) in
+      let here : length h.inputs + (copy_of b (length n.inputs + i) c - length h.inputs) ≡ copy_of b (length n.inputs + i) c = omega (arith, w.0, fits.hardened_inputs) in
+      let at : of_copy (three_at threes i) c ≡ get_or labels (copy_of b (length n.inputs + i) c - length h.inputs) 0 = are.each i c (omega (arith, are.nodes, lt)) in
+      let small : get_or labels (copy_of b (length n.inputs + i) c - length h.inputs) 0 ≤ l (length h.inputs + (copy_of b (length n.inputs + i) c - length h.inputs)) = below l reached (copy_of b (length n.inputs + i) c - length h.inputs) (omega (arith, w.0, w.1, long, fits.hardened_inputs, fits.hardened_nodes)) in
+      let same : l (length h.inputs + (copy_of b (length n.inputs + i) c - length h.inputs)) ≡ l (copy_of b (length n.inputs + i) c) = ap l here in
+      omega (arith, at, small, same)
+
+-- the entry of a list with a number of its own, or none past it
+pub slot_at_or : {A : Type 0} (start : ℕ) (xs : List A) (i : ℕ) (d : A) → i < length xs → slot start xs (start + i) ≡ Some (get_or xs i d)
+slot_at_or {A} start xs i d l =
+    let back : (start + i) - start ≡ i = omega arith in
+    slot_at start xs (start + i) (omega arith) ∙ (ap (slice_get xs) back ∙ slice_get-get_or xs i d l)

@@ -1,0 +1,100 @@
+//! A certificate found from two designs.
+ghost use Rattle.std.specs.Prelude.{◌≡◌, ◌⊎◌, IfOk, IfErr};
+ghost use Rattle.validator.specs.Masking.{FreeMasks};
+ghost use Rattle.certifying.specs.Causes.{IsPlaced};
+ghost use Rattle.certifying.specs.Certified.{IsAccepted};
+ghost use Rattle.certifying.specs.Finest.{IsFinest};
+ghost use Rattle.certifying.specs.Least.{AreLeastLabels};
+ghost use Rattle.certifying.specs.Private.Bare.{IsBare};
+
+use crate::NoCertificate;
+use crate::bare::bare;
+use crate::checking::{has_three_inputs, same_edge};
+use crate::draft::refined;
+use crate::looks::Looks;
+use crate::misfits::{first_bad_output, first_misfit};
+use crate::named::search_roles;
+use crate::search::Search;
+use certificate::Certificate;
+use flat_net::{FlatNet, FreeNet};
+use std::alloc::Global;
+use validator::check_free;
+
+/// The roles that were found, or the first place that fits nothing.
+fn judged(
+    alloc: Global,
+    version: u8,
+    n: &FlatNet,
+    h: &FlatNet,
+    looks: &Looks,
+    found: &Search,
+) -> Result<Certificate, NoCertificate>
+    requires { (version ≡ 1) ⊎ (version ≡ 2) }
+    ensures bare { IfOk result (IsBare n.now.net h.now.net version) }
+    ensures place { IfErr result (IsPlaced n.now.net h.now.net) }
+{
+    if let Some(k) = first_bad_output(n, h, found) {
+        return Err(NoCertificate::Output(k));
+    }
+    if let Some(why) = first_misfit(n, h, looks, found) {
+        return Err(why);
+    }
+    bare(alloc, version, n, h, found)
+}
+
+/// The roles that the search finds.
+fn searched(
+    alloc: Global,
+    version: u8,
+    n: &FreeNet,
+    h: &FreeNet,
+) -> Result<Certificate, NoCertificate>
+    requires { (version ≡ 1) ⊎ (version ≡ 2) }
+    ensures bare { IfOk result (IsBare n.now.design.net h.now.design.net version) }
+    ensures place { IfErr result (IsPlaced n.now.design.net h.now.design.net) }
+{
+    let looks = Looks::of(alloc, n, h, version)?;
+    let found = search_roles(alloc, n.net(), h.net(), &looks)?;
+    judged(alloc, version, n.net(), h.net(), &looks, &found)
+}
+
+/// The certificate that is found, before the rules are tried.
+fn proposed(
+    alloc: Global,
+    version: u8,
+    n: &FreeNet,
+    h: &FreeNet,
+) -> Result<Certificate, NoCertificate>
+    requires { (version ≡ 1) ⊎ (version ≡ 2) }
+    ensures bare { IfOk result (IsBare n.now.design.net h.now.design.net version) }
+    ensures place { IfErr result (IsPlaced n.now.design.net h.now.design.net) }
+{
+    if !has_three_inputs(n.net(), h.net()) {
+        return Err(NoCertificate::Inputs);
+    }
+    if !same_edge(n.net(), h.net()) {
+        return Err(NoCertificate::Clock);
+    }
+    let bare = searched(alloc, version, n, h)?;
+    refined(alloc, version, n.net(), h.net(), &bare)
+}
+
+/// A certificate of version 1 or 2 for the original n and the hardened design h, found without a look at the names of h
+/// (but for nodes that no output depends on and that are told by nothing else).
+pub fn certify(
+    alloc: Global,
+    n: &FreeNet,
+    h: &FreeNet,
+    version: u8,
+) -> Result<Certificate, NoCertificate>
+    requires { (version ≡ 1) ⊎ (version ≡ 2) }
+    ensures accepted { IfOk result (IsAccepted n.now.design.net n.now.free h.now.design.net h.now.free version) }
+    ensures masks { IfOk result (FreeMasks n.now.design.net n.now.free h.now.design.net h.now.free) }
+    ensures place { IfErr result (IsPlaced n.now.design.net h.now.design.net) }
+{
+    let found = proposed(alloc, version, n, h)?;
+    match check_free(n, h, &found) {
+        Ok(()) => Ok(found),
+        Err(refusal) => Err(NoCertificate::Rule(refusal)),
+    }
+}

@@ -1,0 +1,116 @@
+//! Original nodes that have to share a partition: where a copy reads a copy, and where two nodes read one voter.
+ghost use Rattle.std.specs.Prelude.{◌≡◌, ◌<◌, ◌≤◌, ◌+◌, ◌-◌, ℕ, Option, Some, length, slice_index, slice_get, IfOk};
+ghost use Rattle.flat_net.specs.Net.{net_count, node_of, pins_at};
+ghost use Rattle.tmr_base.specs.declared.copies.CopyNo.{CopyNo};
+ghost use Rattle.certificate.specs.Cert.{Fits, role_of};
+ghost use Rattle.certificate.specs.declared.role.Role.TheVariants.{Copy};
+ghost use Rattle.certifying.specs.Private.Forests.{IsForest, GoesAlong, FollowsReaders};
+ghost use Rattle.certifying.specs.Private.Found.{AreJoined};
+
+use crate::forest::{apart, join};
+use certificate::{Certificate, Role};
+use flat_net::{FlatNet, nodes_of};
+use std::alloc::Global;
+use tmr_base::{NetId, OutOfMemory};
+
+/// Which original nodes share a partition, by their places among the nodes: a forest. And for each hardened node an
+/// original node that reads it as a voter, if there is one.
+#[derive(Drop)]
+pub struct Joined {
+    pub up: Vec<u32>,
+    pub readers: Vec<Option<u32>>,
+}
+
+/// Original node y reads hardened node v, which is a voter: it shares a partition with all that read v.
+fn join_reader(up: &mut [u32], readers: &mut [Option<u32>], y: u32, v: usize)
+    requires forest { IsForest up.old }
+    requires node { y < length up.old }
+    requires voter { v < length readers.old }
+    ensures forest { IsForest up.new }
+    ensures along { (f w : ℕ → Option ℕ) → GoesAlong f up.old → FollowsReaders f w readers.old → w v ≡ f y → GoesAlong f up.new }
+    ensures readers { (f w : ℕ → Option ℕ) → FollowsReaders f w readers.old → w v ≡ f y → FollowsReaders f w readers.new }
+{
+    match readers[v] {
+        Some(x) => {
+            if (x as usize) < up.len() {
+                join(up, x, y);
+            }
+        }
+        None => readers[v] = Some(y),
+    }
+}
+
+/// Pin j of hardened node g, which is a copy of original node y, joins y with what it reads.
+fn join_pin(
+    up: &mut [u32],
+    readers: &mut [Option<u32>],
+    n: &FlatNet,
+    h: &FlatNet,
+    k: &Certificate,
+    g: NetId,
+    y: NetId,
+    j: u32,
+)
+    requires fits { Fits n.now.net h.now.net k.now }
+    requires joined { AreJoined n.now.net h.now.net k.now up.old readers.old }
+    requires range { g.0 < net_count h.now.net }
+    requires low { length n.now.net.inputs ≤ y.0 }
+    requires high { y.0 < net_count n.now.net }
+    requires copy { (c : CopyNo) × (role_of k.now g.0 ≡ Some (Copy y c)) }
+    requires pin { j < length (pins_at (node_of h.now.net g.0)) }
+    ensures { AreJoined n.now.net h.now.net k.now up.new readers.new }
+{
+    let original = n.input_count();
+    let inputs = h.input_count();
+    let p = h.pin(g, j);
+    if p.0 < inputs {
+        return;
+    }
+    match k.role(p) {
+        Role::Copy { node, .. } => join(up, node.0 - original, y.0 - original),
+        Role::Voter { .. } => {
+            join_reader(up, readers, y.0 - original, (p.0 - inputs) as usize);
+        }
+    }
+}
+
+/// The pins of hardened node g join its original with what they read, if it is a copy.
+fn join_pins(
+    up: &mut [u32],
+    readers: &mut [Option<u32>],
+    n: &FlatNet,
+    h: &FlatNet,
+    k: &Certificate,
+    g: NetId,
+)
+    requires fits { Fits n.now.net h.now.net k.now }
+    requires joined { AreJoined n.now.net h.now.net k.now up.old readers.old }
+    requires low { length h.now.net.inputs ≤ g.0 }
+    requires range { g.0 < net_count h.now.net }
+    ensures { AreJoined n.now.net h.now.net k.now up.new readers.new }
+{
+    if let Role::Copy { node, .. } = k.role(g) {
+        for j in 0..h.pin_count(g) {
+            join_pin(up, readers, n, h, k, g, node, j);
+        }
+    }
+}
+
+/// Joins all that has to share a partition, and nothing else.
+pub fn join_all(
+    alloc: Global,
+    n: &FlatNet,
+    h: &FlatNet,
+    k: &Certificate,
+) -> Result<Joined, OutOfMemory>
+    requires { Fits n.now.net h.now.net k.now }
+    ensures { IfOk result (λ j. AreJoined n.now.net h.now.net k.now j.up.items j.readers.items) }
+{
+    let mut up = apart(alloc, nodes_of(n))?;
+    let mut readers = vec![in alloc; None; nodes_of(h) as usize]?;
+    let inputs = h.input_count();
+    for i in 0..nodes_of(h) {
+        join_pins(&mut up, &mut readers, n, h, k, NetId(inputs + i));
+    }
+    Ok(Joined { up, readers })
+}
