@@ -1,17 +1,17 @@
 -- All numbers of pairs together fit 128 bits.
-use Rattle.std.proofs.Common.{◌≡◌, ℕ, zero, suc, ◌+◌, ◌*◌, ◌^◌, ◌<◌, ◌≤◌, ◌⊎◌, inl, inr, Bool, true, false, cond, ◌&&◌, eqb, List, [], ◌∷◌, length, get_or, Option, Some, None, refl, ◌∙◌, ap, arith, All}
+use Rattle.std.proofs.Common.{◌≡◌, ℕ, zero, suc, ◌+◌, ◌*◌, ◌^◌, ◌<◌, ◌≤◌, ◌⊎◌, inl, inr, Bool, true, false, cond, ◌&&◌, eqb, List, [], ◌∷◌, ◌++◌, length, get_or, Option, Some, None, refl, ◌∙◌, ap, arith, All}
 use Rattle.std.specs.Prelude.{count_by, slice_index}
 use Rattle.std.specs.List.{sum_by, range_with_len}
 use Rattle.std.proofs.lemmas.Bool.{cases_eq, cases_lt, eq-eqb, ne_eqb}
 use Rattle.std.proofs.lemmas.List.{get_or_past}
-use Rattle.std.proofs.lemmas.List.Sums.{sum_by-cons, sum_by-le-sum_by, count_by-le-length}
+use Rattle.std.proofs.lemmas.List.Sums.{sum_by-cons, sum_by_push, sum_by-le-sum_by, count_by-le-length}
 use Rattle.std.proofs.lemmas.Nat.{mul-le}
 use Rattle.tmr_base.specs.declared.copies.CopyNo.{CopyNo}
 use Rattle.tmr_base.specs.declared.copies.CopyNo.TheVariants.{First, Second, Third}
 use Rattle.tmr_base.specs.Copies.{copy_number}
 use Rattle.certificate.specs.declared.role.Role.{Role}
 use Rattle.certificate.specs.Cert.{PlainCert, IsCert, depth_of}
-use Rattle.exposure.specs.Counts.{role_part, role_copy, is_same_part, is_of, copy_count, near_of, near_in}
+use Rattle.exposure.specs.Counts.{role_part, role_copy, is_same_part, is_of, copy_count, near_of, near_in, near_inputs}
 
 -- a product of two numbers of 32 bits
 pub product_small : (a b : ℕ) → a < 4294967296 → b < 4294967296 → a * b ≤ 18446744073709551616
@@ -26,6 +26,13 @@ near_le a b c d la lb lc ld =
     let pairs : a * b + a * c + b * c ≤ (a + b + c) * 4294967296 = omega (arith, first, second, third) in
     let all = mul-le (a * b + a * c + b * c) (2 * d + 1) ((a + b + c) * 4294967296) 8589934592 pairs (omega (arith, ld)) in
     omega (arith, all)
+
+-- so the number of pairs fits
+pub near_fits : (a b c d : ℕ) → a < 4294967296 → b < 4294967296 → c < 4294967296 → d < 4294967296 → near_of a b c d < 340282366920938463463374607431768211456
+near_fits a b c d la lb lc ld = omega (arith, near_le a b c d la lb lc ld)
+
+abbrev one_of : Bool → ℕ
+one_of b = cond b 1 0
 
 sum_none : (s n : ℕ) → sum_by (λ x. 0) (range_with_len s n) ≡ 0
 sum_none s zero = refl
@@ -46,23 +53,23 @@ one_at_most q p b = go (eqb q p) b
 none_before : (q s n : ℕ) → q < s → sum_by (λ p. cond (eqb q p) 1 0) (range_with_len s n) ≡ 0
 none_before q s zero l = refl
 none_before q s (suc n) l =
-    let other : cond (eqb q s) 1 0 ≡ 0 = ap (λ (b : Bool). cond b 1 0) (ne_eqb q s (λ e. omega (arith, l, e))) in
+    let other : one_of (eqb q s) ≡ 0 = ap one_of (ne_eqb q s (λ e. omega (arith, l, e))) in
     omega (arith, other, none_before q (s + 1) n (omega (arith, l)), sum_by-cons (λ p. cond (eqb q p) 1 0) s (range_with_len (s + 1) n))
 
 once : (q s n : ℕ) → sum_by (λ p. cond (eqb q p) 1 0) (range_with_len s n) ≤ 1
 once q s zero = omega arith
-once q s (suc n) = go (cases_eq q s)
+once q s (suc n) = go (once q (s + 1) n) (cases_eq q s)
   where
     row : sum_by (λ p. cond (eqb q p) 1 0) (range_with_len s (suc n)) ≡ cond (eqb q s) 1 0 + sum_by (λ p. cond (eqb q p) 1 0) (range_with_len (s + 1) n)
     row = sum_by-cons (λ p. cond (eqb q p) 1 0) s (range_with_len (s + 1) n)
 
-    go : (q ≡ s) ⊎ (q ≡ s → ⊥) → sum_by (λ p. cond (eqb q p) 1 0) (range_with_len s (suc n)) ≤ 1
-    go (inl e) =
-        let here : cond (eqb q s) 1 0 ≡ 1 = ap (λ (b : Bool). cond b 1 0) (eq-eqb q s e) in
+    go : sum_by (λ p. cond (eqb q p) 1 0) (range_with_len (s + 1) n) ≤ 1 → (q ≡ s) ⊎ (q ≡ s → ⊥) → sum_by (λ p. cond (eqb q p) 1 0) (range_with_len s (suc n)) ≤ 1
+    go rest (inl e) =
+        let here : one_of (eqb q s) ≡ 1 = ap one_of (eq-eqb q s e) in
         omega (arith, row, here, none_before q (s + 1) n (omega (arith, e)))
-    go (inr ne) =
-        let other : cond (eqb q s) 1 0 ≡ 0 = ap (λ (b : Bool). cond b 1 0) (ne_eqb q s ne) in
-        omega (arith, row, other, once q (s + 1) n)
+    go rest (inr ne) =
+        let other : one_of (eqb q s) ≡ 0 = ap one_of (ne_eqb q s ne) in
+        omega (arith, row, other, rest)
 
 -- a node belongs to one partition at most
 role_once : (o : Option ℕ) (b : Bool) (s n : ℕ) → sum_by (λ p. cond (is_same_part o p && b) 1 0) (range_with_len s n) ≤ 1
@@ -104,3 +111,38 @@ module _ (k : PlainCert) (is : IsCert k) where
   -- the pairs of so many partitions fit, with room for those of the inputs
   pub parts_fit : (s n : ℕ) → sum_by (near_in k) (range_with_len s n) ≤ 1267650600228229401496703205376
   parts_fit s n = omega (arith, sums_le s n, counts_once k First s n k.roles, counts_once k Second s n k.roles, counts_once k Third s n k.roles, is.few_hardened)
+
+-- ---- sums, one partition more
+
+range_more : (s n : ℕ) → range_with_len s (suc n) ≡ range_with_len s n ++ (s + n) ∷ []
+range_more s zero = let e : s ≡ s + 0 = omega arith in ap (λ (x : ℕ). x ∷ []) e
+range_more s (suc n) =
+    let e : s + 1 + n ≡ s + suc n = omega arith in
+    ap (λ (xs : List ℕ). s ∷ xs) (range_more (s + 1) n ∙ ap (λ (x : ℕ). range_with_len (s + 1) n ++ x ∷ []) e)
+
+pub near_more : (k : PlainCert) (p : ℕ) → sum_by (near_in k) (range_with_len 0 (p + 1)) ≡ sum_by (near_in k) (range_with_len 0 p) + near_in k p
+near_more k p =
+    let e : p + 1 ≡ suc p = omega arith in
+    let f : 0 + p ≡ p = omega arith in
+    let cut = ap (sum_by (near_in k)) (ap (range_with_len 0) e ∙ range_more 0 p) in
+    let push = sum_by_push (near_in k) (range_with_len 0 p) (0 + p) in
+    omega (arith, cut, push, ap (near_in k) f)
+
+pub sum_more : (k : PlainCert) (p total value : ℕ) → total ≡ sum_by (near_in k) (range_with_len 0 p) → value ≡ near_in k p → total + value ≡ sum_by (near_in k) (range_with_len 0 (p + 1))
+sum_more k p total value e f = omega (arith, e, f, near_more k p)
+
+pub sum_fits : (k : PlainCert) (p total value : ℕ) → IsCert k → total ≡ sum_by (near_in k) (range_with_len 0 p) → value ≡ near_in k p → total + value < 340282366920938463463374607431768211456
+sum_fits k p total value is e f = omega (arith, e, f, near_more k p, parts_fit k is 0 (p + 1))
+
+inputs_le : (k : PlainCert) → IsCert k → near_inputs k ≤ 1267650600228229401496703205376
+inputs_le k is = go (eqb k.version 1)
+  where
+    small : k.original_inputs < 4294967296
+    small = omega (arith, is.few_original)
+
+    go : (b : Bool) → cond b 0 (near_of k.original_inputs k.original_inputs k.original_inputs 0) ≤ 1267650600228229401496703205376
+    go true = omega arith
+    go false = omega (arith, small, near_le k.original_inputs k.original_inputs k.original_inputs 0 small small small (omega arith))
+
+pub total_fits : (k : PlainCert) (count inputs parts : ℕ) → IsCert k → inputs ≡ near_inputs k → parts ≡ sum_by (near_in k) (range_with_len 0 count) → inputs + parts < 340282366920938463463374607431768211456
+total_fits k count inputs parts is e f = omega (arith, e, f, inputs_le k is, parts_fit k is 0 count)

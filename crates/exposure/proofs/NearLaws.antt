@@ -1,5 +1,5 @@
 -- Allowed schedules, and nets that are counted.
-use Rattle.std.proofs.Common.{◌≡◌, ◌≢◌, ℕ, ◌+◌, ◌<◌, ◌≤◌, ◌⊎◌, inl, inr, Bool, true, false, ◌&&◌, List, Option, Some, None, refl, sym, ap, ◌∙◌, subst, arith}
+use Rattle.std.proofs.Common.{◌≡◌, ◌≢◌, ℕ, ◌+◌, ◌*◌, ◌<◌, ◌≤◌, ◌⊎◌, inl, inr, Bool, true, false, ◌&&◌, List, Option, Some, None, refl, sym, ap, ◌∙◌, subst, arith}
 use Rattle.std.specs.Prelude.{◌==◌, ◌↔◌, IsTrue, Contains}
 use Rattle.std.proofs.lemmas.Bool.{cases_lt, eqb-true, eq-eqb, and_parts, and_from}
 use Rattle.tmr_base.specs.declared.copies.CopyNo.{CopyNo}
@@ -8,7 +8,8 @@ use Rattle.tmr_base.specs.declared.ids.Upset.{Upset}
 use Rattle.tmr_base.specs.Copies.{copy_number}
 use Rattle.certificate.specs.declared.role.Role.{Role}
 use Rattle.certificate.specs.declared.role.Role.TheVariants.{Copy, Voter}
-use Rattle.certificate.specs.Cert.{PlainCert, role_of, part_of, part_depth}
+use Rattle.certificate.specs.Cert.{PlainCert, IsCert, role_of, part_of, part_depth}
+use Rattle.flat_net.proofs.Slots.{slot_there, slot_below}
 use Rattle.certificate.specs.Schedules.{RoleIsIn, IsIn, Allowed}
 use Rattle.exposure.specs.Counts.{role_part, role_copy, is_same_part, is_of}
 use Rattle.exposure.specs.TooNear.{AreTooNear, NoneTooNear}
@@ -69,3 +70,25 @@ module _ (k : PlainCert) (h p : ℕ) (c : CopyNo) where
 
   pub counted_is_in : (r : Role) → role_of k h ≡ Some r → IsTrue (is_of k p c r) ↔ IsIn k h (Some p) c
   counted_is_in r e = (λ b. subst (λ (o : Option Role). RoleIsIn k o h (Some p) c) (sym e) (is_in r b), λ i. in_is r (subst (λ (o : Option Role). RoleIsIn k o h (Some p) c) e i))
+
+few_copies : (c : CopyNo) → copy_number c < 3
+few_copies First = omega arith
+few_copies Second = omega arith
+few_copies Third = omega arith
+
+module _ (k : PlainCert) (h : ℕ) (c : CopyNo) (is : IsCert k) (three : k.hardened_inputs ≡ 3 * k.original_inputs) where
+  from_role : (o : Option Role) → role_of k h ≡ o → RoleIsIn k o h None c → (i : ℕ) × (i < k.original_inputs) × (h ≡ 3 * i + copy_number c)
+  from_role None e (i, copy, same) = (i, copy.0, copy.2)
+  from_role (Some (Copy x d)) e (part, copy) =
+      let range = is.roles_in_range h (Copy x d) e in
+      let (p, there) = slot_there k.original_inputs k.part x.0 range.0 range.1 in
+      absurd (let none : None ≡ Some p = sym part ∙ there in cc)
+  from_role (Some (Voter x q d)) e (part, copy) = absurd (cc)
+
+  to_role : (i : ℕ) → i < k.original_inputs → h ≡ 3 * i + copy_number c → IsIn k h None c
+  to_role i l e =
+      let low : h < k.hardened_inputs = omega (arith, three, l, e, few_copies c) in
+      subst (λ (o : Option Role). RoleIsIn k o h None c) (sym (slot_below k.hardened_inputs k.roles h low)) (i, (l, low, e), refl)
+
+  pub input_is_in : IsIn k h None c ↔ ((i : ℕ) × (i < k.original_inputs) × (h ≡ 3 * i + copy_number c))
+  input_is_in = (λ there. from_role (role_of k h) refl there, λ (i, l, e). to_role i l e)

@@ -1,5 +1,5 @@
 //! How many nets each copy of a partition has.
-ghost use Rattle.std.specs.Prelude.{◌≡◌, ◌==◌, ◌<◌, ◌&&◌, Some, length, replicate, IfOk};
+ghost use Rattle.std.specs.Prelude.{◌≡◌, ◌==◌, ◌<◌, ◌&&◌, Some, length, replicate, IfOk, if◌then◌else◌};
 ghost use Rattle.std.specs.Option.{option_map};
 ghost use Rattle.tmr_base.specs.Copies.{copy_number};
 ghost use Rattle.certificate.specs.Cert.{Fits, RoleIsInRange};
@@ -25,7 +25,8 @@ fn part_of(c: &Certificate, role: Role) -> u32
 
 /// 1 where a hardened node is of this copy, and else 0.
 fn one_if_of(role: Role, copy: CopyNo) -> u32
-    ensures { result ≡ (if copy_number (role_copy role) == copy_number copy then 1 else 0) }
+    ensures count { result ≡ (if copy_number (role_copy role) == copy_number copy then 1 else 0) }
+    ensures few { result < 2 }
 {
     let own = match role {
         Role::Copy { copy, .. } => copy,

@@ -113,9 +113,11 @@ fn put_input_counts(out: &mut Vec<u8>, inputs: u32) -> Result<(), AllocError>
     ensures { OnOk result (out.new.items ≡ out.old.items ++ line_text (codes "inputs" ∷ count_words inputs inputs inputs 0)) }
 {
     let mut inputs_digits = Buffer::new();
+    let mut depth_digits = Buffer::new();
     let mut near_digits = Buffer::new();
     let near = near(inputs, inputs, inputs, 0);
     let inputs = inputs_digits.format(inputs);
+    let depth = depth_digits.format(0u32);
     let near = near_digits.format(near);
     put_line(
         out,
@@ -126,7 +128,7 @@ fn put_input_counts(out: &mut Vec<u8>, inputs: u32) -> Result<(), AllocError>
             inputs.as_bytes(),
             inputs.as_bytes(),
             b"depth".as_slice(),
-            b"0".as_slice(),
+            depth.as_bytes(),
             b"near".as_slice(),
             near.as_bytes(),
         ],

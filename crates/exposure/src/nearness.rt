@@ -63,6 +63,8 @@ pub fn near_total(n: &FlatNet, c: &Certificate, counts: &CopyCounts) -> u128
     requires counts { AreCounted c.now counts.now }
     ensures { result ≡ near_total c.now }
 {
+    // It says that the certificate is consistent.
+    c.parts();
     let inputs = near_inputs(n, c);
     let parts = near_parts(c, counts);
     inputs + parts

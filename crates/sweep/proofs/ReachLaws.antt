@@ -6,6 +6,8 @@ use Rattle.std.proofs.lemmas.Bool.{cases_eq, cases_lt, eq-eqb, ne_eqb}
 use Rattle.std.proofs.lemmas.List.{get_or-set_same, get_or-set_other, length-set, get_or_past}
 use Rattle.std.proofs.lemmas.List.FromFn.{get_or-map-range_with_len, length-map-range_with_len}
 use Rattle.flat_net.specs.Net.{Net, Node, Table, Register, net_count, node_of, pins_at, table_pins, IsTable, IsRegister, IsOrder}
+use Rattle.flat_net.specs.declared.kind.Kind.TheVariants as kind
+use Rattle.flat_net.specs.Kinds.{kind_of}
 use Rattle.flat_net.specs.Private.ByPlace.{IsOrderByPlace}
 use Rattle.flat_net.proofs.ByPlace.{by_place}
 use Rattle.flat_net.proofs.Orders.{length-order}
@@ -76,7 +78,7 @@ pins_of_table (Some (Table name cover pins)) t = refl
 pins_of_table (Some (Register name init pin)) t = absurd t
 
 -- a table is a node
-table_within : (n : Net) (y : ℕ) → IsTable (node_of n (length n.inputs + y)) → y < length n.nodes
+pub table_within : (n : Net) (y : ℕ) → IsTable (node_of n (length n.inputs + y)) → y < length n.nodes
 table_within n y t = go (node_of n (length n.inputs + y)) refl t
   where
     go : (o : Option Node) → node_of n (length n.inputs + y) ≡ o → IsTable o → y < length n.nodes
@@ -84,7 +86,7 @@ table_within n y t = go (node_of n (length n.inputs + y)) refl t
     go (Some node) e t = omega (arith, (slot_within (length n.inputs) n.nodes (length n.inputs + y) node e).1)
 
 -- so is a register
-register_within : (n : Net) (y : ℕ) → IsRegister (node_of n (length n.inputs + y)) → y < length n.nodes
+pub register_within : (n : Net) (y : ℕ) → IsRegister (node_of n (length n.inputs + y)) → y < length n.nodes
 register_within n y t = go (node_of n (length n.inputs + y)) refl t
   where
     go : (o : Option Node) → node_of n (length n.inputs + y) ≡ o → IsRegister o → y < length n.nodes
@@ -105,6 +107,28 @@ first_table : (o : Option Node) → IsTable o → first_reach o ≡ 0
 first_table None t = absurd t
 first_table (Some (Table name cover pins)) t = refl
 first_table (Some (Register name init pin)) t = absurd t
+
+pub input_no_table : (o : Option Node) → kind.Input ≡ kind_of o → IsTable o → ⊥
+input_no_table None e t = t
+input_no_table (Some (Table name cover pins)) e t = cc
+input_no_table (Some (Register name init pin)) e t = t
+
+pub register_no_table : (o : Option Node) → kind.Register ≡ kind_of o → IsTable o → ⊥
+register_no_table None e t = t
+register_no_table (Some (Table name cover pins)) e t = cc
+register_no_table (Some (Register name init pin)) e t = t
+
+-- what is no table stays as it is
+pub stays : (n : Net) (voted : ℕ → ℕ → Bool) (reach : List ℕ) (x next : ℕ) → (IsTable (node_of n x) → ⊥) → next ≡ slice_index reach x → IsNextReach n voted reach x next
+stays n voted reach x next other e = record { most = 0; is_most = λ table. absurd (other table); table = λ table. absurd (other table); other = λ not. e }
+
+pub table_next : (n : Net) (voted : ℕ → ℕ → Bool) (reach : List ℕ) (x y most next : ℕ) → IsTable (node_of n x) → y ≡ x - length n.inputs → IsMostAt n voted reach y most → next ≡ cond (most == 0) 0 (most + 1) → IsNextReach n voted reach x next
+table_next n voted reach x y most next table at is e = record {
+  most = most;
+  is_most = λ t. subst (λ (z : ℕ). IsMostAt n voted reach z most) at is;
+  table = λ t. e;
+  other = λ not. absurd (not table);
+}
 
 module _ (n : Net) (voted : ℕ → ℕ → Bool) (order : List ℕ) where
   -- ---- before any table

@@ -1,24 +1,43 @@
 //! How many nets one copy of each partition has in the hardened design.
-ghost use Rattle.std.specs.Prelude.{◌≡◌, ◌==◌, ◌+◌, ◌<◌, ℕ, All, length, count_by, slice_index, replicate, IfOk};
+ghost use Rattle.std.specs.Prelude.{◌≡◌, ◌==◌, ◌+◌, ◌<◌, ℕ, All, length, count_by, slice_index, IfOk};
+ghost use Rattle.tmr_base.specs.declared.copies.CopyNo.{CopyNo};
 ghost use Rattle.flat_net.specs.Net.{net_count};
-ghost use Rattle.triplicate.specs.Planned.{IsPlan, voted_in};
+ghost use Rattle.triplicate.specs.Blocks.{copies_of};
+ghost use Rattle.triplicate.specs.Planned.{voted_in, cert_in};
 ghost use Rattle.triplicate.specs.Private.Numbers.{HasFewNets};
 ghost use Rattle.triplicate.specs.Private.Starts.{AreVoterRows};
+ghost use Rattle.exposure.specs.Counts.{is_of};
 ghost use Rattle.sweep.specs.Private.Counting.{AreSoFar, AreCounts};
 
 use flat_net::{FlatNet, nodes_of};
 use std::alloc::Global;
 use tmr_base::OutOfMemory;
-use triplicate::{Form, Plan};
+use triplicate::Plan;
 
 /// Counts each of these partitions once more.
 fn count_each(counts: &mut [u32], parts: &[u32])
     requires within { All (λ p. p < length counts.old) parts.now }
-    requires few { (p : ℕ) → slice_index counts.old p + length parts.now < 4294967296 }
+    requires few { (p : ℕ) → p < length counts.old → slice_index counts.old p + length parts.now < 4294967296 }
     ensures { (p : ℕ) → p < length counts.old → slice_index counts.new p ≡ slice_index counts.old p + count_by (λ q. q == p) parts.now }
 {
     for p in parts {
         counts[*p as usize] += 1;
+    }
+}
+
+/// Counts the copies of net x, if it is a node.
+fn count_copies(n: &FlatNet, plan: &Plan, counts: &mut [u32], x: u32)
+    requires parts { length plan.now.parts.of ≡ length n.now.net.nodes }
+    requires long { length counts.old ≡ plan.now.parts.count }
+    requires net { x < net_count n.now.net }
+    requires few { (p : ℕ) → p < length counts.old → slice_index counts.old p + length (copies_of n.now.net x) < 4294967296 }
+    ensures { (p : ℕ) (c : CopyNo) → p < length counts.old → slice_index counts.new p ≡ slice_index counts.old p + count_by (is_of (cert_in n.now.net plan.now) p c) (copies_of n.now.net x) }
+{
+    let _nodes = nodes_of(n);
+    let inputs = n.input_count();
+    if x >= inputs {
+        let part = plan.parts.of(x - inputs);
+        counts[part as usize] += 1;
     }
 }
 
@@ -31,11 +50,7 @@ fn count_net(n: &FlatNet, plan: &Plan, counts: &mut [u32], x: u32)
     requires counts { AreSoFar n.now.net plan.now x counts.old }
     ensures { AreSoFar n.now.net plan.now (x + 1) counts.new }
 {
-    let _nodes = nodes_of(n);
-    let inputs = n.input_count();
-    if x >= inputs {
-        counts[plan.parts.of(x - inputs) as usize] += 1;
-    }
+    count_copies(n, plan, counts, x);
     count_each(counts, plan.voters.row(x));
 }
 

@@ -5,10 +5,10 @@ ghost use Rattle.sweep.specs.Levels.{AreLevels};
 ghost use Rattle.sweep.specs.Private.Reaching.{voted_by, HasTaps, along, kept, IsMostOut, IsMostKept, AreVotedLevels};
 
 use crate::reaching::{along, reached};
+use crate::votes::Votes;
 use flat_net::{FlatNet, Kind, nodes_of};
 use std::alloc::Global;
 use tmr_base::{NetId, OutOfMemory};
-use triplicate::Plan;
 
 /// The most that is reached at an output.
 fn most_out(n: &FlatNet, reach: &[u32]) -> u32
@@ -24,44 +24,44 @@ fn most_out(n: &FlatNet, reach: &[u32]) -> u32
 }
 
 /// What comes along the pin of node y, if it is a register.
-fn kept(n: &FlatNet, plan: Option<&Plan>, reach: &[u32], y: u32) -> u32
-    requires taps { HasTaps n.now.net plan }
+fn kept(n: &FlatNet, votes: &Votes, reach: &[u32], y: u32) -> u32
+    requires taps { HasTaps n.now.net votes.now }
     requires long { length reach.now ≡ net_count n.now.net }
     requires few { (x : ℕ) → slice_index reach.now x < 2147483648 }
     requires node { y < length n.now.net.nodes }
-    ensures { result ≡ kept n.now.net (voted_by n.now.net plan) reach.now y }
+    ensures { result ≡ kept n.now.net (voted_by n.now.net votes.now) reach.now y }
 {
     let _nodes = nodes_of(n);
     match n.kind(NetId(n.input_count() + y)) {
-        Kind::Register => along(n, plan, reach, y, 0),
+        Kind::Register => along(n, votes, reach, y, 0),
         Kind::Input => 0,
         Kind::Table => 0,
     }
 }
 
 /// The most that comes along the pin of a register.
-fn most_kept(n: &FlatNet, plan: Option<&Plan>, reach: &[u32]) -> u32
-    requires taps { HasTaps n.now.net plan }
+fn most_kept(n: &FlatNet, votes: &Votes, reach: &[u32]) -> u32
+    requires taps { HasTaps n.now.net votes.now }
     requires long { length reach.now ≡ net_count n.now.net }
     requires few { (x : ℕ) → slice_index reach.now x < 2147483648 }
-    ensures { IsMostKept n.now.net (voted_by n.now.net plan) reach.now result }
+    ensures { IsMostKept n.now.net (voted_by n.now.net votes.now) reach.now result }
 {
     let mut most = 0;
     for y in 0..nodes_of(n) {
-        most = most.max(kept(n, plan, reach, y));
+        most = most.max(kept(n, votes, reach, y));
     }
     most
 }
 
 /// The most tables on a path from an input or a register to a register or an output, where a voted pin counts one table more.
-pub fn voted_levels(alloc: Global, n: &FlatNet, plan: Option<&Plan>) -> Result<u32, OutOfMemory>
-    requires taps { HasTaps n.now.net plan }
+pub fn voted_levels(alloc: Global, n: &FlatNet, votes: &Votes) -> Result<u32, OutOfMemory>
+    requires taps { HasTaps n.now.net votes.now }
     requires few { net_count n.now.net + pin_total n.now.net ≤ 16777216 }
-    ensures { IfOk result (λ levels. AreVotedLevels n.now.net (voted_by n.now.net plan) levels) }
+    ensures { IfOk result (λ levels. AreVotedLevels n.now.net (voted_by n.now.net votes.now) levels) }
 {
     let _nodes = nodes_of(n);
-    let reach = reached(alloc, n, plan)?;
-    let most = most_out(n, &reach).max(most_kept(n, plan, &reach));
+    let reach = reached(alloc, n, votes)?;
+    let most = most_out(n, &reach).max(most_kept(n, votes, &reach));
     Ok(if most == 0 { 0 } else { most - 1 })
 }
 
@@ -70,6 +70,6 @@ pub fn levels(alloc: Global, n: &FlatNet) -> Result<u32, OutOfMemory>
     requires { net_count n.now.net + pin_total n.now.net ≤ 16777216 }
     ensures { IfOk result (λ levels. AreLevels n.now.net levels) }
 {
-    let levels = voted_levels(alloc, n, None)?;
+    let levels = voted_levels(alloc, n, &Votes::Absent)?;
     Ok(levels)
 }

@@ -11,6 +11,7 @@ mod near;
 mod reaching;
 mod swept;
 mod sweeping;
+mod votes;
 
 pub use levels::levels;
 pub use swept::{Swept, swept};

@@ -6,6 +6,7 @@ ghost use Rattle.sweep.specs.Sweep.{greatest, IsSwept};
 use crate::counting::copy_counts;
 use crate::levels::voted_levels;
 use crate::near::near_all;
+use crate::votes::Votes;
 use flat_net::{FreeNet, nodes_of};
 use std::alloc::Global;
 use tmr_base::OutOfMemory;
@@ -61,7 +62,7 @@ pub fn swept(
     let plan = make_plan(alloc, net, form, size, version == 2, most)?;
     let depths = plan.depths(alloc)?;
     let counts = copy_counts(alloc, net, &plan)?;
-    let levels = voted_levels(alloc, net, Some(&plan))?;
+    let levels = voted_levels(alloc, net, &Votes::Planned(&plan))?;
     let nodes = plan.nets(net) - 3 * net.input_count();
     Ok(Swept {
         size,

@@ -1,23 +1,23 @@
 -- Only private functions cite this: paths on which a voted pin counts one table more, and the most tables on them.
 use Rattle.std.specs.Prelude.{◌≡◌, ℕ, ◌+◌, ◌*◌, ◌-◌, ◌==◌, ◌<◌, ◌≤◌, ◌⊎◌, Bool, false, List, length, Option, Some, None, slice_index, if◌then◌else◌}
-use Rattle.std.specs.Borrow.{Bor}
 use Rattle.flat_net.specs.Net.{Net, Node, Table, Register, net_count, node_of, IsTable, IsRegister}
 use Rattle.feedback_cut.specs.Inner.{node_pins}
 use Rattle.partitioner.specs.Below.{one_if}
-use Rattle.triplicate.specs.declared.planning.Plan.{Plan}
 use Rattle.triplicate.specs.Planned.{voted_in}
 use Rattle.triplicate.specs.Private.Taps.{AreTaps}
+use Rattle.sweep.specs.declared.votes.Votes.{Votes}
+use Rattle.sweep.specs.declared.votes.Votes.TheVariants.{Absent, Planned}
 use Rattle.sweep.specs.Levels.{IsStart}
 
--- pin j of node y is voted; without a plan none is
-abbrev pub voted_by : Net → Option (Bor Plan) → ℕ → ℕ → Bool
-voted_by n None = λ y j. false
-voted_by n (Some p) = voted_in n p.now
+-- pin j of node y is voted
+abbrev pub voted_by : Net → Votes → ℕ → ℕ → Bool
+voted_by n Absent = λ y j. false
+voted_by n (Planned p) = voted_in n p.now
 
 -- which voter each pin reads is noted
-abbrev pub HasTaps : Net → Option (Bor Plan) → Type 0
-HasTaps n None = Unit {0}
-HasTaps n (Some p) = AreTaps n p.now.parts (voted_in n p.now) p.now.taps
+abbrev pub HasTaps : Net → Votes → Type 0
+HasTaps n Absent = Unit {0}
+HasTaps n (Planned p) = AreTaps n p.now.parts (voted_in n p.now) p.now.taps
 
 -- a path to net x with so many tables, where a voted pin counts one more. Nodes and pins are counted from 0
 pub data VotedPath (n : Net) (voted : ℕ → ℕ → Bool) : ℕ → ℕ → Type 0 where
