@@ -16,18 +16,29 @@ use Rattle.flat_net.specs.Net.{Net, net_count}
 use Rattle.certificate.specs.declared.role.Role.{Role}
 use Rattle.certificate.specs.declared.role.Role.TheVariants.{Copy, Voter}
 use Rattle.certificate.specs.Cert.{PlainCert, part_of}
-use Rattle.node_reads.specs.Noting.{related}
-use Rattle.node_reads.proofs.Numbers.{numbers_more}
 use Rattle.partitioner.specs.Below.{one_if}
-use Rattle.triplicate.specs.Blocks.{threefold, copies_of, voters_for, block}
+use Rattle.triplicate.specs.Blocks.{threefold, copies_of, voters_for, block, hardened_roles}
 use Rattle.triplicate.specs.Voting.{needs_voter, voting_parts}
 use Rattle.triplicate.specs.declared.planning.Plan.{Plan}
 use Rattle.triplicate.specs.Planned.{voted_in, cert_in}
 use Rattle.triplicate.specs.Private.Numbers.{HasFewNets, block_start}
+use Rattle.triplicate.specs.Private.Construction.{hardened_cert}
+use Rattle.triplicate.specs.Private.Labels.{labeling}
 use Rattle.triplicate.proofs.Numbering.{copies_of_node, copies_of_input}
 use Rattle.triplicate.proofs.Places.{start_more, start_few}
+use Rattle.triplicate.proofs.Tripled.{part_at_node}
 use Rattle.exposure.specs.Counts.{is_same_part, is_of, copy_count}
 use Rattle.sweep.specs.Private.Counting.{count_so_far, AreSoFar, AreCounts}
+
+-- the numbers from s on, one more
+range_more : (s n : ℕ) → range_with_len s (suc n) ≡ range_with_len s n ++ (s + n) ∷ []
+range_more s zero = let e : s ≡ s + 0 = omega arith in ap (λ (x : ℕ). x ∷ []) e
+range_more s (suc n) =
+    let e : s + 1 + n ≡ s + suc n = omega arith in
+    ap (λ (xs : List ℕ). s ∷ xs) (range_more (s + 1) n ∙ ap (λ (x : ℕ). range_with_len (s + 1) n ++ x ∷ []) e)
+
+numbers_more : (x : ℕ) → range_with_len 0 (suc x) ≡ range_with_len 0 x ++ x ∷ []
+numbers_more x = let e : 0 + x ≡ x = omega arith in range_more 0 x ∙ ap (λ (z : ℕ). range_with_len 0 x ++ z ∷ []) e
 
 -- ---- a number more
 
@@ -121,6 +132,13 @@ module _ (n : Net) (plan : Plan) where
       let three = sum_by-append test (copies_of n x) (flat_map (voters_for x) (voting_parts n plan.parts (voted_in n plan) x)) in
       omega (arith, all, one, two, three, voters_counted (cert_in n plan) p c x (voting_parts n plan.parts (voted_in n plan) x))
 
+  -- the copies of a node are counted at its partition
+  pub copies_more : (x q : ℕ) (old : List ℕ) → length plan.parts.of ≡ length n.nodes → length n.inputs ≤ x → x < net_count n → q ≡ slice_index plan.parts.of (x - length n.inputs) → q < length old
+      → (p : ℕ) (c : CopyNo) → p < length old → slice_index (slice_set old q (slice_index old q + 1)) p ≡ slice_index old p + count_by (is_of (cert_in n plan) p c) (copies_of n x)
+  copies_more x q old long low high at within p c l =
+      let part : part_of (cert_in n plan) x ≡ Some q = part_at_node n plan.parts (voted_in n plan) (labeling plan.inputs plan.extra.table) long x low high ∙ ap Some (sym at) in
+      omega (arith, one_more_at old (slice_set old q (slice_index old q + 1)) q within refl p l, node_counted (cert_in n plan) p c n x q low part)
+
   pub none_so_far : (size : ℕ) (counts : List ℕ) → size ≡ plan.parts.count → counts ≡ replicate size 0 → AreSoFar n plan 0 counts
   none_so_far size counts same e = record {
     long = ap length e ∙ (length-replicate size 0 ∙ same);
@@ -153,3 +171,20 @@ module _ (n : Net) (plan : Plan) where
           let short : i < r = omega (arith, l, length-range_with_len 0 r) in
           let at = get_or-range_with_len 0 r i d short in
           omega (arith, at, short, h)
+
+  -- behind the copies there is still room for the voters
+  pub room_behind : (x p : ℕ) (old now row : List ℕ) → HasFewNets n plan.parts (voted_in n plan) → x < net_count n → AreSoFar n plan x old → p < plan.parts.count → row ≡ voting_parts n plan.parts (voted_in n plan) x
+      → slice_index now p ≡ slice_index old p + count_by (is_of (cert_in n plan) p First) (copies_of n x) → slice_index now p + length row < 4294967296
+  room_behind x p old now row few h s l is more =
+      omega (arith, more, room x p old few h s l, count_by-le-length (is_of (cert_in n plan) p First) (copies_of n x), ap length is)
+
+  -- in the end all nodes of the hardened design are counted
+  roles_counted : (p : ℕ) (c : CopyNo) → count_so_far n plan p c (net_count n) ≡ copy_count (cert_in n plan) p c
+  unfolding hardened_cert hardened_roles
+  roles_counted p c = refl
+
+  pub all_counted : (count : ℕ) (counts : List ℕ) → count ≡ net_count n → AreSoFar n plan count counts → AreCounts n plan counts
+  all_counted count counts all s = record {
+    long = s.long;
+    each = λ p c l. s.each p c l ∙ (ap (λ (m : ℕ). count_so_far n plan p c m) all ∙ roles_counted p c);
+  }

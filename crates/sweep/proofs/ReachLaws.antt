@@ -1,10 +1,10 @@
 -- What is reached grows table by table, and in the end tells of all paths.
-use Rattle.std.proofs.Common.{◌≡◌, ◌≢◌, ℕ, zero, suc, ◌+◌, ◌*◌, ◌-◌, ◌<◌, ◌≤◌, ◌⊎◌, inl, inr, max, Bool, true, false, cond, List, length, get_or, map, slice_set, Option, Some, None, refl, sym, ap, ◌∙◌, subst, arith}
+use Rattle.std.proofs.Common.{◌≡◌, ◌≢◌, ℕ, zero, suc, ◌+◌, ◌*◌, ◌-◌, ◌<◌, ◌≤◌, ◌⊎◌, inl, inr, max, Bool, true, false, cond, List, [], ◌∷◌, ◌++◌, length, get_or, map, slice_set, Option, Some, None, refl, sym, ap, ◌∙◌, subst, arith}
 use Rattle.std.specs.Prelude.{◌==◌, slice_index, if◌then◌else◌}
 use Rattle.std.specs.List.{range_with_len}
 use Rattle.std.proofs.lemmas.Bool.{cases_eq, cases_lt, eq-eqb, ne_eqb}
 use Rattle.std.proofs.lemmas.List.{get_or-set_same, get_or-set_other, length-set, get_or_past}
-use Rattle.std.proofs.lemmas.List.FromFn.{get_or-map-range_with_len, length-map-range_with_len}
+use Rattle.std.proofs.lemmas.List.FromFn.{get_or-map-range_with_len, length-map-range_with_len, map-range_with_len_more}
 use Rattle.flat_net.specs.Net.{Net, Node, Table, Register, net_count, node_of, pins_at, table_pins, IsTable, IsRegister, IsOrder}
 use Rattle.flat_net.specs.declared.kind.Kind.TheVariants as kind
 use Rattle.flat_net.specs.Kinds.{kind_of}
@@ -20,10 +20,10 @@ use Rattle.sweep.specs.Private.Reaching.{VotedPath, begins, goes_on, VotedEnd, a
 -- ---- the greatest of several numbers
 
 pub most_none : (f : ℕ → ℕ) → IsMostOf f 0 0
-most_none f = record { some = inl refl; most = λ j l. absurd (omega (arith, l)) }
+most_none f = record { some = inl refl; none_above = λ j l. absurd (omega (arith, l)) }
 
-pub most_more : (f : ℕ → ℕ) (j most value : ℕ) → IsMostOf f j most → value ≡ f j → IsMostOf f (j + 1) (max most value)
-most_more f j most value is at = record { some = go (cases_lt most value) is.some; most = λ i l. below i (cases_lt i j) l }
+max_more : (f : ℕ → ℕ) (j most value : ℕ) → IsMostOf f j most → value ≡ f j → IsMostOf f (j + 1) (max most value)
+max_more f j most value is at = record { some = go (cases_lt most value) is.some; none_above = λ i l. below i (cases_lt i j) l }
   where
     go : (most < value) ⊎ (value ≤ most) → (most ≡ 0) ⊎ ((i : ℕ) × (i < j) × (most ≡ f i)) → (max most value ≡ 0) ⊎ ((i : ℕ) × (i < j + 1) × (max most value ≡ f i))
     go (inl more) some = inr (j, omega arith, omega (arith, at, more))
@@ -31,10 +31,13 @@ most_more f j most value is at = record { some = go (cases_lt most value) is.som
     go (inr less) (inr (i, l, e)) = inr (i, omega (arith, l), omega (arith, e, less))
 
     below : (i : ℕ) → (i < j) ⊎ (j ≤ i) → i < j + 1 → f i ≤ max most value
-    below i (inl l) h = omega (arith, is.most i l)
+    below i (inl l) h = omega (arith, is.none_above i l)
     below i (inr m) h =
         let same : i ≡ j = omega (arith, m, h) in
         omega (arith, at, ap f same)
+
+pub most_more : (f : ℕ → ℕ) (j most value next : ℕ) → IsMostOf f j most → value ≡ f j → next ≡ max most value → IsMostOf f (j + 1) next
+most_more f j most value next is at greater = subst (λ (m : ℕ). IsMostOf f (j + 1) m) (sym greater) (max_more f j most value is at)
 
 -- ---- what comes along a pin
 
@@ -107,6 +110,11 @@ first_table : (o : Option Node) → IsTable o → first_reach o ≡ 0
 first_table None t = absurd t
 first_table (Some (Table name cover pins)) t = refl
 first_table (Some (Register name init pin)) t = absurd t
+
+-- what is reached at first, one net more
+pub first_more : (n : Net) (x value : ℕ) (old new : List ℕ) → old ≡ map (λ z. first_reach (node_of n z)) (range_with_len 0 x) → value ≡ first_reach (node_of n x) → new ≡ old ++ value ∷ [] → new ≡ map (λ z. first_reach (node_of n z)) (range_with_len 0 (x + 1))
+first_more n x value old new before at pushed =
+    pushed ∙ (ap (λ (xs : List ℕ). xs ++ value ∷ []) before ∙ (ap (λ (v : ℕ). map (λ z. first_reach (node_of n z)) (range_with_len 0 x) ++ v ∷ []) at ∙ sym (map-range_with_len_more (λ z. first_reach (node_of n z)) 0 x x (omega arith))))
 
 pub input_no_table : (o : Option Node) → kind.Input ≡ kind_of o → IsTable o → ⊥
 input_no_table None e t = t
@@ -282,7 +290,7 @@ module _ (n : Net) (voted : ℕ → ℕ → Bool) (order : List ℕ) where
             let same : along n voted new z j ≡ along n voted old z j = ap (λ (r : ℕ). passed r (voted z j)) (there (slice_index (node_pins n z) j) (pin_apart k z j less place its h)) in
             let node : z ≡ x - length n.inputs = omega (arith, own) in
             let at_own : along n voted old z j ≡ along n voted old (x - length n.inputs) j = ap (λ (w : ℕ). along n voted old w j) node in
-            let most = own_most.most j (omega (arith, h, ap (λ (w : ℕ). length (node_pins n w)) node)) in
+            let most = own_most.none_above j (omega (arith, h, ap (λ (w : ℕ). length (node_pins n w)) node)) in
             omega (arith, same, at_own, most, some, next_some (omega (arith, same, at_own, most, some)), here, ap (slice_index new) own)
 
         table_more : AreReached n voted order (i + 1) new
@@ -344,10 +352,10 @@ module _ (n : Net) (voted : ℕ → ℕ → Bool) (order : List ℕ) where
       levels_are outs keeps levels out keep e = record { most = most; some = some (cases_eq (max outs keeps) 0) (cases_lt keeps outs) }
         where
           most : (tables : ℕ) → VotedEnd n voted tables → tables ≤ levels
-          most _ (at_output k tables l path) = omega (arith, e, out.most k l, reaches (slice_index n.outputs k) tables path)
+          most _ (at_output k tables l path) = omega (arith, e, out.none_above k l, reaches (slice_index n.outputs k) tables path)
           most _ (at_register y tables register path) =
               let before = reaches (slice_index (node_pins n y) 0) tables path in
-              omega (arith, e, keep.most y (register_within n y register), kept_is y register, passed_some (slice_index reach (slice_index (node_pins n y) 0)) (voted y 0) (omega (arith, before)), before)
+              omega (arith, e, keep.none_above y (register_within n y register), kept_is y register, passed_some (slice_index reach (slice_index (node_pins n y) 0)) (voted y 0) (omega (arith, before)), before)
 
           at_out : outs ≡ levels + 1 → (outs ≡ 0) ⊎ ((k : ℕ) × (k < length n.outputs) × (outs ≡ slice_index reach (slice_index n.outputs k))) → VotedEnd n voted levels
           at_out f (inl none) = absurd (omega (arith, f, none))

@@ -26,7 +26,8 @@ use Rattle.triplicate.proofs.Sizes.{roles_counted}
 use Rattle.triplicate.proofs.Valid.{is_valid}
 use Rattle.exposure.specs.Counts.{copy_count, near_of, near_in, near_inputs, near_total}
 use Rattle.sweep.specs.declared.swept.Swept.{Swept}
-use Rattle.sweep.specs.Sweep.{greatest, IsSwept, IsSweep, swept_line}
+use Rattle.sweep.specs.Levels.{AreLevels}
+use Rattle.sweep.specs.Sweep.{greatest, IsSwept, IsSweep, IsSweepText, original_line, swept_line, sweep_text}
 use Rattle.sweep.specs.Private.Counting.{AreCounts}
 use Rattle.sweep.specs.Private.Reaching.{AreVotedLevels}
 use Rattle.sweep.specs.Private.Written.{IsSweeping, lines_left}
@@ -55,6 +56,11 @@ inputs_near n p count e =
     go : (b : Bool) → (if b then near_of count count count 0 else 0) ≡ (if version_of b == 1 then 0 else near_of count count count 0)
     go true = refl
     go false = refl
+
+pub none_near : (n : Net) (p : Plan) → p.inputs ≡ false → 0 ≡ near_inputs (cert_in n p)
+none_near n p e =
+    let same : (if p.inputs then near_of (length n.inputs) (length n.inputs) (length n.inputs) 0 else 0) ≡ 0 = ap (λ (b : Bool). if b then near_of (length n.inputs) (length n.inputs) (length n.inputs) 0 else 0) e in
+    sym same ∙ inputs_near n p (length n.inputs) refl
 
 pub part_near : (n : Net) (p : Plan) (counts depths : List ℕ) (i : ℕ) → AreCounts n p counts → depths ≡ p.extra.table.depths → i < p.parts.count
     → near_of (slice_index counts i) (slice_index counts i) (slice_index counts i) (slice_index depths i) ≡ near_in (cert_in n p) i
@@ -182,3 +188,13 @@ line_put n swept i s old new total at put before =
     ap (λ (xs : List ℕ). xs ++ lines_left n swept (i + 1)) put
     ∙ (append_assoc old (line_text (swept_line n s)) (lines_left n swept (i + 1))
     ∙ (ap (λ (ss : List Swept). old ++ flat_map line_text (map (swept_line n) ss)) (sym first) ∙ before))
+
+pub text_is : (kind : Form) (n : FreeDesign) (d : Design) (version most levels : ℕ) (swept : List Swept) (a b c : List ℕ) → d ≡ n.design → AreLevels d.net levels → IsSweep kind n version most swept → a ≡ []
+    → b ≡ a ++ line_text (original_line d.net levels) → c ≡ b ++ lines_left d.net swept 0 → IsSweepText kind n version most c
+text_is kind n d version most levels swept a b c same original sizes none first rest = record {
+  levels = levels;
+  swept = swept;
+  original = subst (λ (e : Design). AreLevels e.net levels) same original;
+  sizes = sizes;
+  text_is = rest ∙ (ap (λ (xs : List ℕ). xs ++ lines_left d.net swept 0) (first ∙ ap (λ (xs : List ℕ). xs ++ line_text (original_line d.net levels)) none) ∙ ap (λ (e : Design). sweep_text e.net levels swept) same);
+}

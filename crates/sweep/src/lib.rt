@@ -5,14 +5,14 @@
 #![tactic(auto)]
 
 mod counting;
-mod levels;
 mod lines;
+mod longest;
 mod near;
 mod reaching;
-mod swept;
 mod sweeping;
+mod swept;
 mod votes;
 
-pub use levels::levels;
-pub use swept::{Swept, swept};
+pub use longest::levels;
+pub use swept::{Swept, sweep_size};
 pub use sweeping::sweep;

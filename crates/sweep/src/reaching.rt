@@ -1,5 +1,5 @@
 //! For each net the most tables on a path to it.
-ghost use Rattle.std.specs.Prelude.{◌≡◌, ◌==◌, ◌+◌, ◌-◌, ◌<◌, ◌≤◌, ℕ, length, map, slice_index, IfOk, if◌then◌else◌};
+ghost use Rattle.std.specs.Prelude.{◌≡◌, ◌==◌, ◌+◌, ◌-◌, ◌<◌, ◌≤◌, ℕ, max, length, map, slice_index, IfOk, if◌then◌else◌};
 ghost use Rattle.std.specs.List.{range_with_len};
 ghost use Rattle.flat_net.specs.Net.{net_count, pin_total, node_of, IsTable};
 ghost use Rattle.feedback_cut.specs.Inner.{node_pins};
@@ -20,6 +20,13 @@ fn passed(reach: u32, voted: bool) -> u32
         return 0;
     }
     if voted { reach + 1 } else { reach }
+}
+
+/// The greater of two numbers.
+pub fn greater(a: u32, b: u32) -> u32
+    ensures { result ≡ max a b }
+{
+    if a < b { b } else { a }
 }
 
 /// What comes along pin j of node y.
@@ -49,7 +56,7 @@ fn most_along(n: &FlatNet, votes: &Votes, reach: &[u32], y: u32) -> u32
     let _nodes = nodes_of(n);
     let mut most = 0;
     for j in 0..n.pin_count(NetId(n.input_count() + y)) {
-        most = most.max(along(n, votes, reach, y, j));
+        most = greater(most, along(n, votes, reach, y, j));
     }
     most
 }

@@ -3,9 +3,9 @@ ghost use Rattle.std.specs.Prelude.{◌≡◌, ◌+◌, ◌<◌, ◌≤◌, ◌�
 ghost use Rattle.flat_net.specs.Net.{net_count, pin_total};
 ghost use Rattle.sweep.specs.Sweep.{IsSweep, IsSweepText};
 
-use crate::levels::levels;
+use crate::longest::levels;
 use crate::lines::{put_original, put_swept};
-use crate::swept::{Swept, swept};
+use crate::swept::{Swept, sweep_size};
 use flat_net::{FreeNet, nodes_of};
 use std::alloc::Global;
 use tmr_base::OutOfMemory;
@@ -27,10 +27,10 @@ fn all_swept(
     let nodes = nodes_of(n.net());
     let mut lines = Vec::new(alloc);
     let mut size = 16;
-    lines.push(swept(alloc, n, form, size, version, most)?)?;
+    lines.push(sweep_size(alloc, n, form, size, version, most)?)?;
     while size < nodes {
         size *= 2;
-        lines.push(swept(alloc, n, form, size, version, most)?)?;
+        lines.push(sweep_size(alloc, n, form, size, version, most)?)?;
     }
     Ok(lines)
 }

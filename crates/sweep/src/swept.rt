@@ -4,8 +4,9 @@ ghost use Rattle.flat_net.specs.Net.{net_count, pin_total};
 ghost use Rattle.sweep.specs.Sweep.{greatest, IsSwept};
 
 use crate::counting::copy_counts;
-use crate::levels::voted_levels;
+use crate::longest::voted_levels;
 use crate::near::near_all;
+use crate::reaching::greater;
 use crate::votes::Votes;
 use flat_net::{FreeNet, nodes_of};
 use std::alloc::Global;
@@ -35,7 +36,7 @@ fn greatest(depths: &[u32]) -> u32
 {
     let mut most = 0;
     for p in 0..depths.len() {
-        most = most.max(depths[p]);
+        most = greater(most, depths[p]);
     }
     most
 }
@@ -43,7 +44,7 @@ fn greatest(depths: &[u32]) -> u32
 /// What the design made threefold in this form has, with a certificate of this version. `size` is the size of partitions; no
 /// depth is above `most`, and a bound above the number of nodes adds no voters. All is told of one pair in the hardened form,
 /// which is not made. The one refusal is want of memory.
-pub fn swept(
+pub fn sweep_size(
     alloc: Global,
     n: &FreeNet,
     form: Form,

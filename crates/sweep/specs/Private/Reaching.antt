@@ -42,7 +42,7 @@ along n voted reach y j = passed (slice_index reach (slice_index (node_pins n y)
 -- the greatest of f at the numbers below count, or 0 where there is none
 pub record IsMostOf (f : ℕ → ℕ) (count most : ℕ) : Type 0 where
   pub some : (most ≡ 0) ⊎ ((j : ℕ) × (j < count) × (most ≡ f j))
-  pub most : (j : ℕ) → j < count → f j ≤ most
+  pub none_above : (j : ℕ) → j < count → f j ≤ most
 
 -- the most that comes along a pin of node y
 abbrev pub IsMostAt : Net → (ℕ → ℕ → Bool) → List ℕ → ℕ → ℕ → Type 0

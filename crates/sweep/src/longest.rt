@@ -4,7 +4,7 @@ ghost use Rattle.flat_net.specs.Net.{net_count, pin_total, node_of, IsRegister};
 ghost use Rattle.sweep.specs.Levels.{AreLevels};
 ghost use Rattle.sweep.specs.Private.Reaching.{voted_by, HasTaps, along, kept, IsMostOut, IsMostKept, AreVotedLevels};
 
-use crate::reaching::{along, reached};
+use crate::reaching::{along, greater, reached};
 use crate::votes::Votes;
 use flat_net::{FlatNet, Kind, nodes_of};
 use std::alloc::Global;
@@ -18,7 +18,7 @@ fn most_out(n: &FlatNet, reach: &[u32]) -> u32
     let mut most = 0;
     for k in 0..n.output_count() {
         let x = n.output(k);
-        most = most.max(reach[x.0 as usize]);
+        most = greater(most, reach[x.0 as usize]);
     }
     most
 }
@@ -48,7 +48,7 @@ fn most_kept(n: &FlatNet, votes: &Votes, reach: &[u32]) -> u32
 {
     let mut most = 0;
     for y in 0..nodes_of(n) {
-        most = most.max(kept(n, votes, reach, y));
+        most = greater(most, kept(n, votes, reach, y));
     }
     most
 }
@@ -61,8 +61,9 @@ pub fn voted_levels(alloc: Global, n: &FlatNet, votes: &Votes) -> Result<u32, Ou
 {
     let _nodes = nodes_of(n);
     let reach = reached(alloc, n, votes)?;
-    let most = most_out(n, &reach).max(most_kept(n, votes, &reach));
-    Ok(if most == 0 { 0 } else { most - 1 })
+    let outputs = most_out(n, &reach);
+    let registers = most_kept(n, votes, &reach);
+    Ok(greater(outputs, registers).saturating_sub(1))
 }
 
 /// The most tables on a path from an input or a register to a register or an output. The one refusal is want of memory.
