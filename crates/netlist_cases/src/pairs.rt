@@ -10,6 +10,7 @@ use crate::escapes::put_bytes;
 use crate::faults::cert_fault;
 use crate::stop::{Stop, stopped};
 use certificate::Certificate;
+use exposure::exposure;
 use flat_net::{FlatNet, FreeNet};
 use recovery_depth::{Deep, least};
 use std::alloc::{AllocError, Global};
@@ -156,4 +157,13 @@ pub fn least_text(alloc: Global, n: &FlatNet, h: &FlatNet, bytes: &[u8]) -> Resu
         return Err(stopped(alloc, "version 2"));
     }
     plain_least(alloc, n, h, &c)
+}
+
+/// The exposure of a hardened design by the certificate of these bytes. The rules are not checked.
+pub fn exposed_text(alloc: Global, n: &FlatNet, h: &FlatNet, bytes: &[u8]) -> Result<String, Stop> {
+    let c = cert_in(alloc, n, h, bytes)?;
+    let text = exposure(alloc, n, h, &c)?;
+    let mut shown = String::new(alloc);
+    put_bytes(&mut shown, text.as_slice())?;
+    Ok(shown)
 }

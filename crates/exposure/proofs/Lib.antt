@@ -1,0 +1,4 @@
+pub mod NearLaws
+pub mod CountLaws
+pub mod Bounds
+pub mod LineLaws

@@ -1,0 +1,4 @@
+pub mod TooNear
+pub mod Counts
+pub mod Text
+pub mod Private

@@ -1,0 +1,8 @@
+use Rattle.std.proofs.Common.{◌≡◌}
+use Rattle.std.specs.List.{sum_by, range_with_len}
+use Rattle.triplicate.specs.Planned.{cert_in}
+use Rattle.exposure.specs.Counts.{near_in}
+use Rattle.sweep.proofs.near.near_parts.Given as goal
+
+abbrev pub invariant-loop-p : goal.invariant-loop-p
+invariant-loop-p l = l.total ≡ sum_by (near_in (cert_in l.n.net l.plan)) (range_with_len 0 l.p)

@@ -1,0 +1,9 @@
+use Rattle.std.proofs.Common.{◌*◌, ◌-◌}
+use Rattle.sweep.specs.Private.Written.{IsSweeping}
+use Rattle.sweep.proofs.sweeping.all_swept.Given as goal
+
+abbrev pub invariant-loop-size : goal.invariant-loop-size
+invariant-loop-size l = IsSweeping l.form l.n l.version l.most l.lines.items l.size
+
+abbrev pub decreases-loop-size : goal.decreases-loop-size
+decreases-loop-size l = 2 * l.nodes - l.size

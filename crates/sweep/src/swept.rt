@@ -1,0 +1,76 @@
+//! What the hardened form of one size has.
+ghost use Rattle.std.specs.Prelude.{◌≡◌, ◌+◌, ◌<◌, ◌≤◌, ◌⊎◌, length, IfOk};
+ghost use Rattle.flat_net.specs.Net.{net_count, pin_total};
+ghost use Rattle.sweep.specs.Sweep.{greatest, IsSwept};
+
+use crate::counting::copy_counts;
+use crate::longest::voted_levels;
+use crate::near::near_all;
+use crate::reaching::greater;
+use crate::votes::Votes;
+use flat_net::{FreeNet, nodes_of};
+use std::alloc::Global;
+use tmr_base::OutOfMemory;
+use triplicate::{Form, make_plan};
+
+/// What the hardened form of one size has.
+#[derive(Clone, Copy, Drop)]
+pub struct Swept {
+    /// The size of partitions.
+    pub size: u32,
+    /// How many partitions there are.
+    pub partitions: u32,
+    /// How many voters there are.
+    pub voters: u32,
+    /// The greatest depth, in cycles.
+    pub depth: u32,
+    /// The most tables, voters among them, on a path from an input or a register to a register or an output.
+    pub levels: u32,
+    /// How many pairs of nets and distances of cycles are too near.
+    pub near: u128,
+}
+
+/// The greatest of these depths, or 0 where there is none.
+fn greatest(depths: &[u32]) -> u32
+    ensures { result ≡ greatest depths.now }
+{
+    let mut most = 0;
+    for p in 0..depths.len() {
+        most = greater(most, depths[p]);
+    }
+    most
+}
+
+/// What the design made threefold in this form has, with a certificate of this version. `size` is the size of partitions; no
+/// depth is above `most`, and a bound above the number of nodes adds no voters. All is told of one pair in the hardened form,
+/// which is not made. The one refusal is want of memory.
+pub fn sweep_size(
+    alloc: Global,
+    n: &FreeNet,
+    form: Form,
+    size: u32,
+    version: u8,
+    most: u32,
+) -> Result<Swept, OutOfMemory>
+    requires size { 0 < size }
+    requires version { (version ≡ 1) ⊎ (version ≡ 2) }
+    requires most { 0 < most }
+    requires few { net_count n.now.design.net + pin_total n.now.design.net ≤ 16777216 }
+    ensures { IfOk result (λ s. IsSwept form n.now size version most s) }
+{
+    let net = n.net();
+    let count = nodes_of(net);
+    let plan = make_plan(alloc, net, form, size, version == 2, most)?;
+    let depths = plan.depths(alloc)?;
+    let counts = copy_counts(alloc, net, &plan)?;
+    let levels = voted_levels(alloc, net, &Votes::Planned(&plan))?;
+    let nodes = plan.nets(net) - 3 * net.input_count();
+    Ok(Swept {
+        size,
+        partitions: plan.parts.count(),
+        voters: nodes - 3 * count,
+        depth: greatest(&depths),
+        levels,
+        near: near_all(net, &plan, &counts, &depths),
+    })
+}
