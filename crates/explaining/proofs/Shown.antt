@@ -1,0 +1,41 @@
+-- Lines of the first failures, and how many more there are.
+use Rattle.std.proofs.Common.{◌≡◌, ℕ, ◌+◌, ◌-◌, ◌<◌, ◌≤◌, ◌⊎◌, inl, inr, Bool, true, false, nat_lt, List, [], ◌∷◌, ◌++◌, length, take, refl, sym, ap, ◌∙◌, subst, arith, nat_tests}
+use Rattle.std.proofs.lemmas.List.{append-nil, take_all, take-append-le, length_push}
+use Rattle.std.proofs.lemmas.List.Concat.{flat_map-append}
+use Rattle.std.specs.Prelude.{◌==◌, if◌then◌else◌}
+use Rattle.std.specs.List.{flat_map}
+use Rattle.explaining.specs.Explained.{more_line}
+use Rattle.explaining.specs.Private.Found.{shown}
+
+pub not_shown : (before : ℕ) (line text : List ℕ) → 100 ≤ before → text ≡ text ++ shown before line
+not_shown before line text h =
+    let no : shown before line ≡ [] = grind (arith, nat_tests) in
+    sym (append-nil text) ∙ ap (λ (t : List ℕ). text ++ t) (sym no)
+
+pub is_shown : (before : ℕ) (line : List ℕ) → before < 100 → shown before line ≡ line
+is_shown before line h = grind (arith, nat_tests)
+
+-- one failure more
+pub next_shown : {A : Type 0} (f : A → List ℕ) (xs : List A) (x : A) (text new : List ℕ) (count : ℕ) → text ≡ flat_map f (take 100 xs) → count ≡ length xs → new ≡ text ++ shown count (f x) → new ≡ flat_map f (take 100 (xs ++ x ∷ []))
+next_shown f xs x text new count is counts put = go (cases (length xs) 100)
+  where
+    cases : (a b : ℕ) → (a < b) ⊎ (b ≤ a)
+    cases a b = grind arith
+
+    go : (length xs < 100) ⊎ (100 ≤ length xs) → new ≡ flat_map f (take 100 (xs ++ x ∷ []))
+    go (inl few) =
+        let line : shown count (f x) ≡ f x = is_shown count (f x) (omega (arith, counts)) in
+        let all : take 100 xs ≡ xs = take_all 100 xs (omega arith) in
+        let more : take 100 (xs ++ x ∷ []) ≡ xs ++ x ∷ [] = take_all 100 (xs ++ x ∷ []) (omega (arith, length_push xs x)) in
+        put ∙ (ap (λ (t : List ℕ). text ++ t) line ∙ (ap (λ (t : List ℕ). t ++ f x) (is ∙ ap (flat_map f) all)
+        ∙ (ap (λ (t : List ℕ). flat_map f xs ++ t) (sym (append-nil (f x))) ∙ (sym (flat_map-append f xs (x ∷ [])) ∙ ap (flat_map f) (sym more)))))
+    go (inr many) =
+        let same : text ≡ text ++ shown count (f x) = not_shown count (f x) text (omega (arith, counts)) in
+        put ∙ (sym same ∙ (is ∙ ap (flat_map f) (sym (take-append-le 100 xs (x ∷ []) many))))
+
+pub no_more : (count : ℕ) (text : List ℕ) → count ≤ 100 → text ≡ text ++ more_line (count - 100)
+no_more count text h =
+    let none : more_line (count - 100) ≡ [] = ap more_line (let z : count - 100 ≡ 0 = omega arith in z) in
+    sym (append-nil text) ∙ ap (λ (t : List ℕ). text ++ t) (sym none)
+
+pub ruleset puts = (not_shown, is_shown)
