@@ -41,17 +41,17 @@ module _ (n h : Net) (k : PlainCert) (y : ℕ) (x : NetId) (c : CopyNo) (p : ℕ
   pub register_fails : (f g : List Bool) → IfSome o (RegisterFails k (node_of n x.0) (node_bit (length n.inputs) f x.0) (node_of h y) (node_bit (length h.inputs) g y) p c) → IfSome o (Explains4 n f h g k y)
   register_fails f g = if_some _ _ o (λ reason is. record { x = x.0; c = c; p = p; role = role; part = part; is = is })
 
-  pub label_holds : IfNone o (LabelReaches k (node_of h y) (label_of k x.0 c)) → IfNone o (Rule6 h k y)
-  label_holds = if_none _ _ o (λ reaches z d other. same_copy k y x c role (λ u e. LabelReaches k (node_of h y) (label_of k u e)) reaches z d other)
+pub label_holds : (h : Net) (k : PlainCert) (y : ℕ) (x : NetId) (c : CopyNo) (o : Option Reason) → role_of k y ≡ Some (Copy x c) → IfNone o (LabelReaches k (node_of h y) (label_of k x.0 c)) → IfNone o (Rule6 h k y)
+label_holds h k y x c o role = if_none _ _ o (λ reaches z d other. same_copy k y x c role (λ u e. LabelReaches k (node_of h y) (label_of k u e)) reaches z d other)
 
-  pub label_fails : IfSome o (LabelFails k (node_of h y) (label_of k x.0 c)) → IfSome o (Explains6 h k y)
-  label_fails = if_some _ _ o (λ reason is. record { x = x.0; c = c; p = p; role = role; part = part; is = is })
+pub label_fails : (h : Net) (k : PlainCert) (y : ℕ) (x : NetId) (c : CopyNo) (o : Option Reason) → role_of k y ≡ Some (Copy x c) → IfSome o (LabelFails k (node_of h y) (label_of k x.0 c)) → IfSome o (Explains6 h k y)
+label_fails h k y x c o role = if_some _ _ o (λ reason is. record { x = x.0; c = c; role = role; is = is })
 
-  pub depth_holds : IfNone o (label_of k x.0 c ≤ depth_of k p) → IfNone o (Rule7 k y)
-  depth_holds = if_none _ _ o (λ within z d q other at. same_part k y x c role p part (λ u e v. label_of k u e ≤ depth_of k v) within z d q other at)
+pub depth_holds : (k : PlainCert) (y : ℕ) (x : NetId) (c : CopyNo) (p : ℕ) (o : Option Reason) → role_of k y ≡ Some (Copy x c) → part_of k x.0 ≡ Some p → IfNone o (label_of k x.0 c ≤ depth_of k p) → IfNone o (Rule7 k y)
+depth_holds k y x c p o role part = if_none _ _ o (λ within z d q other at. same_part k y x c role p part (λ u e v. label_of k u e ≤ depth_of k v) within z d q other at)
 
-  pub depth_fails : IfSome o (DepthFails k x.0 c p) → IfSome o (Explains7 k y)
-  depth_fails = if_some _ _ o (λ reason is. record { x = x.0; c = c; p = p; role = role; part = part; is = is })
+pub depth_fails : (k : PlainCert) (y : ℕ) (x : NetId) (c : CopyNo) (p : ℕ) (o : Option Reason) → role_of k y ≡ Some (Copy x c) → part_of k x.0 ≡ Some p → IfSome o (DepthFails k x.0 c p) → IfSome o (Explains7 k y)
+depth_fails k y x c p o role part = if_some _ _ o (λ reason is. record { x = x.0; c = c; p = p; role = role; part = part; is = is })
 
 pub voter_holds : (h : Net) (k : PlainCert) (y : ℕ) (x : NetId) (q : PartId) (d : CopyNo) (o : Option Reason) → role_of k y ≡ Some (Voter x q d) → IfNone o (Votes k (node_of h y) x.0) → IfNone o (Rule5 h k y)
 voter_holds h k y x q d o role = if_none _ _ o (λ votes z p c other. let same : x.0 ≡ z = cc (role, other) in subst (λ (u : ℕ). Votes k (node_of h y) u) same votes)

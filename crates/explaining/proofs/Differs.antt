@@ -7,8 +7,8 @@ use Rattle.tmr_base.specs.declared.copies.CopyNo.{CopyNo}
 use Rattle.tmr_base.specs.declared.copies.CopyNo.TheVariants.{First, Second, Third}
 use Rattle.tmr_base.specs.Copies.{copy_number}
 use Rattle.table_cover.specs.Cover.{PlainCover, IsMajority}
-use Rattle.flat_net.specs.Net.{Node, Table, Register, IsCoverOf, IsInitOf, pins_at}
-use Rattle.flat_net.proofs.Slots.{slice_get_there}
+use Rattle.flat_net.specs.Net.{Net, Node, Table, Register, IsCoverOf, IsInitOf, pins_at, node_of, net_count}
+use Rattle.flat_net.proofs.Slots.{slice_get_there, slot_there}
 use Rattle.flat_net.specs.declared.kind.Kind.TheVariants as kind
 use Rattle.flat_net.specs.Kinds.{kind_of}
 use Rattle.certificate.specs.Cert.{PlainCert, count_of, copy_of}
@@ -70,7 +70,20 @@ pins_copy k (Some (Table name acover pins)) (Some (Register hname hinit hpin)) c
 pins_copy k (Some (Table name acover pins)) (Some (Table hname bcover hpins)) cover hcover p c o ia ib e h =
     if_none (PinsRead k hpins pins p c) (CopiesTable k (Some (Table name acover pins)) (Some (Table hname bcover hpins)) p c) o (λ reads. (ib ∙ (e ∙ sym ia), reads)) h
 
-pub ruleset tables = (cover_fails, pins_fail, pins_copy)
+-- a hardened node that is no table is a register
+other_kind : (h : Net) (g : ℕ) (P : Option Node → Type 0) → length h.inputs ≤ g → g < net_count h → ((a : Node) → node_of h g ≡ Some a → P (Some a)) → P (node_of h g)
+other_kind h g P low high each = let (a, e) = slot_there (length h.inputs) h.nodes g low high in subst P (sym e) (each a e)
+
+pub register_for_table : (k : PlainCert) (a : Option Node) (h : Net) (g p : ℕ) (c : CopyNo) → kind_of a ≡ kind.Table → length h.inputs ≤ g → g < net_count h → kind_of (node_of h g) ≢ kind.Table → TableFails k a (node_of h g) p c IsRegister
+register_for_table k None h g p c is low high isnt = absurd (cc is)
+register_for_table k (Some (Register name init pin)) h g p c is low high isnt = absurd (cc is)
+register_for_table k (Some (Table name cover pins)) h g p c is low high isnt = other_kind h g (λ o. TableFails k (Some (Table name cover pins)) o p c IsRegister) low high each
+  where
+    each : (b : Node) → node_of h g ≡ Some b → TableFails k (Some (Table name cover pins)) (Some b) p c IsRegister
+    each (Table hname hcover hpins) e = absurd (isnt (ap kind_of e))
+    each (Register hname hinit hpin) e = refl
+
+pub ruleset tables = (register_for_table, cover_fails, pins_fail, pins_copy)
 
 pins_registers : (k : PlainCert) (init free : Bool) (pin : ℕ) (hinit hfree : Bool) (hpin p : ℕ) (c : CopyNo) (reason : Reason) → hinit ≡ init → hfree ≡ free → PinFails k (hpin ∷ []) (pin ∷ []) p c reason → RegistersDiffer k init free pin hinit hfree hpin p c reason
 pins_registers k init free pin hinit hfree hpin p c (Pin j g x q d) i f h = (i, f, h)
@@ -102,7 +115,16 @@ initial_fails k (Some (Register name ainit pin)) (Some (Table hname hcover hpins
 initial_fails k (Some (Register name ainit pin)) (Some (Register hname binit hpin)) free hfree init hinit p c ia ib h =
     (sym ib, refl, sym ia, refl, λ same. h (sym ib ∙ (same.0 ∙ ia), same.1))
 
-pub ruleset registers = (pin_fails, pin_copies, initial_fails)
+pub table_for_register : (k : PlainCert) (a : Option Node) (h : Net) (g p : ℕ) (free hfree : Bool) (c : CopyNo) → kind_of a ≡ kind.Register → length h.inputs ≤ g → g < net_count h → kind_of (node_of h g) ≢ kind.Register → RegisterFails k a free (node_of h g) hfree p c IsTable
+table_for_register k None h g p free hfree c is low high isnt = absurd (cc is)
+table_for_register k (Some (Table name cover pins)) h g p free hfree c is low high isnt = absurd (cc is)
+table_for_register k (Some (Register name init pin)) h g p free hfree c is low high isnt = other_kind h g (λ o. RegisterFails k (Some (Register name init pin)) free o hfree p c IsTable) low high each
+  where
+    each : (b : Node) → node_of h g ≡ Some b → RegisterFails k (Some (Register name init pin)) free (Some b) hfree p c IsTable
+    each (Table hname hcover hpins) e = refl
+    each (Register hname hinit hpin) e = absurd (isnt (ap kind_of e))
+
+pub ruleset registers = (table_for_register, pin_fails, pin_copies, initial_fails)
 
 -- labels: a table's pins want what they count
 table_low : (k : PlainCert) (name : List ℕ) (cover : PlainCover) (pins : List ℕ) (e : ℕ) (reason : Reason) → PinLabelFails k pins 0 e reason → LabelFails k (Some (Table name cover pins)) e reason
@@ -209,7 +231,14 @@ pins_votes_not k None x m is count ne = absurd (cc is)
 pins_votes_not k (Some (Register name init pin)) x m is count ne = absurd (cc is)
 pins_votes_not k (Some (Table name cover pins)) x m is count ne = (count, refl, ne)
 
-pub ruleset votes = (pins_votes_not, pin_votes_not, minority_fails, majority_votes)
+pub register_for_voter : (k : PlainCert) (h : Net) (g x : ℕ) → length h.inputs ≤ g → g < net_count h → kind_of (node_of h g) ≢ kind.Table → VoterFails k (node_of h g) x IsRegister
+register_for_voter k h g x low high isnt = other_kind h g (λ o. VoterFails k o x IsRegister) low high each
+  where
+    each : (b : Node) → node_of h g ≡ Some b → VoterFails k (Some b) x IsRegister
+    each (Table hname hcover hpins) e = absurd (isnt (ap kind_of e))
+    each (Register hname hinit hpin) e = refl
+
+pub ruleset votes = (register_for_voter, pins_votes_not, pin_votes_not, minority_fails, majority_votes)
 
 -- three bits are told by their number
 bit_same : (m q : ℕ) (x y : Bool) → 2 * m + bit_number x ≡ 2 * q + bit_number y → (m ≡ q) × (x ≡ y)

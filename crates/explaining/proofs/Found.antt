@@ -90,12 +90,15 @@ module _ (n : Net) (f : List Bool) (h : Net) (g : List Bool) (k : PlainCert) whe
     complete = next;
     reasons = All-push _ fs new are.reasons is;
     ordered = all_pairs_push Precedes fs new are.ordered (λ i d l. are.before i d l);
-    before = All-push _ fs new (λ i d l. later (are.before i d l)) (inr (refl, omega arith));
+    before = All-push _ fs new (λ i d l. later (are.before i d l)) itself;
     few = omega (arith, are.few, length_push fs new);
   }
     where
       new : Failure
       new = record { rule = rule; place = place; reason = reason }
+
+      itself : IsBefore (number rule) place (number rule) (place + 1)
+      itself = inr (refl, omega arith)
 
       later : {q other : ℕ} → IsBefore q other (number rule) place → IsBefore q other (number rule) (place + 1)
       later (inl lt) = inl lt

@@ -1,8 +1,9 @@
 -- Lines of the first failures, and how many more there are.
-use Rattle.std.proofs.Common.{◌≡◌, ℕ, ◌+◌, ◌-◌, ◌<◌, ◌≤◌, ◌⊎◌, inl, inr, Bool, true, false, nat_lt, List, [], ◌∷◌, ◌++◌, length, take, refl, sym, ap, ◌∙◌, subst, arith, nat_tests}
-use Rattle.std.proofs.lemmas.List.{append-nil, take_all, take-append-le, length_push}
+use Rattle.std.proofs.Common.{add-one, min, ◌≡◌, ℕ, ◌+◌, ◌-◌, ◌<◌, ◌≤◌, ◌⊎◌, inl, inr, Bool, true, false, nat_lt, List, [], ◌∷◌, ◌++◌, length, take, refl, sym, ap, ◌∙◌, subst, arith}
+use Rattle.std.proofs.lemmas.Bool.Decides.{nat_tests}
+use Rattle.std.proofs.lemmas.List.{append-nil, take_all, take-append-le, length_push, take_min}
 use Rattle.std.proofs.lemmas.List.Concat.{flat_map-append}
-use Rattle.std.specs.Prelude.{◌==◌, if◌then◌else◌}
+use Rattle.std.specs.Prelude.{◌==◌, if◌then◌else◌, slice_index_or}
 use Rattle.std.specs.List.{flat_map}
 use Rattle.explaining.specs.Explained.{more_line}
 use Rattle.explaining.specs.Private.Found.{shown}
@@ -37,5 +38,12 @@ pub no_more : (count : ℕ) (text : List ℕ) → count ≤ 100 → text ≡ tex
 no_more count text h =
     let none : more_line (count - 100) ≡ [] = ap more_line (let z : count - 100 ≡ 0 = omega arith in z) in
     sym (append-nil text) ∙ ap (λ (t : List ℕ). text ++ t) (sym none)
+
+-- the line with a number, counted from 1
+pub line_shown : (lines : List (List ℕ)) (number index cut : ℕ) (line : List ℕ) → line ≡ slice_index_or lines index [] → number ≡ index + 1 → cut ≡ min (length line) 200 → take cut line ≡ take 200 (slice_index_or ([] ∷ lines) number [])
+line_shown lines number index cut line is at short =
+    let whole : take cut line ≡ take 200 line = ap (λ m. take m line) (let m : cut ≡ min 200 (length line) = omega arith in m) ∙ take_min 200 line in
+    let there : slice_index_or ([] ∷ lines) number [] ≡ slice_index_or lines index [] = ap (λ m. slice_index_or ([] ∷ lines) m []) (at ∙ add-one index) in
+    whole ∙ ap (take 200) (is ∙ sym there)
 
 pub ruleset puts = (not_shown, is_shown)

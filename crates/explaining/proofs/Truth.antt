@@ -25,14 +25,14 @@ inputs_wrong n h (InputCount is wanted) w e = w.2 (w.0 ∙ (e ∙ sym w.1))
 inputs_wrong n h reason w e = w
 
 clocks_wrong : (n h : Option (Edge × List ℕ)) (reason : Reason) → ClocksFail n h reason → SameEdge n h → ⊥
-clocks_wrong None None NoClock w e = w.0
+clocks_wrong None None NoClock w e = absurd (cc w.0)
 clocks_wrong (Some n) None NoClock w e = e
 clocks_wrong None (Some h) NoClock w e = e
-clocks_wrong (Some n) (Some h) NoClock w e = w.1
-clocks_wrong None None NewClock w e = w.1
+clocks_wrong (Some n) (Some h) NoClock w e = absurd (cc w.1)
+clocks_wrong None None NewClock w e = absurd (cc w.1)
 clocks_wrong (Some n) None NewClock w e = e
 clocks_wrong None (Some h) NewClock w e = e
-clocks_wrong (Some n) (Some h) NewClock w e = w.0
+clocks_wrong (Some n) (Some h) NewClock w e = absurd (cc w.0)
 clocks_wrong None None (WrongEdge is wanted) w e = w.0
 clocks_wrong (Some n) None (WrongEdge is wanted) w e = e
 clocks_wrong None (Some h) (WrongEdge is wanted) w e = e

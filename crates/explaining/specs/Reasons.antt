@@ -169,8 +169,15 @@ OutputFails n h k j (NoOutput x c) = IsWantedAt n j x.0 c × (length h.outputs �
 OutputFails n h k j (NewOutput g) = (slice_get h.outputs j ≡ Some g.0) × (3 * length n.outputs ≤ j)
 OutputFails n h k j _ = ⊥
 
--- hardened net y is copy c of original net x, which stands in partition p, and P is told of it
-pub record AtCopy (k : PlainCert) (y : ℕ) (P : ℕ → CopyNo → ℕ → Type 0) : Type 0 where
+-- hardened net y is copy c of original net x, and P is told of it
+pub record AtCopy (k : PlainCert) (y : ℕ) (P : ℕ → CopyNo → Type 0) : Type 0 where
+  pub x : ℕ
+  pub c : CopyNo
+  pub role : role_of k y ≡ Some (Copy (record { 0 = x }) c)
+  pub is : P x c
+
+-- the same of original net x, which stands in partition p
+pub record AtCopyIn (k : PlainCert) (y : ℕ) (P : ℕ → CopyNo → ℕ → Type 0) : Type 0 where
   pub x : ℕ
   pub c : CopyNo
   pub p : ℕ
@@ -188,20 +195,20 @@ pub record AtVoter (k : PlainCert) (y : ℕ) (P : ℕ → Type 0) : Type 0 where
 
 -- the rules at hardened net y
 abbrev pub Explains3 : Net → Net → PlainCert → ℕ → Reason → Type 0
-Explains3 n h k y reason = AtCopy k y (λ x c p. TableFails k (node_of n x) (node_of h y) p c reason)
+Explains3 n h k y reason = AtCopyIn k y (λ x c p. TableFails k (node_of n x) (node_of h y) p c reason)
 
 abbrev pub Explains4 : Net → List Bool → Net → List Bool → PlainCert → ℕ → Reason → Type 0
 Explains4 n f h g k y reason =
-    AtCopy k y (λ x c p. RegisterFails k (node_of n x) (node_bit (length n.inputs) f x) (node_of h y) (node_bit (length h.inputs) g y) p c reason)
+    AtCopyIn k y (λ x c p. RegisterFails k (node_of n x) (node_bit (length n.inputs) f x) (node_of h y) (node_bit (length h.inputs) g y) p c reason)
 
 abbrev pub Explains5 : Net → PlainCert → ℕ → Reason → Type 0
 Explains5 h k y reason = AtVoter k y (λ x. VoterFails k (node_of h y) x reason)
 
 abbrev pub Explains6 : Net → PlainCert → ℕ → Reason → Type 0
-Explains6 h k y reason = AtCopy k y (λ x c p. LabelFails k (node_of h y) (label_of k x c) reason)
+Explains6 h k y reason = AtCopy k y (λ x c. LabelFails k (node_of h y) (label_of k x c) reason)
 
 abbrev pub Explains7 : PlainCert → ℕ → Reason → Type 0
-Explains7 k y reason = AtCopy k y (λ x c p. DepthFails k x c p reason)
+Explains7 k y reason = AtCopyIn k y (λ x c p. DepthFails k x c p reason)
 
 -- the reason is why the rule fails at this place: a hardened node's number, or in rule 8 an output's, as in `Holds`
 abbrev pub Explains : Net → List Bool → Net → List Bool → PlainCert → Rule → ℕ → Reason → Type 0

@@ -8,7 +8,6 @@ use crate::reason::Reason;
 use table_cover::Cover;
 
 /// The first row that differs. The covers have as many rows of one width.
-#[tactic(auto, using(crate::proofs::Differs::covers_same))]
 fn first_row<'a>(is: &'a Cover, wanted: &'a Cover) -> Option<Reason<'a>>
     requires width { is.now.width ≡ wanted.now.width }
     requires polarity { is.now.is_on ≡ wanted.now.is_on }

@@ -364,6 +364,17 @@ fn wrong_output_text(
     )
 }
 
+/// An output, and what is said of it in two parts.
+fn output_text(alloc: Global, place: u64, first: &[u8], last: &[u8]) -> Result<Vec<u8>, AllocError>
+    ensures { IfOk result (λ text. text.items ≡ concat (codes "output " ∷ decimal place ∷ first.now ∷ last.now ∷ [])) }
+{
+    let place = place.to_string(alloc)?;
+    join(
+        alloc,
+        &[b"output ".as_slice(), place.as_bytes(), first, last],
+    )
+}
+
 /// An output that is missing.
 fn no_output_text(
     alloc: Global,
@@ -375,17 +386,8 @@ fn no_output_text(
     requires { x.0 < net_count n.now.net }
     ensures { IfOk result (λ text. text.items ≡ concat (codes "output " ∷ decimal place ∷ codes " is missing, wanted " ∷ copy_text n.now.net x.0 d ∷ [])) }
 {
-    let place = place.to_string(alloc)?;
     let copy = copy_text(alloc, n, x, d)?;
-    join(
-        alloc,
-        &[
-            b"output ".as_slice(),
-            place.as_bytes(),
-            b" is missing, wanted ".as_slice(),
-            copy.as_slice(),
-        ],
-    )
+    output_text(alloc, place, b" is missing, wanted ", copy.as_slice())
 }
 
 /// An output of which the original has none.

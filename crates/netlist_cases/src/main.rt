@@ -17,6 +17,7 @@ mod hardenings;
 mod hashes;
 mod keeping;
 mod libraries;
+mod lines;
 mod names;
 mod pairs;
 mod partitions;
