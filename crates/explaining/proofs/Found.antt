@@ -88,9 +88,9 @@ module _ (n : Net) (f : List Bool) (h : Net) (g : List Bool) (k : PlainCert) whe
   pub one_fails : (rule : Rule) (place : ℕ) (reason : Reason) (fs : List Failure) → Explains n f h g k rule place reason → AreFailuresBefore n f h g k (number rule) place fs → AreFailuresBefore n f h g k (number rule) (place + 1) (fs ++ record { rule = rule; place = place; reason = reason } ∷ [])
   one_fails rule place reason fs is are = record {
     complete = next;
-    reasons = All-push _ fs new are.reasons is;
+    reasons = All-push (λ e. Explains n f h g k e.rule e.place e.reason) fs new are.reasons is;
     ordered = all_pairs_push Precedes fs new are.ordered (λ i d l. are.before i d l);
-    before = All-push _ fs new (λ i d l. later (are.before i d l)) itself;
+    before = All-push (λ e. IsBefore (number e.rule) e.place (number rule) (place + 1)) fs new (λ i d l. later (are.before i d l)) itself;
     few = omega (arith, are.few, length_push fs new);
   }
     where
@@ -110,7 +110,7 @@ module _ (n : Net) (f : List Bool) (h : Net) (g : List Bool) (k : PlainCert) whe
 
       at : (other : Rule) (o : ℕ) → number other ≡ number rule → o < place + 1 → (o < place) ⊎ (place ≤ o) → RuleHolds n f h g k other o ⊎ IsListed (fs ++ new ∷ []) (number other) o
       at other o e l (inl lt) = keep other o (are.complete other o (inr (e, lt)))
-      at other o e l (inr le) = inr (Any-push _ fs new (sym e, omega arith))
+      at other o e l (inr le) = inr (Any-push (λ x. (number x.rule ≡ number other) × (x.place ≡ o)) fs new (sym e, omega arith))
 
       next : (other : Rule) (o : ℕ) → IsBefore (number other) o (number rule) (place + 1) → RuleHolds n f h g k other o ⊎ IsListed (fs ++ new ∷ []) (number other) o
       next other o (inl lt) = keep other o (are.complete other o (inl lt))

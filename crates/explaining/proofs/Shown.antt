@@ -1,5 +1,7 @@
 -- Lines of the first failures, and how many more there are.
-use Rattle.std.proofs.Common.{add-one, min, ◌≡◌, ℕ, ◌+◌, ◌-◌, ◌<◌, ◌≤◌, ◌⊎◌, inl, inr, Bool, true, false, nat_lt, List, [], ◌∷◌, ◌++◌, length, take, refl, sym, ap, ◌∙◌, subst, arith}
+use Rattle.std.proofs.lemmas.Option.{get_or_from_slice_get, unwrap_or-slice_get}
+use Rattle.std.specs.Option.{unwrap_or}
+use Rattle.std.proofs.Common.{Option, Some, None, slice_get, add-one, min, ◌≡◌, ℕ, ◌+◌, ◌-◌, ◌<◌, ◌≤◌, ◌⊎◌, inl, inr, Bool, true, false, nat_lt, List, [], ◌∷◌, ◌++◌, length, take, refl, sym, ap, ◌∙◌, subst, arith}
 use Rattle.std.proofs.lemmas.Bool.Decides.{nat_tests}
 use Rattle.std.proofs.lemmas.List.{append-nil, take_all, take-append-le, length_push, take_min}
 use Rattle.std.proofs.lemmas.List.Concat.{flat_map-append}
@@ -40,10 +42,18 @@ no_more count text h =
     sym (append-nil text) ∙ ap (λ (t : List ℕ). text ++ t) (sym none)
 
 -- the line with a number, counted from 1
-pub line_shown : (lines : List (List ℕ)) (number index cut : ℕ) (line : List ℕ) → line ≡ slice_index_or lines index [] → number ≡ index + 1 → cut ≡ min (length line) 200 → take cut line ≡ take 200 (slice_index_or ([] ∷ lines) number [])
+pub line_shown : (lines : List (List ℕ)) (number index cut : ℕ) (line : List ℕ) → Some line ≡ slice_get lines index → number ≡ index + 1 → cut ≡ min (length line) 200 → take cut line ≡ take 200 (slice_index_or ([] ∷ lines) number [])
 line_shown lines number index cut line is at short =
     let whole : take cut line ≡ take 200 line = ap (λ m. take m line) (let m : cut ≡ min 200 (length line) = omega arith in m) ∙ take_min 200 line in
     let there : slice_index_or ([] ∷ lines) number [] ≡ slice_index_or lines index [] = ap (λ m. slice_index_or ([] ∷ lines) m []) (at ∙ add-one index) in
-    whole ∙ ap (take 200) (is ∙ sym there)
+    whole ∙ ap (take 200) (sym (there ∙ get_or_from_slice_get lines index line [] (sym is)))
+
+pub no_line_shown : (lines : List (List ℕ)) (number index : ℕ) → None ≡ slice_get lines index → number ≡ index + 1 → [] ≡ take 200 (slice_index_or ([] ∷ lines) number [])
+no_line_shown lines number index is at =
+    let there : slice_index_or ([] ∷ lines) number [] ≡ slice_index_or lines index [] = ap (λ m. slice_index_or ([] ∷ lines) m []) (at ∙ add-one index) in
+    let none : slice_index_or lines index [] ≡ [] = sym (unwrap_or-slice_get lines index []) ∙ ap (λ (o : Option (List ℕ)). unwrap_or o []) (sym is) in
+    sym (ap (take 200) (there ∙ none))
+
+pub ruleset lines_shown = (line_shown, no_line_shown)
 
 pub ruleset puts = (not_shown, is_shown)
