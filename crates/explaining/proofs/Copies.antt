@@ -1,5 +1,5 @@
 -- Rules at a hardened node whose role is known.
-use Rattle.std.proofs.Common.{◌≡◌, ℕ, ◌+◌, ◌≤◌, Bool, List, length, Option, Some, None, refl, sym, ap, ◌∙◌, subst}
+use Rattle.std.proofs.Common.{◌≡◌, ℕ, ◌≤◌, Bool, List, length, Option, Some, subst}
 use Rattle.std.specs.Prelude.{IfSome, IfNone}
 use Rattle.tmr_base.specs.declared.copies.CopyNo.{CopyNo}
 use Rattle.tmr_base.specs.declared.ids.NetId.{NetId}
@@ -10,7 +10,7 @@ use Rattle.certificate.specs.declared.role.Role.TheVariants.{Copy, Voter}
 use Rattle.certificate.specs.Cert.{PlainCert, role_of, part_of, label_of, depth_of}
 use Rattle.certificate.specs.Rules.{CopiesTable, CopiesRegister, Votes, LabelReaches, Rule3, Rule4, Rule5, Rule6, Rule7}
 use Rattle.explaining.specs.declared.reason.Reason.{Reason}
-use Rattle.explaining.specs.Reasons.{TableFails, RegisterFails, VoterFails, LabelFails, DepthFails, AtCopy, AtVoter, Explains3, Explains4, Explains5, Explains6, Explains7}
+use Rattle.explaining.specs.Reasons.{TableFails, RegisterFails, VoterFails, LabelFails, DepthFails, Explains3, Explains4, Explains5, Explains6, Explains7}
 use Rattle.explaining.proofs.Options.{if_some, if_none}
 
 module _ (k : PlainCert) (y : ℕ) (x : NetId) (c : CopyNo) (role : role_of k y ≡ Some (Copy x c)) where

@@ -11,10 +11,10 @@ use Rattle.flat_net.specs.Net.{Net, Node, Table, Register, IsCoverOf, IsInitOf, 
 use Rattle.flat_net.proofs.Slots.{slice_get_there, slot_there}
 use Rattle.flat_net.specs.declared.kind.Kind.TheVariants as kind
 use Rattle.flat_net.specs.Kinds.{kind_of}
-use Rattle.certificate.specs.Cert.{PlainCert, count_of, copy_of}
+use Rattle.certificate.specs.Cert.{PlainCert, copy_of}
 use Rattle.certificate.specs.Rules.{CopiesTable, CopiesRegister, PinsRead, LabelReaches, Votes}
 use Rattle.explaining.specs.declared.reason.Reason.{Reason}
-use Rattle.explaining.specs.declared.reason.Reason.TheVariants.{InputCount, NoClock, NewClock, WrongEdge, IsTable, IsRegister, PinCount, Polarity, RowCount, Row, Initial, Pin, VoterPin, Minority, LowLabel, DeepLabel, WrongOutput, NoOutput, NewOutput}
+use Rattle.explaining.specs.declared.reason.Reason.TheVariants.{IsTable, IsRegister, PinCount, Initial, Pin, VoterPin, Minority, LowLabel}
 use Rattle.explaining.specs.Reasons.{CoversDiffer, PinFails, TablesDiffer, TableFails, RegistersDiffer, RegisterFails, LabelFails, VoteFails, VoterFails, bit_number, bits_number, IsVoteOn}
 use Rattle.explaining.specs.Private.Pieces.{AllReach, PinLabelFails, VoterPinReason, MinorityReason}
 use Rattle.explaining.proofs.Options.{if_some, if_none}

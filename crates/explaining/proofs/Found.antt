@@ -1,6 +1,6 @@
 -- Failures that are found one after the other.
-use Rattle.std.proofs.Common.{◌≡◌, ◌≢◌, ℕ, zero, suc, ◌+◌, ◌*◌, ◌<◌, ◌≤◌, ◌⊎◌, inl, inr, max, Bool, List, [], ◌∷◌, ◌++◌, length, get_or, Option, Some, None, slice_get, refl, sym, ap, ◌∙◌, subst, arith}
-use Rattle.std.specs.Prelude.{All, Any, AllPairs}
+use Rattle.std.proofs.Common.{◌≡◌, ℕ, zero, suc, ◌+◌, ◌<◌, ◌≤◌, ◌⊎◌, inl, inr, Bool, List, [], ◌∷◌, ◌++◌, length, get_or, Some, slice_get, refl, sym, ap, ◌∙◌, subst, arith}
+use Rattle.std.specs.Prelude.{All, AllPairs}
 use Rattle.std.proofs.lemmas.List.{length_push, get_or_append_left}
 use Rattle.std.proofs.lemmas.List.Elements.{All-nil, All-push}
 use Rattle.std.proofs.lemmas.List.Quantifiers.{Any-push, all_pairs_push}
@@ -15,7 +15,7 @@ use Rattle.explaining.specs.declared.reason.Reason.{Reason}
 use Rattle.explaining.specs.Reasons.{number, Explains}
 use Rattle.explaining.specs.Explained.{Failure, IsBefore, Precedes, IsListed, AreAllFailures}
 use Rattle.explaining.specs.Private.Found.{RuleHolds, place_count, AreFailuresBefore}
-use Rattle.explaining.proofs.OutputLaws.{rule_8_past}
+use Rattle.validator.proofs.OutputLaws.{rule_8_past}
 use Rattle.explaining.proofs.Numbers.{number_same, number_low, number_high, numbered, holds_where, rule_holds}
 use Rattle.explaining.proofs.Truth.{reason_true}
 

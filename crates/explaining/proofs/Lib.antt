@@ -2,8 +2,6 @@ pub mod Options
 pub mod Differs
 pub mod Copies
 pub mod Joins
-pub mod OutputLaws
-pub mod Starts
 pub mod Shown
 pub mod Numbers
 pub mod Truth

@@ -1,5 +1,5 @@
 -- The numbers of rules.
-use Rattle.std.proofs.Common.{◌≡◌, ℕ, zero, suc, ◌+◌, ◌<◌, ◌≤◌, ◌⊎◌, inl, inr, refl, sym, ap, ◌∙◌, subst, arith, Bool, List, length}
+use Rattle.std.proofs.Common.{◌≡◌, ℕ, zero, suc, ◌≤◌, ◌⊎◌, inl, inr, refl, sym, ap, ◌∙◌, subst, arith, Bool, List}
 use Rattle.std.specs.Prelude.{◌==◌, if◌then◌else◌}
 use Rattle.flat_net.specs.Net.{Net}
 use Rattle.certificate.specs.Cert.{PlainCert}

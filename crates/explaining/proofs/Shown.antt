@@ -1,11 +1,11 @@
 -- Lines of the first failures, and how many more there are.
 use Rattle.std.proofs.lemmas.Option.{get_or_from_slice_get, unwrap_or-slice_get}
 use Rattle.std.specs.Option.{unwrap_or}
-use Rattle.std.proofs.Common.{Option, Some, None, slice_get, add-one, min, ◌≡◌, ℕ, ◌+◌, ◌-◌, ◌<◌, ◌≤◌, ◌⊎◌, inl, inr, Bool, true, false, nat_lt, List, [], ◌∷◌, ◌++◌, length, take, refl, sym, ap, ◌∙◌, subst, arith}
+use Rattle.std.proofs.Common.{Option, Some, None, slice_get, add-one, min, ◌≡◌, ℕ, ◌+◌, ◌-◌, ◌<◌, ◌≤◌, ◌⊎◌, inl, inr, List, [], ◌∷◌, ◌++◌, length, take, sym, ap, ◌∙◌, arith}
 use Rattle.std.proofs.lemmas.Bool.Decides.{nat_tests}
 use Rattle.std.proofs.lemmas.List.{append-nil, take_all, take-append-le, length_push, take_min}
 use Rattle.std.proofs.lemmas.List.Concat.{flat_map-append}
-use Rattle.std.specs.Prelude.{◌==◌, if◌then◌else◌, slice_index_or}
+use Rattle.std.specs.Prelude.{slice_index_or}
 use Rattle.std.specs.List.{flat_map}
 use Rattle.explaining.specs.Explained.{more_line}
 use Rattle.explaining.specs.Private.Found.{shown}

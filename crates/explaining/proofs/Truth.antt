@@ -1,9 +1,8 @@
 -- Where a reason is told, the rule fails.
-use Rattle.std.proofs.Common.{◌≡◌, ◌≢◌, ℕ, zero, suc, ◌+◌, ◌*◌, ◌<◌, ◌≤◌, Bool, true, false, List, [], ◌∷◌, length, Option, Some, None, slice_get, slice_index, refl, sym, ap, ◌∙◌, subst, arith}
+use Rattle.std.proofs.Common.{◌≡◌, ℕ, zero, suc, ◌+◌, ◌*◌, ◌<◌, ◌≤◌, Bool, List, [], ◌∷◌, length, Option, Some, None, slice_get, slice_index, refl, sym, ap, ◌∙◌, subst, arith}
 use Rattle.tmr_base.specs.declared.copies.CopyNo.{CopyNo}
 use Rattle.tmr_base.specs.declared.copies.CopyNo.TheVariants.{First, Second, Third}
 use Rattle.tmr_base.specs.declared.ids.Edge.{Edge}
-use Rattle.tmr_base.specs.declared.ids.NetId.{NetId}
 use Rattle.tmr_base.specs.Copies.{copy_number}
 use Rattle.table_cover.specs.Cover.{PlainCover}
 use Rattle.flat_net.specs.Net.{Net, Node, Table, Register, node_of}
@@ -15,8 +14,8 @@ use Rattle.certificate.specs.Rules.{SameEdge, PinsRead, CopiesTable, CopiesRegis
 use Rattle.explaining.specs.declared.rule.Rule.{Rule}
 use Rattle.explaining.specs.declared.rule.Rule.TheVariants.{Inputs, Clocks, Tables, Registers, Voters, Labels, Depths, Outputs}
 use Rattle.explaining.specs.declared.reason.Reason.{Reason}
-use Rattle.explaining.specs.declared.reason.Reason.TheVariants.{InputCount, NoClock, NewClock, WrongEdge, IsTable, IsRegister, PinCount, Polarity, RowCount, Row, Initial, Pin, VoterPin, Minority, LowLabel, DeepLabel, WrongOutput, NoOutput, NewOutput}
-use Rattle.explaining.specs.Reasons.{number, InputsFail, ClocksFail, CoversDiffer, PinFails, TablesDiffer, TableFails, RegistersDiffer, RegisterFails, VoteFails, VoterFails, LabelFailsFirst, LabelFails, DepthFails, OutputFails, AtCopy, Explains}
+use Rattle.explaining.specs.declared.reason.Reason.TheVariants.{InputCount, NoClock, NewClock, WrongEdge, PinCount, Polarity, RowCount, Row, Initial, Pin, VoterPin, Minority, LowLabel, DeepLabel, WrongOutput, NoOutput, NewOutput}
+use Rattle.explaining.specs.Reasons.{number, InputsFail, ClocksFail, CoversDiffer, PinFails, TablesDiffer, TableFails, RegistersDiffer, RegisterFails, VoteFails, VoterFails, LabelFailsFirst, LabelFails, DepthFails, OutputFails, Explains}
 use Rattle.explaining.specs.Private.Found.{RuleHolds}
 use Rattle.explaining.proofs.Numbers.{holds_rule}
 

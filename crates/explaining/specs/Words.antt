@@ -12,7 +12,7 @@ use Rattle.certificate.specs.declared.role.Role.{Role}
 use Rattle.certificate.specs.declared.role.Role.TheVariants.{Copy, Voter}
 use Rattle.certificate.specs.Cert.{PlainCert, role_of, part_of}
 use Rattle.explaining.specs.declared.rule.Rule.{Rule}
-use Rattle.explaining.specs.declared.rule.Rule.TheVariants.{Inputs, Clocks, Tables, Registers, Voters, Labels, Depths, Outputs}
+use Rattle.explaining.specs.declared.rule.Rule.TheVariants.{Inputs, Clocks, Outputs}
 use Rattle.explaining.specs.declared.reason.Reason.{Reason}
 use Rattle.explaining.specs.declared.reason.Reason.TheVariants.{InputCount, NoClock, NewClock, WrongEdge, IsTable, IsRegister, PinCount, Polarity, RowCount, Row, Initial, Pin, VoterPin, Minority, LowLabel, DeepLabel, WrongOutput, NoOutput, NewOutput}
 

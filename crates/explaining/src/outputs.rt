@@ -11,7 +11,7 @@ use certificate::Certificate;
 use flat_net::FlatNet;
 
 /// Why output position `place` of h is not what it is to be.
-#[tactic(auto, using(crate::proofs::OutputLaws::rule_8_at))]
+#[tactic(auto, using(validator::proofs::OutputLaws::rule_8_at))]
 pub fn output_reason<'a>(
     n: &FlatNet,
     h: &FlatNet,

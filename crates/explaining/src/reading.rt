@@ -83,7 +83,7 @@ pub fn count(h: &FlatNet, c: &Certificate, g: NetId) -> u32
 }
 
 /// Whether net x is marked, as far as marks count: in version 1 none does.
-#[tactic(auto, using(crate::proofs::Starts::node_bit_none))]
+#[tactic(auto, using(validator::proofs::Starts::node_bit_none))]
 pub fn is_free(n: &FreeNet, c: &Certificate, x: NetId) -> bool
     requires { x.0 < net_count n.now.design.net }
     ensures { result ≡ node_bit (length n.now.design.net.inputs) (counted c.now n.now.free) x.0 }

@@ -1,5 +1,5 @@
 -- What is found so far.
-use Rattle.std.specs.Prelude.{◌≡◌, ℕ, ◌+◌, ◌*◌, ◌<◌, ◌≤◌, ◌⊎◌, max, Bool, nat_lt, List, [], length, take, All, AllPairs, if◌then◌else◌}
+use Rattle.std.specs.Prelude.{◌≡◌, ℕ, ◌+◌, ◌*◌, ◌≤◌, ◌⊎◌, max, Bool, nat_lt, List, [], length, take, All, AllPairs, if◌then◌else◌}
 use Rattle.std.specs.List.{flat_map}
 use Rattle.flat_net.specs.Net.{Net}
 use Rattle.certificate.specs.Cert.{PlainCert}

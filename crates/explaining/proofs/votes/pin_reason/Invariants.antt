@@ -1,4 +1,4 @@
-use Rattle.std.proofs.Common.{◌≡◌, ℕ, ◌<◌, slice_index}
+use Rattle.std.proofs.Common.{◌≡◌, ◌<◌, slice_index}
 use Rattle.tmr_base.specs.declared.copies.CopyNo.{CopyNo}
 use Rattle.tmr_base.specs.Copies.{copy_number}
 use Rattle.flat_net.specs.Net.{node_of, pins_at}
