@@ -3,7 +3,9 @@
 use crate::keeping::{Texts, keep};
 use crate::stop::{Stop, bad_case};
 use crate::words::first_word;
-use crate::{certificates, covers, cuts, designs, drafts, hardenings, lines, names, partitions, reading};
+use crate::{
+    certificates, covers, cuts, designs, drafts, hardenings, lines, names, partitions, reading,
+};
 use std::alloc::Global;
 
 /// What the case of this line answers. A line without words and one of `#` answer nothing.
