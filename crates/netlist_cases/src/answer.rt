@@ -5,6 +5,7 @@ use crate::stop::{Stop, bad_case};
 use crate::words::first_word;
 use crate::{
     certificates, covers, cuts, designs, drafts, finding, hardenings, names, partitions, reading,
+    certificates, covers, cuts, designs, drafts, hardenings, lines, names, partitions, reading,
 };
 use std::alloc::Global;
 
@@ -22,6 +23,7 @@ pub fn answer(alloc: Global, texts: &mut Texts, line: &str) -> Result<String, St
 fn small_answer(alloc: Global, texts: &Texts, verb: &str, rest: &str) -> Result<String, Stop> {
     match verb {
         "name" | "voter" | "number" => names::answer(alloc, verb, rest),
+        "line" => lines::answer(alloc, texts, rest),
         "cover" | "same" | "wide" | "majority" => covers::answer(alloc, verb, rest),
         "draft" => drafts::answer(alloc, rest),
         "read" | "cuts" | "feed" => reading::answer(alloc, texts, verb, rest),
@@ -44,6 +46,8 @@ fn design_answer(alloc: Global, texts: &Texts, verb: &str, rest: &str) -> Result
             hardenings::answer(alloc, texts, verb, rest)
         }
         "cert" | "certheads" | "check" | "exposure" | "least" => {
+        "harden_free" | "harden_deep" => hardenings::answer(alloc, texts, verb, rest),
+        "cert" | "certheads" | "check" | "explain" | "least" => {
             certificates::answer(alloc, texts, verb, rest)
         }
         "certify" => finding::answer(alloc, texts, rest),

@@ -8,6 +8,7 @@ use crate::escapes::put_bytes;
 use crate::faults::cert_fault;
 use crate::keeping::Texts;
 use crate::pairs::{check_text, exposed_text, least_text};
+use crate::pairs::{check_text, explain_text, least_text};
 use crate::stop::Stop;
 use crate::words::first_word;
 use certificate::{CertFault, Certificate, Role, read_cert, write_cert};
@@ -222,6 +223,7 @@ fn answer_of(
         "certheads" => heads_text(alloc, bytes, n.net(), h.net()),
         "check" => check_text(alloc, n, h, bytes),
         "exposure" => exposed_text(alloc, n.net(), h.net(), bytes),
+        "explain" => explain_text(alloc, n, h, bytes),
         _ => least_text(alloc, n.net(), h.net(), bytes),
     }
 }
@@ -259,6 +261,7 @@ fn answer_in(
 }
 
 /// `cert`, `certheads`, `check`, `exposure` and `least` of `TEXT TEXT TEXT`: an original, a hardened design and a certificate.
+/// `cert`, `certheads`, `check`, `explain` and `least` of `TEXT TEXT TEXT`: an original, a hardened design and a certificate.
 pub fn answer(alloc: Global, texts: &Texts, verb: &str, rest: &str) -> Result<String, Stop> {
     let (original, rest) = first_word(rest);
     let (hardened, cert) = first_word(rest);

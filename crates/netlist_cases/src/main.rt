@@ -18,6 +18,7 @@ mod hardenings;
 mod hashes;
 mod keeping;
 mod libraries;
+mod lines;
 mod names;
 mod pairs;
 mod partitions;

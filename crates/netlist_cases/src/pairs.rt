@@ -11,6 +11,7 @@ use crate::faults::cert_fault;
 use crate::stop::{Stop, stopped};
 use certificate::Certificate;
 use exposure::exposure;
+use explaining::explain;
 use flat_net::{FlatNet, FreeNet};
 use recovery_depth::{Deep, least};
 use std::alloc::{AllocError, Global};
@@ -102,6 +103,32 @@ fn checked_text(
 pub fn check_text(alloc: Global, n: &FreeNet, h: &FreeNet, bytes: &[u8]) -> Result<String, Stop> {
     let c = cert_in(alloc, n.net(), h.net(), bytes)?;
     Ok(checked_text(alloc, n, h, &c)?)
+}
+
+/// Puts lines of bytes.
+fn put_lines(text: &mut String, bytes: &[u8]) -> Result<(), AllocError> {
+    for line in bytes.split(|b| *b == b'\n') {
+        put_bytes(text, line)?;
+        text.push('\n')?;
+    }
+    Ok(())
+}
+
+/// The lines of an explanation, or that there is none.
+fn lines_text(alloc: Global, bytes: &[u8]) -> Result<String, AllocError> {
+    let mut text = String::new(alloc);
+    match bytes {
+        [] => text.push_str("accepted")?,
+        [lines @ .., _] => put_lines(&mut text, lines)?,
+    }
+    Ok(text)
+}
+
+/// All places at which a rule fails, and why, by the certificate of these bytes.
+pub fn explain_text(alloc: Global, n: &FreeNet, h: &FreeNet, bytes: &[u8]) -> Result<String, Stop> {
+    let c = cert_in(alloc, n.net(), h.net(), bytes)?;
+    let lines = explain(alloc, n, h, &c)?;
+    Ok(lines_text(alloc, lines.as_slice())?)
 }
 
 /// Puts the depth of a partition, and the names of its chain, as a line.

@@ -1,0 +1,9 @@
+pub mod Options
+pub mod Differs
+pub mod Copies
+pub mod Joins
+pub mod Shown
+pub mod Numbers
+pub mod Truth
+pub mod Found
+pub mod Told
