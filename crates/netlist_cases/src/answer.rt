@@ -39,7 +39,7 @@ fn design_answer(alloc: Global, texts: &Texts, verb: &str, rest: &str) -> Result
         "partition" => partitions::answer(alloc, texts, rest),
         "clusters" => partitions::cluster_answer(alloc, texts, rest),
         "harden_free" | "harden_deep" => hardenings::answer(alloc, texts, verb, rest),
-        "cert" | "certheads" | "check" | "least" => {
+        "cert" | "certheads" | "check" | "least" | "picture" => {
             certificates::answer(alloc, texts, verb, rest)
         }
         _ => Err(bad_case(alloc)),
