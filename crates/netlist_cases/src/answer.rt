@@ -48,6 +48,7 @@ fn design_answer(alloc: Global, texts: &Texts, verb: &str, rest: &str) -> Result
         "cert" | "certheads" | "check" | "exposure" | "least" => {
         "harden_free" | "harden_deep" => hardenings::answer(alloc, texts, verb, rest),
         "cert" | "certheads" | "check" | "explain" | "least" => {
+        "cert" | "certheads" | "check" | "least" | "picture" => {
             certificates::answer(alloc, texts, verb, rest)
         }
         "certify" => finding::answer(alloc, texts, rest),

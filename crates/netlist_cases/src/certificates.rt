@@ -9,6 +9,7 @@ use crate::faults::cert_fault;
 use crate::keeping::Texts;
 use crate::pairs::{check_text, exposed_text, least_text};
 use crate::pairs::{check_text, explain_text, least_text};
+use crate::pairs::{check_text, least_text, picture_text};
 use crate::stop::Stop;
 use crate::words::first_word;
 use certificate::{CertFault, Certificate, Role, read_cert, write_cert};
@@ -224,6 +225,7 @@ fn answer_of(
         "check" => check_text(alloc, n, h, bytes),
         "exposure" => exposed_text(alloc, n.net(), h.net(), bytes),
         "explain" => explain_text(alloc, n, h, bytes),
+        "picture" => picture_text(alloc, n.net(), h.net(), bytes),
         _ => least_text(alloc, n.net(), h.net(), bytes),
     }
 }
@@ -262,6 +264,7 @@ fn answer_in(
 
 /// `cert`, `certheads`, `check`, `exposure` and `least` of `TEXT TEXT TEXT`: an original, a hardened design and a certificate.
 /// `cert`, `certheads`, `check`, `explain` and `least` of `TEXT TEXT TEXT`: an original, a hardened design and a certificate.
+/// `cert`, `certheads`, `check`, `least` and `picture` of `TEXT TEXT TEXT`: an original, a hardened design and a certificate.
 pub fn answer(alloc: Global, texts: &Texts, verb: &str, rest: &str) -> Result<String, Stop> {
     let (original, rest) = first_word(rest);
     let (hardened, cert) = first_word(rest);

@@ -1,4 +1,4 @@
-//! The check of pairs, and their least depths.
+//! The check of pairs, their least depths, and their pictures.
 
 ghost use Rattle.std.specs.Prelude.{◌≡◌, [], IfOk};
 ghost use Rattle.certificate.specs.Cert.{Fits};
@@ -13,6 +13,7 @@ use certificate::Certificate;
 use exposure::exposure;
 use explaining::explain;
 use flat_net::{FlatNet, FreeNet};
+use partition_graph::picture;
 use recovery_depth::{Deep, least};
 use std::alloc::{AllocError, Global};
 use tmr_base::NetId;
@@ -193,4 +194,18 @@ pub fn exposed_text(alloc: Global, n: &FlatNet, h: &FlatNet, bytes: &[u8]) -> Re
     let mut shown = String::new(alloc);
     put_bytes(&mut shown, text.as_slice())?;
     Ok(shown)
+/// The text of the picture of a pair.
+fn drawn(alloc: Global, n: &FlatNet, h: &FlatNet, c: &Certificate) -> Result<Vec<u8>, Stop>
+    requires { Fits n.now.net h.now.net c.now }
+{
+    Ok(picture(alloc, n, h, c)?)
+}
+
+/// The text of the picture of two designs and the certificate of these bytes.
+pub fn picture_text(alloc: Global, n: &FlatNet, h: &FlatNet, bytes: &[u8]) -> Result<String, Stop> {
+    let c = cert_in(alloc, n, h, bytes)?;
+    let drawn = drawn(alloc, n, h, &c)?;
+    let mut text = String::new(alloc);
+    put_bytes(&mut text, drawn.as_slice())?;
+    Ok(text)
 }

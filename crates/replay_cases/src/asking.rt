@@ -4,6 +4,7 @@ ghost use Rattle.flat_net.specs.Net.{net_count};
 ghost use Rattle.certificate.specs.Cert.{Fits};
 ghost use Rattle.schedule_replay.specs.Reading.{IsNodeOf};
 
+use crate::campaigning::campaign_text;
 use crate::designs::design_of;
 use crate::files::{Files, lines_of};
 use crate::list::{read_list, wide_text};
@@ -200,6 +201,9 @@ fn of_designs(
         || u64::from(h.net().output_count()) != 3 * u64::from(n.net().output_count())
     {
         return Ok(String::from_str(alloc, "no pair")?);
+    }
+    if verb == "campaign" {
+        return campaign_text(alloc, n, h, &c, text);
     }
     of_text(alloc, n, h, &c, verb, text)
 }
