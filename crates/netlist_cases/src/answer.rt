@@ -4,8 +4,8 @@ use crate::keeping::{Texts, keep};
 use crate::stop::{Stop, bad_case};
 use crate::words::first_word;
 use crate::{
-    certificates, covers, cuts, designs, drafts, finding, hardenings, names, partitions, reading,
-    certificates, covers, cuts, designs, drafts, hardenings, lines, names, partitions, reading,
+    certificates, covers, cuts, designs, drafts, finding, hardenings, lines, names, partitions,
+    reading,
 };
 use std::alloc::Global;
 
@@ -45,10 +45,7 @@ fn design_answer(alloc: Global, texts: &Texts, verb: &str, rest: &str) -> Result
         "harden_free" | "harden_deep" | "sweep" => {
             hardenings::answer(alloc, texts, verb, rest)
         }
-        "cert" | "certheads" | "check" | "exposure" | "least" => {
-        "harden_free" | "harden_deep" => hardenings::answer(alloc, texts, verb, rest),
-        "cert" | "certheads" | "check" | "explain" | "least" => {
-        "cert" | "certheads" | "check" | "least" | "picture" => {
+        "cert" | "certheads" | "check" | "exposure" | "explain" | "least" | "picture" => {
             certificates::answer(alloc, texts, verb, rest)
         }
         "certify" => finding::answer(alloc, texts, rest),

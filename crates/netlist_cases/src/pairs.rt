@@ -10,8 +10,8 @@ use crate::escapes::put_bytes;
 use crate::faults::cert_fault;
 use crate::stop::{Stop, stopped};
 use certificate::Certificate;
-use exposure::exposure;
 use explaining::explain;
+use exposure::exposure;
 use flat_net::{FlatNet, FreeNet};
 use partition_graph::picture;
 use recovery_depth::{Deep, least};
@@ -194,6 +194,8 @@ pub fn exposed_text(alloc: Global, n: &FlatNet, h: &FlatNet, bytes: &[u8]) -> Re
     let mut shown = String::new(alloc);
     put_bytes(&mut shown, text.as_slice())?;
     Ok(shown)
+}
+
 /// The text of the picture of a pair.
 fn drawn(alloc: Global, n: &FlatNet, h: &FlatNet, c: &Certificate) -> Result<Vec<u8>, Stop>
     requires { Fits n.now.net h.now.net c.now }
