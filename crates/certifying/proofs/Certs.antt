@@ -12,7 +12,11 @@ use Rattle.certificate.specs.declared.role.Role.TheVariants.{Copy, Voter}
 use Rattle.certificate.specs.Threes.{three_ids}
 use Rattle.certificate.specs.Cert.{PlainCert, IsCert, Fits, RoleIsInRange, role_of, copy_of, three_or_input}
 use Rattle.certifying.specs.Private.Bare.{copy_in, IsSound, AreSound, HaveRoles, AreSmall, IsBare}
-use Rattle.certifying.specs.Private.Renumbered.{refined}
+use Rattle.certifying.specs.Private.Found.{AreJoined}
+use Rattle.certifying.specs.Private.Numbers.{AreNumbered}
+use Rattle.certifying.specs.Private.Labels.{AreBelow}
+use Rattle.certifying.specs.Private.Depths.{AreLabels, AreDepths}
+use Rattle.certifying.specs.Private.Renumbered.{AreRenumbered, refined}
 use Rattle.certifying.specs.Private.Refined.{AreFound}
 use Rattle.certifying.proofs.RoleLaws.{copy_after, copy_before, voter_before}
 
@@ -110,3 +114,33 @@ refined_cert n h version b bare up readers depth part labels threes roles found 
         let (q, before, read) = voter_before n h b bare.fits part readers roles found.renumbered a x.0 p.0 c e in
         let s = bare.cert.roles_in_range a (Voter x (record { 0 = q }) c) before in
         (s.0, omega (arith, s.1, same), omega (arith, read.part, found.numbered.below read.reader read.within))
+
+-- a certificate with the same version, inputs and copies
+pub same_cert : (k : PlainCert) (v i j : ℕ) (depth part : List ℕ) (copies labels : List Three) (roles : List Role) → v ≡ k.version → i ≡ k.original_inputs → j ≡ k.hardened_inputs → copies ≡ k.copies
+    → record { version = v; original_inputs = i; hardened_inputs = j; depth = depth; part = part; copies = copies; labels = labels; roles = roles } ≡ refined k depth part labels roles
+same_cert k v i j depth part copies labels roles ev ei ej ec =
+    let K : ℕ → ℕ → ℕ → List Three → PlainCert = λ a b c d. record { version = a; original_inputs = b; hardened_inputs = c; depth = depth; part = part; copies = d; labels = labels; roles = roles } in
+    let one : K v i j copies ≡ K k.version i j copies = ap (λ a. K a i j copies) ev in
+    let two : K k.version i j copies ≡ K k.version k.original_inputs j copies = ap (λ a. K k.version a j copies) ei in
+    let three : K k.version k.original_inputs j copies ≡ K k.version k.original_inputs k.hardened_inputs copies = ap (λ a. K k.version k.original_inputs a copies) ej in
+    let four : K k.version k.original_inputs k.hardened_inputs copies ≡ K k.version k.original_inputs k.hardened_inputs k.copies = ap (K k.version k.original_inputs k.hardened_inputs) ec in
+    one ∙ (two ∙ (three ∙ four))
+
+-- what is found, list by list
+pub found_of : (n h : Net) (k : PlainCert) (up up' : List ℕ) (readers readers' : List (Option ℕ)) (depth part part' part'' : List ℕ) (count : ℕ) (labels labels' : List ℕ) (threes : List Three) (roles : List Role)
+    → up' ≡ up → readers' ≡ readers → part' ≡ part → part'' ≡ part → labels' ≡ labels → count ≡ length depth → count ≤ length up' → length n.nodes < 4294967295 → length part ≡ length up'
+    → AreJoined n h k up readers → AreNumbered up' part count → length labels ≡ length h.nodes → AreBelow h k labels → AreLabels n h k labels' threes → All AreSmall threes
+    → AreDepths part'' threes depth → All (λ d. d < 4294967296) depth → AreRenumbered h k part' readers' roles → AreFound n h k up readers depth part labels threes roles
+found_of n h k up up' readers readers' depth part part' part'' count labels labels' threes roles eu er ep eq el ec few nodes long joined numbered labels_long below three small depths small_depths renumbered = record {
+  joined = joined;
+  nodes = long ∙ (ap length eu ∙ joined.nodes);
+  few = omega (arith, ec, few, nodes, ap length eu, joined.nodes);
+  numbered = subst (λ (u : List ℕ). AreNumbered u part (length depth)) eu (subst (AreNumbered up' part) ec numbered);
+  long = labels_long;
+  below = below;
+  three = subst (λ (l : List ℕ). AreLabels n h k l threes) el three;
+  small = small;
+  depths = subst (λ (p : List ℕ). AreDepths p threes depth) eq depths;
+  small_depths = small_depths;
+  renumbered = subst (λ (p : List ℕ). AreRenumbered h k p readers roles) ep (subst (λ (r : List (Option ℕ)). AreRenumbered h k part' r roles) er renumbered);
+}

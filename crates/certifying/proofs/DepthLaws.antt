@@ -2,7 +2,7 @@
 use Rattle.std.proofs.Common.{◌≡◌, ◌≢◌, ℕ, ◌+◌, ◌-◌, ◌<◌, ◌≤◌, ◌⊎◌, inl, inr, List, [], ◌∷◌, ◌++◌, length, length-append, get_or, set, map, max, All, refl, sym, ap, subst, ◌∙◌, arith}
 use Rattle.std.proofs.lemmas.Bool.{cases_lt}
 use Rattle.std.proofs.lemmas.List.{get_or-set_same, get_or-set_other, get_or_past, get_or_push, get_or_append_left, length-set, map-append}
-use Rattle.std.proofs.lemmas.List.Elements.{All-push}
+use Rattle.std.proofs.lemmas.List.Elements.{All-from_get_or, All-push}
 use Rattle.certifying.specs.Private.Bare.{AreSmall}
 use Rattle.tmr_base.specs.declared.copies.CopyNo.{CopyNo}
 use Rattle.tmr_base.specs.Copies.{Three, of_copy}
@@ -78,3 +78,12 @@ module _ (n h : Net) (k : PlainCert) (labels : List ℕ) (threes more : List (Li
 
   pub more_small : All AreSmall (map three_of threes) → AreSmall (three_of three) → All AreSmall (map three_of more)
   more_small small last = subst (All AreSmall) (sym mapped) (All-push AreSmall (map three_of threes) (three_of three) small last)
+
+-- each number stays small
+pub small_set : (xs : List ℕ) (p v : ℕ) → All (λ d. d < 4294967296) xs → v < 4294967296 → All (λ d. d < 4294967296) (set xs p v)
+small_set xs p v small fits = All-from_get_or (λ d. d < 4294967296) (set xs p v) 0 each
+  where
+    each : (i : ℕ) → i < length (set xs p v) → get_or (set xs p v) i 0 < 4294967296
+    each i l =
+        let most : get_or (set xs p v) i 0 ≤ 4294967295 = set_within xs p v i 4294967295 (λ _. omega (arith, fits)) (λ _. omega (arith, small i 0 (omega (arith, l, length-set xs p v)))) in
+        omega (arith, most)

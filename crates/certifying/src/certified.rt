@@ -77,7 +77,10 @@ fn proposed(
         return Err(NoCertificate::Clock);
     }
     let bare = searched(alloc, version, n, h)?;
-    refined(alloc, version, n.net(), h.net(), &bare)
+    match refined(alloc, version, n.net(), h.net(), &bare) {
+        Ok(found) => Ok(found),
+        Err(why) => Err(why),
+    }
 }
 
 /// A certificate of version 1 or 2 for the original n and the hardened design h, found without a look at the names of h

@@ -86,6 +86,7 @@ pub fn depths_of(
     requires long { length labels.now ≡ length numbers.now }
     requires below { (i : ℕ) → i < length numbers.now → slice_index numbers.now i < count }
     ensures long { IfOk result (λ depths. length depths.items ≡ count) }
+    ensures small { IfOk result (λ depths. All (λ d. d < 4294967296) depths.items) }
     ensures least { IfOk result (λ depths. AreDepths numbers.now (map three_of labels.now) depths.items) }
 {
     let mut depths = zeros(alloc, count)?;
