@@ -24,7 +24,7 @@ module _ (n : Net) (f : List Bool) (h : Net) (g : List Bool) (version : ℕ) (k 
   moved a p c is = go (role_of k a) refl is
     where
       go : (o : Option Role) → role_of k a ≡ o → RoleIsIn k o a (Some p) c → Moved k m a p c
-      go None e input = let wrong : Some p ≡ None = input.1.1 in absurd (cc)
+      go None e input = let wrong : Some p ≡ None = input.2 in absurd (cc)
       go (Some (Copy x d)) e own =
           let there : role_of m a ≡ Some (Copy x d) = same.copies a x.0 d e in
           let range = other.cert.roles_in_range a (Copy x d) there in
@@ -52,7 +52,7 @@ module _ (n : Net) (f : List Bool) (h : Net) (g : List Bool) (version : ℕ) (k 
       go None e input =
           let none : role_of m a ≡ None = slot_none k.hardened_inputs m.hardened_inputs k.roles m.roles a (found.fits.hardened_inputs ∙ sym other.fits.hardened_inputs) (found.fits.hardened_nodes ∙ sym other.fits.hardened_nodes) e in
           subst (λ (o : Option Role). RoleIsIn m o a None c) (sym none)
-          (input.0, (omega (arith, input.1.0.0, found.fits.original_inputs, other.fits.original_inputs), omega (arith, input.1.0.1, found.fits.hardened_inputs, other.fits.hardened_inputs), input.1.0.2), refl)
+          (input.0, (omega (arith, input.1.0, found.fits.original_inputs, other.fits.original_inputs), omega (arith, input.1.1, found.fits.hardened_inputs, other.fits.hardened_inputs), input.1.2), refl)
       go (Some (Copy x d)) e own =
           let range = found.cert.roles_in_range a (Copy x d) e in
           let (q, at) = slot_there k.original_inputs k.part x.0 range.0 range.1 in

@@ -1,12 +1,14 @@
 -- Depths that are raised to a label more, and labels with one node more.
-use Rattle.std.proofs.Common.{◌≡◌, ◌≢◌, ℕ, ◌+◌, ◌-◌, ◌<◌, ◌≤◌, ◌⊎◌, inl, inr, List, [], ◌∷◌, ◌++◌, length, get_or, set, map, max, refl, sym, ap, subst, ◌∙◌, arith}
+use Rattle.std.proofs.Common.{◌≡◌, ◌≢◌, ℕ, ◌+◌, ◌-◌, ◌<◌, ◌≤◌, ◌⊎◌, inl, inr, List, [], ◌∷◌, ◌++◌, length, length-append, get_or, set, map, max, All, refl, sym, ap, subst, ◌∙◌, arith}
 use Rattle.std.proofs.lemmas.Bool.{cases_lt}
-use Rattle.std.proofs.lemmas.List.{get_or-map, get_or-set_same, get_or-set_other, get_or_past, length-set, length-map}
+use Rattle.std.proofs.lemmas.List.{get_or-set_same, get_or-set_other, get_or_past, get_or_push, get_or_append_left, length-set, map-append}
+use Rattle.std.proofs.lemmas.List.Elements.{All-from_get_or, All-push}
+use Rattle.certifying.specs.Private.Bare.{AreSmall}
 use Rattle.tmr_base.specs.declared.copies.CopyNo.{CopyNo}
 use Rattle.tmr_base.specs.Copies.{Three, of_copy}
 use Rattle.flat_net.specs.Net.{Net}
 use Rattle.certificate.specs.Threes.{three_of}
-use Rattle.certificate.specs.Cert.{PlainCert}
+use Rattle.certificate.specs.Cert.{PlainCert, copy_of}
 use Rattle.certifying.specs.Private.Depths.{three_at, no_three, IsAbove, AreDepths}
 use Rattle.certifying.specs.Private.Labels.{AreReached, AreBelow}
 use Rattle.certifying.proofs.ForestLaws.{same_or_not}
@@ -54,3 +56,34 @@ no_depths numbers threes depths zero = record {
 pub below_set : (h : Net) (k : PlainCert) (labels : List ℕ) (i label : ℕ) → AreBelow h k labels → ((l : ℕ → ℕ) → AreReached h k l → label ≤ l (length h.inputs + i)) → AreBelow h k (set labels i label)
 below_set h k labels i label below small l reached j within =
     set_within labels i label j (l (length h.inputs + j)) (λ e. let here : l (length h.inputs + i) ≡ l (length h.inputs + j) = ap (λ (z : ℕ). l (length h.inputs + z)) (sym e) in omega (arith, small l reached, here)) (λ _. below l reached j (omega (arith, within, length-set labels i label)))
+
+-- the labels of one node more
+module _ (n h : Net) (k : PlainCert) (labels : List ℕ) (threes more : List (List ℕ)) (three : List ℕ) (i : ℕ) (long : length (map three_of threes) ≡ i) (is : more ≡ threes ++ three ∷ []) where
+  mapped : map three_of more ≡ map three_of threes ++ three_of three ∷ []
+  mapped = ap (map three_of) is ∙ map-append three_of threes (three ∷ [])
+
+  pub more_long : length (map three_of more) ≡ i + 1
+  more_long = ap length mapped ∙ (length-append (map three_of threes) (three_of three ∷ []) ∙ omega (arith, long))
+
+  pub more_each : ((j : ℕ) → j < i → (c : CopyNo) → of_copy (three_at (map three_of threes) j) c ≡ get_or labels (copy_of k (length n.inputs + j) c - length h.inputs) 0)
+      → ((c : CopyNo) → of_copy (three_of three) c ≡ get_or labels (copy_of k (length n.inputs + i) c - length h.inputs) 0)
+      → (j : ℕ) → j < i + 1 → (c : CopyNo) → of_copy (three_at (map three_of more) j) c ≡ get_or labels (copy_of k (length n.inputs + j) c - length h.inputs) 0
+  more_each each last j l c = ap (λ (ts : List Three). of_copy (get_or ts j no_three) c) mapped ∙ go (cases_lt j i)
+    where
+      go : (j < i) ⊎ (i ≤ j) → of_copy (get_or (map three_of threes ++ three_of three ∷ []) j no_three) c ≡ get_or labels (copy_of k (length n.inputs + j) c - length h.inputs) 0
+      go (inl m) = ap (λ (t : Three). of_copy t c) (get_or_append_left (map three_of threes) (three_of three ∷ []) no_three j (omega (arith, m, long))) ∙ each j m c
+      go (inr m) =
+          let here : i ≡ j = omega (arith, m, l) in
+          ap (λ (t : Three). of_copy t c) (get_or_push (map three_of threes) (three_of three) no_three j (omega (arith, long, here))) ∙ (last c ∙ ap (λ (z : ℕ). get_or labels (copy_of k (length n.inputs + z) c - length h.inputs) 0) here)
+
+  pub more_small : All AreSmall (map three_of threes) → AreSmall (three_of three) → All AreSmall (map three_of more)
+  more_small small last = subst (All AreSmall) (sym mapped) (All-push AreSmall (map three_of threes) (three_of three) small last)
+
+-- each number stays small
+pub small_set : (xs : List ℕ) (p v : ℕ) → All (λ d. d < 4294967296) xs → v < 4294967296 → All (λ d. d < 4294967296) (set xs p v)
+small_set xs p v small fits = All-from_get_or (λ d. d < 4294967296) (set xs p v) 0 each
+  where
+    each : (i : ℕ) → i < length (set xs p v) → get_or (set xs p v) i 0 < 4294967296
+    each i l =
+        let most : get_or (set xs p v) i 0 ≤ 4294967295 = set_within xs p v i 4294967295 (λ _. omega (arith, fits)) (λ _. omega (arith, small i 0 (omega (arith, l, length-set xs p v)))) in
+        omega (arith, most)

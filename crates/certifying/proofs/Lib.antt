@@ -5,4 +5,7 @@ pub mod LabelLaws
 pub mod FinestLaws
 pub mod Certs
 pub mod ForestLaws
+pub mod OrderLaws
+pub mod Proposed
+pub mod JoinLaws
 pub mod DepthLaws

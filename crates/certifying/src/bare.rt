@@ -1,5 +1,5 @@
 //! The roles that the search found, as a certificate with one partition.
-ghost use Rattle.std.specs.Prelude.{◌≡◌, ◌+◌, ◌<◌, ◌≤◌, ◌⊎◌, All, ℕ, Some, [], length, map, replicate, IfOk, IfErr, IfNone, IfSome, IsTrue};
+ghost use Rattle.std.specs.Prelude.{◌≡◌, ◌+◌, ◌<◌, ◌≤◌, ◌⊎◌, slice_get, All, ℕ, Some, [], length, map, replicate, IfOk, IfErr, IfNone, IfSome, IsTrue};
 ghost use Rattle.tmr_base.specs.declared.copies.CopyNo.{CopyNo};
 ghost use Rattle.flat_net.specs.Net.{Net, slot, net_count};
 ghost use Rattle.certificate.specs.declared.role.Role.TheVariants.{Copy};
@@ -10,6 +10,7 @@ ghost use Rattle.certifying.specs.Causes.{IsPlaced};
 ghost use Rattle.certifying.specs.Private.Bare.{copy_in, IsSound, AreSound, HaveRoles, AreSmall, IsBare};
 
 use crate::NoCertificate;
+use crate::depths::zeros;
 use crate::search::Search;
 use certificate::{CertDraft, Certificate, Role};
 use flat_net::{FlatNet, nodes_of};
@@ -17,9 +18,14 @@ use std::alloc::Global;
 use tmr_base::{CopyNo, NetId, OutOfMemory};
 
 /// The role of each hardened node, or the first that has none.
-fn all_roles(alloc: Global, h: &FlatNet, found: &Search) -> Result<Vec<Role>, NoCertificate>
+fn all_roles(
+    alloc: Global,
+    n: &FlatNet,
+    h: &FlatNet,
+    found: &Search,
+) -> Result<Vec<Role>, NoCertificate>
     ensures long { IfOk result (λ roles. length roles.items ≡ length h.now.net.nodes) }
-    ensures place { IfErr result (λ why. (n : Net) → IsPlaced n h.now.net why) }
+    ensures place { IfErr result (IsPlaced n.now.net h.now.net) }
 {
     let count = nodes_of(h);
     let inputs = h.input_count();
@@ -34,9 +40,15 @@ fn all_roles(alloc: Global, h: &FlatNet, found: &Search) -> Result<Vec<Role>, No
 }
 
 /// Copy c of original node i, counted from 0, or that it is nowhere.
-fn some_copy(n: &FlatNet, found: &Search, i: u32, c: CopyNo) -> Result<NetId, NoCertificate>
+fn some_copy(
+    n: &FlatNet,
+    h: &FlatNet,
+    found: &Search,
+    i: u32,
+    c: CopyNo,
+) -> Result<NetId, NoCertificate>
     requires { i < length n.now.net.nodes }
-    ensures { IfErr result (λ why. (h : Net) → IsPlaced n.now.net h why) }
+    ensures { IfErr result (IsPlaced n.now.net h.now.net) }
 {
     match found.copy_at(i as usize, c) {
         Some(g) => Ok(g),
@@ -51,24 +63,34 @@ fn some_copy(n: &FlatNet, found: &Search, i: u32, c: CopyNo) -> Result<NetId, No
 }
 
 /// The three copies of original node i.
-fn three_copies(n: &FlatNet, found: &Search, i: u32) -> Result<[NetId; 3], NoCertificate>
+fn three_copies(
+    n: &FlatNet,
+    h: &FlatNet,
+    found: &Search,
+    i: u32,
+) -> Result<[NetId; 3], NoCertificate>
     requires { i < length n.now.net.nodes }
-    ensures { IfErr result (λ why. (h : Net) → IsPlaced n.now.net h why) }
+    ensures { IfErr result (IsPlaced n.now.net h.now.net) }
 {
-    let first = some_copy(n, found, i, CopyNo::First)?;
-    let second = some_copy(n, found, i, CopyNo::Second)?;
-    let third = some_copy(n, found, i, CopyNo::Third)?;
+    let first = some_copy(n, h, found, i, CopyNo::First)?;
+    let second = some_copy(n, h, found, i, CopyNo::Second)?;
+    let third = some_copy(n, h, found, i, CopyNo::Third)?;
     Ok([first, second, third])
 }
 
 /// The copies of each original node, or the first that is nowhere.
-fn all_copies(alloc: Global, n: &FlatNet, found: &Search) -> Result<Vec<[NetId; 3]>, NoCertificate>
+fn all_copies(
+    alloc: Global,
+    n: &FlatNet,
+    h: &FlatNet,
+    found: &Search,
+) -> Result<Vec<[NetId; 3]>, NoCertificate>
     ensures long { IfOk result (λ copies. length copies.items ≡ length n.now.net.nodes) }
-    ensures place { IfErr result (λ why. (h : Net) → IsPlaced n.now.net h why) }
+    ensures place { IfErr result (IsPlaced n.now.net h.now.net) }
 {
     let mut copies = Vec::new(alloc);
     for i in 0..nodes_of(n) {
-        copies.push(three_copies(n, found, i)?)?;
+        copies.push(three_copies(n, h, found, i)?)?;
     }
     Ok(copies)
 }
@@ -126,15 +148,32 @@ fn first_unsound(
     None
 }
 
-/// The role of hardened net g.
-#[tactic(auto, using(flat_net::proofs::Slots::slot_read))]
+/// The role at a place.
+fn role_at(roles: &[Role], i: usize) -> Role
+    requires { i < length roles.now }
+    ensures { slice_get roles.now i ≡ Some result }
+{
+    roles[i]
+}
+
+/// The role of hardened net g, which is a node.
+#[tactic(auto, using(flat_net::proofs::Slots::slot_at))]
+fn role_in(roles: &[Role], inputs: u32, g: NetId) -> Role
+    requires low { inputs ≤ g.0 }
+    requires high { g.0 < inputs + length roles.now }
+    ensures { slot inputs roles.now g.0 ≡ Some result }
+{
+    role_at(roles, (g.0 - inputs) as usize)
+}
+
+/// Hardened net g has the role of copy c of x.
 fn is_copy_role(roles: &[Role], inputs: u32, g: NetId, x: u32, c: CopyNo) -> bool
     ensures { IsTrue result → slot inputs roles.now g.0 ≡ Some (Copy (record { 0 = x }) c) }
 {
     if g.0 < inputs || roles.len() <= (g.0 - inputs) as usize {
         return false;
     }
-    match roles[(g.0 - inputs) as usize] {
+    match role_in(roles, inputs, g) {
         Role::Copy { node, copy } => node == NetId(x) && copy == c,
         Role::Voter { .. } => false,
     }
@@ -276,8 +315,8 @@ fn one_partition(
     let draft = CertDraft {
         original_inputs: n.input_count(),
         hardened_inputs: h.input_count(),
-        depth: vec![in alloc; 0; 1]?,
-        part: vec![in alloc; 0; count as usize]?,
+        depth: zeros(alloc, 1)?,
+        part: zeros(alloc, count)?,
         copies,
         labels,
         roles,
@@ -298,8 +337,8 @@ pub fn bare(
     ensures bare { IfOk result (IsBare n.now.net h.now.net version) }
     ensures place { IfErr result (IsPlaced n.now.net h.now.net) }
 {
-    let roles = all_roles(alloc, h, found)?;
-    let copies = all_copies(alloc, n, found)?;
+    let roles = all_roles(alloc, n, h, found)?;
+    let copies = all_copies(alloc, n, h, found)?;
     check_roles(version, n, h, &copies, &roles)?;
     one_partition(alloc, version, n, h, copies, roles)
 }

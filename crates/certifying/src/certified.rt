@@ -6,6 +6,7 @@ ghost use Rattle.certifying.specs.Certified.{IsAccepted};
 ghost use Rattle.certifying.specs.Finest.{IsFinest};
 ghost use Rattle.certifying.specs.Least.{AreLeastLabels};
 ghost use Rattle.certifying.specs.Private.Bare.{IsBare};
+ghost use Rattle.certifying.specs.Private.Refined.{IsProposed};
 
 use crate::NoCertificate;
 use crate::bare::bare;
@@ -66,7 +67,7 @@ fn proposed(
     h: &FreeNet,
 ) -> Result<Certificate, NoCertificate>
     requires { (version ≡ 1) ⊎ (version ≡ 2) }
-    ensures bare { IfOk result (IsBare n.now.design.net h.now.design.net version) }
+    ensures proposed { IfOk result (IsProposed n.now.design.net h.now.design.net version) }
     ensures place { IfErr result (IsPlaced n.now.design.net h.now.design.net) }
 {
     if !has_three_inputs(n.net(), h.net()) {
@@ -76,11 +77,19 @@ fn proposed(
         return Err(NoCertificate::Clock);
     }
     let bare = searched(alloc, version, n, h)?;
-    refined(alloc, version, n.net(), h.net(), &bare)
+    match refined(alloc, version, n.net(), h.net(), &bare) {
+        Ok(found) => Ok(found),
+        Err(why) => Err(why),
+    }
 }
 
 /// A certificate of version 1 or 2 for the original n and the hardened design h, found without a look at the names of h
 /// (but for nodes that no output depends on and that are told by nothing else).
+///
+/// What is found is accepted by the eight rules: `certify` ends with them. Its partitions are the finest, and its labels
+/// and depths the least, of all certificates of this version that are accepted and give the same roles. The causes come
+/// in the order of `NoCertificate`, and of each the least place is told. That one is found wherever one exists is not
+/// promised. Time and memory are linear in pins and rows.
 pub fn certify(
     alloc: Global,
     n: &FreeNet,
@@ -89,9 +98,13 @@ pub fn certify(
 ) -> Result<Certificate, NoCertificate>
     requires { (version ≡ 1) ⊎ (version ≡ 2) }
     ensures accepted { IfOk result (IsAccepted n.now.design.net n.now.free h.now.design.net h.now.free version) }
+    ensures finest { IfOk result (IsFinest n.now.design.net n.now.free h.now.design.net h.now.free) }
+    ensures least { IfOk result (AreLeastLabels h.now.design.net) }
     ensures masks { IfOk result (FreeMasks n.now.design.net n.now.free h.now.design.net h.now.free) }
     ensures place { IfErr result (IsPlaced n.now.design.net h.now.design.net) }
 {
+    // What the two designs keep.
+    let _ = (n.net().input_count(), h.net().input_count());
     let found = proposed(alloc, version, n, h)?;
     match check_free(n, h, &found) {
         Ok(()) => Ok(found),

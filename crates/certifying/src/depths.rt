@@ -1,5 +1,5 @@
 //! The least depths of partitions, and the labels of the copies of each node.
-ghost use Rattle.std.specs.Prelude.{◌≡◌, ◌<◌, ◌≤◌, ◌+◌, ◌-◌, ℕ, All, [], length, map, slice_index, slice_index_or, IfOk, OnOk};
+ghost use Rattle.std.specs.Prelude.{◌≡◌, ◌<◌, ◌≤◌, ◌+◌, ◌-◌, ℕ, All, [], length, map, replicate, slice_index, slice_index_or, IfOk, OnOk};
 ghost use Rattle.tmr_base.specs.declared.copies.CopyNo.{CopyNo};
 ghost use Rattle.tmr_base.specs.Copies.{of_copy};
 ghost use Rattle.flat_net.specs.Net.{net_count};
@@ -8,6 +8,7 @@ ghost use Rattle.certificate.specs.Cert.{Fits, copy_of};
 ghost use Rattle.certifying.specs.Private.Bare.{AreSmall};
 ghost use Rattle.certifying.specs.Private.Depths.{AreLabels, AreDepths};
 
+use crate::labels::greater;
 use certificate::Certificate;
 use flat_net::{FlatNet, nodes_of};
 use std::alloc::Global;
@@ -61,6 +62,13 @@ pub fn node_labels(
     Ok(threes)
 }
 
+/// So many zeros.
+pub fn zeros(alloc: Global, count: u32) -> Result<Vec<u32>, OutOfMemory>
+    ensures { IfOk result (λ zeros. zeros.items ≡ replicate count 0) }
+{
+    Ok(vec![in alloc; 0; count as usize]?)
+}
+
 /// The greatest of three.
 fn greatest(three: [u32; 3]) -> u32
     ensures { (e : ℕ) → ((c : CopyNo) → of_copy (three_of three) c ≤ e) → result ≤ e }
@@ -78,12 +86,13 @@ pub fn depths_of(
     requires long { length labels.now ≡ length numbers.now }
     requires below { (i : ℕ) → i < length numbers.now → slice_index numbers.now i < count }
     ensures long { IfOk result (λ depths. length depths.items ≡ count) }
+    ensures small { IfOk result (λ depths. All (λ d. d < 4294967296) depths.items) }
     ensures least { IfOk result (λ depths. AreDepths numbers.now (map three_of labels.now) depths.items) }
 {
-    let mut depths = vec![in alloc; 0; count as usize]?;
+    let mut depths = zeros(alloc, count)?;
     for i in 0..numbers.len() {
         let p = numbers[i] as usize;
-        depths[p] = depths[p].max(greatest(labels[i]));
+        depths[p] = greater(depths[p], greatest(labels[i]));
     }
     Ok(depths)
 }

@@ -89,6 +89,8 @@ fn copies_of(
     requires { Fits n.now.net h.now.net k.now }
     ensures { IfOk result (λ copies. map three_ids copies.items ≡ k.now.copies) }
 {
+    // What each certificate keeps.
+    let _parts = k.parts();
     let inputs = n.input_count();
     let mut copies = Vec::new(alloc);
     for i in 0..nodes_of(n) {

@@ -18,20 +18,29 @@ pub fn apart(alloc: Global, count: u32) -> Result<Vec<u32>, OutOfMemory>
     Ok(up)
 }
 
+/// The parent of number x.
+fn parent_of(up: &Vec<u32>, x: u32) -> u32
+    requires { x < length up.now.items }
+    ensures { result ≡ slice_index up.now.items x }
+{
+    up[x as usize]
+}
+
 /// The root of number a. Each second parent on the way is passed over from then on.
-fn root(up: &mut [u32], a: u32) -> u32
-    requires forest { IsForest up.old }
-    requires within { a < length up.old }
-    ensures forest { IsForest up.new }
+fn root(up: &mut Vec<u32>, a: u32) -> u32
+    requires forest { IsForest up.old.items }
+    requires within { a < length up.old.items }
+    ensures long { length up.new.items ≡ length up.old.items }
+    ensures forest { IsForest up.new.items }
     ensures within { result ≤ a }
-    ensures root { slice_index up.new result ≡ result }
-    ensures same { (f : ℕ → Option ℕ) → GoesAlong f up.old → f result ≡ f a }
-    ensures along { (f : ℕ → Option ℕ) → GoesAlong f up.old → GoesAlong f up.new }
+    ensures root { slice_index up.new.items result ≡ result }
+    ensures same { (f : ℕ → Option ℕ) → GoesAlong f up.old.items → f result ≡ f a }
+    ensures along { (f : ℕ → Option ℕ) → GoesAlong f up.old.items → GoesAlong f up.new.items }
 {
     let mut x = a;
-    while up[x as usize] != x {
-        let parent = up[x as usize];
-        let next = up[parent as usize];
+    while parent_of(up, x) != x {
+        let parent = parent_of(up, x);
+        let next = parent_of(up, parent);
         up[x as usize] = next;
         x = next;
     }
@@ -39,23 +48,25 @@ fn root(up: &mut [u32], a: u32) -> u32
 }
 
 /// Root b gets the parent a, which is less.
-fn link(up: &mut [u32], a: u32, b: u32)
-    requires forest { IsForest up.old }
+fn link(up: &mut Vec<u32>, a: u32, b: u32)
+    requires forest { IsForest up.old.items }
     requires order { a ≤ b }
-    requires within { b < length up.old }
-    ensures forest { IsForest up.new }
-    ensures along { (f : ℕ → Option ℕ) → GoesAlong f up.old → f a ≡ f b → GoesAlong f up.new }
+    requires within { b < length up.old.items }
+    ensures long { length up.new.items ≡ length up.old.items }
+    ensures forest { IsForest up.new.items }
+    ensures along { (f : ℕ → Option ℕ) → GoesAlong f up.old.items → f a ≡ f b → GoesAlong f up.new.items }
 {
     up[b as usize] = a;
 }
 
 /// Joins the sets of two numbers.
-pub fn join(up: &mut [u32], a: u32, b: u32)
-    requires forest { IsForest up.old }
-    requires first { a < length up.old }
-    requires second { b < length up.old }
-    ensures forest { IsForest up.new }
-    ensures along { (f : ℕ → Option ℕ) → GoesAlong f up.old → f a ≡ f b → GoesAlong f up.new }
+pub fn join(up: &mut Vec<u32>, a: u32, b: u32)
+    requires forest { IsForest up.old.items }
+    requires first { a < length up.old.items }
+    requires second { b < length up.old.items }
+    ensures long { length up.new.items ≡ length up.old.items }
+    ensures forest { IsForest up.new.items }
+    ensures along { (f : ℕ → Option ℕ) → GoesAlong f up.old.items → f a ≡ f b → GoesAlong f up.new.items }
 {
     let x = root(up, a);
     let y = root(up, b);

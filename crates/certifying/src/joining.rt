@@ -21,16 +21,39 @@ pub struct Joined {
     pub readers: Vec<Option<u32>>,
 }
 
-/// Original node y reads hardened node v, which is a voter: it shares a partition with all that read v.
-fn join_reader(up: &mut [u32], readers: &mut [Option<u32>], y: u32, v: usize)
-    requires forest { IsForest up.old }
-    requires node { y < length up.old }
-    requires voter { v < length readers.old }
-    ensures forest { IsForest up.new }
-    ensures along { (f w : ℕ → Option ℕ) → GoesAlong f up.old → FollowsReaders f w readers.old → w v ≡ f y → GoesAlong f up.new }
-    ensures readers { (f w : ℕ → Option ℕ) → FollowsReaders f w readers.old → w v ≡ f y → FollowsReaders f w readers.new }
+/// An original node that reads hardened node v, if one is noted.
+fn reader_of(readers: &Vec<Option<u32>>, v: usize) -> Option<u32>
+    requires { v < length readers.now.items }
+    ensures { slice_get readers.now.items v ≡ Some result }
 {
-    match readers[v] {
+    readers[v]
+}
+
+/// No reader of any of so many.
+fn no_readers(alloc: Global, count: u32) -> Result<Vec<Option<u32>>, OutOfMemory>
+    ensures long { IfOk result (λ readers. length readers.items ≡ count) }
+    ensures none { IfOk result (λ readers. (v y : ℕ) → slice_get readers.items v ≡ Some (Some y) → ⊥) }
+{
+    let mut readers = Vec::with_capacity(alloc, count as usize)?;
+    for made in 0..count {
+        let _made = made;
+        readers.push(None)?;
+    }
+    Ok(readers)
+}
+
+/// Original node y reads hardened node v, which is a voter: it shares a partition with all that read v.
+fn join_reader(up: &mut Vec<u32>, readers: &mut Vec<Option<u32>>, y: u32, v: usize)
+    requires forest { IsForest up.old.items }
+    requires node { y < length up.old.items }
+    requires voter { v < length readers.old.items }
+    ensures up_long { length up.new.items ≡ length up.old.items }
+    ensures readers_long { length readers.new.items ≡ length readers.old.items }
+    ensures forest { IsForest up.new.items }
+    ensures along { (f w : ℕ → Option ℕ) → GoesAlong f up.old.items → FollowsReaders f w readers.old.items → w v ≡ f y → GoesAlong f up.new.items }
+    ensures readers { (f w : ℕ → Option ℕ) → FollowsReaders f w readers.old.items → w v ≡ f y → FollowsReaders f w readers.new.items }
+{
+    match reader_of(readers, v) {
         Some(x) => {
             if (x as usize) < up.len() {
                 join(up, x, y);
@@ -42,8 +65,8 @@ fn join_reader(up: &mut [u32], readers: &mut [Option<u32>], y: u32, v: usize)
 
 /// Pin j of hardened node g, which is a copy of original node y, joins y with what it reads.
 fn join_pin(
-    up: &mut [u32],
-    readers: &mut [Option<u32>],
+    up: &mut Vec<u32>,
+    readers: &mut Vec<Option<u32>>,
     n: &FlatNet,
     h: &FlatNet,
     k: &Certificate,
@@ -52,13 +75,13 @@ fn join_pin(
     j: u32,
 )
     requires fits { Fits n.now.net h.now.net k.now }
-    requires joined { AreJoined n.now.net h.now.net k.now up.old readers.old }
+    requires joined { AreJoined n.now.net h.now.net k.now up.old.items readers.old.items }
     requires range { g.0 < net_count h.now.net }
     requires low { length n.now.net.inputs ≤ y.0 }
     requires high { y.0 < net_count n.now.net }
     requires copy { (c : CopyNo) × (role_of k.now g.0 ≡ Some (Copy y c)) }
     requires pin { j < length (pins_at (node_of h.now.net g.0)) }
-    ensures { AreJoined n.now.net h.now.net k.now up.new readers.new }
+    ensures { AreJoined n.now.net h.now.net k.now up.new.items readers.new.items }
 {
     let original = n.input_count();
     let inputs = h.input_count();
@@ -76,18 +99,18 @@ fn join_pin(
 
 /// The pins of hardened node g join its original with what they read, if it is a copy.
 fn join_pins(
-    up: &mut [u32],
-    readers: &mut [Option<u32>],
+    up: &mut Vec<u32>,
+    readers: &mut Vec<Option<u32>>,
     n: &FlatNet,
     h: &FlatNet,
     k: &Certificate,
     g: NetId,
 )
     requires fits { Fits n.now.net h.now.net k.now }
-    requires joined { AreJoined n.now.net h.now.net k.now up.old readers.old }
+    requires joined { AreJoined n.now.net h.now.net k.now up.old.items readers.old.items }
     requires low { length h.now.net.inputs ≤ g.0 }
     requires range { g.0 < net_count h.now.net }
-    ensures { AreJoined n.now.net h.now.net k.now up.new readers.new }
+    ensures { AreJoined n.now.net h.now.net k.now up.new.items readers.new.items }
 {
     if let Role::Copy { node, .. } = k.role(g) {
         for j in 0..h.pin_count(g) {
@@ -107,7 +130,7 @@ pub fn join_all(
     ensures { IfOk result (λ j. AreJoined n.now.net h.now.net k.now j.up.items j.readers.items) }
 {
     let mut up = apart(alloc, nodes_of(n))?;
-    let mut readers = vec![in alloc; None; nodes_of(h) as usize]?;
+    let mut readers = no_readers(alloc, nodes_of(h))?;
     let inputs = h.input_count();
     for i in 0..nodes_of(h) {
         join_pins(&mut up, &mut readers, n, h, k, NetId(inputs + i));

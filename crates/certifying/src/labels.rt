@@ -1,5 +1,5 @@
 //! The least labels of copies.
-ghost use Rattle.std.specs.Prelude.{◌≡◌, ◌<◌, ◌≤◌, ◌+◌, ℕ, Some, length, slice_index, IfOk, IfErr, OnOk};
+ghost use Rattle.std.specs.Prelude.{◌≡◌, ◌<◌, ◌≤◌, ◌+◌, ℕ, Some, length, max, slice_index, IfOk, IfErr, OnOk};
 ghost use Rattle.tmr_base.specs.declared.copies.CopyNo.{CopyNo};
 ghost use Rattle.flat_net.specs.Net.{net_count, node_of, pins_at};
 ghost use Rattle.certificate.specs.Cert.{Fits, role_of};
@@ -26,14 +26,21 @@ fn counted(h: &FlatNet, labels: &[u32], p: NetId) -> u32
     }
 }
 
-/// The most that the first pins of hardened table g count.
+/// The greater of two numbers.
+pub fn greater(a: u32, b: u32) -> u32
+    ensures { result ≡ max a b }
+{
+    a.max(b)
+}
+
+/// The most that the pins of hardened table g count.
 fn most_counted(h: &FlatNet, labels: &[u32], g: NetId) -> u32
     requires { g.0 < net_count h.now.net }
     ensures { (l : ℕ → ℕ) (e : ℕ) → ((i : ℕ) → i < length labels.now → slice_index labels.now i ≤ l (length h.now.net.inputs + i)) → ((j : ℕ) → j < length (pins_at (node_of h.now.net g.0)) → l (slice_index (pins_at (node_of h.now.net g.0)) j) ≤ e) → result ≤ e }
 {
     let mut most = 0;
     for j in 0..h.pin_count(g) {
-        most = most.max(counted(h, labels, h.pin(g, j)));
+        most = greater(most, counted(h, labels, h.pin(g, j)));
     }
     most
 }
@@ -51,11 +58,12 @@ fn wanted(h: &FlatNet, labels: &[u32], g: NetId) -> u32
 }
 
 /// Hardened node i, counted from 0, gets its label, if it is a copy.
-fn label_node(n: &FlatNet, h: &FlatNet, k: &Certificate, labels: &mut [u32], i: u32)
+fn label_node(n: &FlatNet, h: &FlatNet, k: &Certificate, labels: &mut Vec<u32>, i: u32)
     requires fits { Fits n.now.net h.now.net k.now }
-    requires long { length labels.old ≡ length h.now.net.nodes }
-    requires below { AreBelow h.now.net k.now labels.old }
-    ensures { AreBelow h.now.net k.now labels.new }
+    requires long { length labels.old.items ≡ length h.now.net.nodes }
+    requires below { AreBelow h.now.net k.now labels.old.items }
+    ensures long { length labels.new.items ≡ length h.now.net.nodes }
+    ensures below { AreBelow h.now.net k.now labels.new.items }
 {
     if i >= nodes_of(h) {
         return;

@@ -1,5 +1,5 @@
 //! The first place that fits nothing, by the roles that were found.
-ghost use Rattle.std.specs.Prelude.{IfSome};
+ghost use Rattle.std.specs.Prelude.{◌*◌, ◌<◌, ◌⊎◌, length, IfSome};
 ghost use Rattle.certifying.specs.Causes.{IsPlaced};
 
 use crate::NoCertificate;
@@ -26,7 +26,9 @@ fn is_copy(n: &FlatNet, found: &Search, x: NetId, c: CopyNo, g: NetId) -> bool {
 }
 
 /// The first output of the hardened design that is not the copy that it must be.
-pub fn first_bad_output(n: &FlatNet, h: &FlatNet, found: &Search) -> Option<u32> {
+pub fn first_bad_output(n: &FlatNet, h: &FlatNet, found: &Search) -> Option<u32>
+    ensures { IfSome result (λ k. (k < 3 * length n.now.net.outputs) ⊎ (k < length h.now.net.outputs)) }
+{
     let count = h.output_count();
     for k in 0..count {
         let i = k / 3;

@@ -1,5 +1,5 @@
 //! Partitions numbered by their least nodes.
-ghost use Rattle.std.specs.Prelude.{◌≡◌, ◌<◌, ◌≤◌, length, slice_index, IfOk, OnOk, ◌++◌, ◌∷◌, [], if◌then◌else◌, ◌==◌, ◌+◌};
+ghost use Rattle.std.specs.Prelude.{◌≡◌, ◌≢◌, ◌<◌, ◌≤◌, length, slice_index, IfOk, OnOk, ◌++◌, ◌∷◌, [], if◌then◌else◌, ◌==◌, ◌+◌};
 ghost use Rattle.certifying.specs.Private.Forests.{IsForest};
 ghost use Rattle.certifying.specs.Private.Numbers.{AreNumbered};
 
@@ -26,6 +26,15 @@ fn next_number(numbers: &[u32], parent: u32, count: u32) -> u32
     }
 }
 
+/// How many partitions there are with a node of this number more.
+fn next_count(number: u32, count: u32) -> u32
+    requires { count < 4294967295 }
+    ensures fresh { number ≡ count → result ≡ count + 1 }
+    ensures old { number ≢ count → result ≡ count }
+{
+    if number == count { count + 1 } else { count }
+}
+
 /// Numbers the sets of a forest in the order of their roots.
 pub fn number_sets(alloc: Global, up: &[u32]) -> Result<Numbered, OutOfMemory>
     requires forest { IsForest up.now }
@@ -38,10 +47,8 @@ pub fn number_sets(alloc: Global, up: &[u32]) -> Result<Numbered, OutOfMemory>
     let mut count = 0;
     for i in 0..up.len() {
         let number = next_number(&numbers, up[i], count);
+        count = next_count(number, count);
         numbers.push(number)?;
-        if number == count {
-            count += 1;
-        }
     }
     Ok(Numbered { numbers, count })
 }

@@ -37,3 +37,10 @@ pub record IsRefined (n h : Net) (k m : PlainCert) : Type 0 where
   pub roles : List Role
   pub found : AreFound n h k up readers depth part labels threes roles
   pub is : m ≡ refined k depth part threes roles
+
+-- the certificate that is tried: it is made of one with one partition
+pub record IsProposed (n h : Net) (version : ℕ) (k : PlainCert) : Type 0 where
+  pub base : PlainCert
+  pub bare : IsBare n h version base
+  pub refines : IsRefined n h base k
+  pub own : IsBare n h version k

@@ -4,10 +4,12 @@ use Rattle.certifying.proofs.forest.root.Given as goal
 
 abbrev pub invariant-loop-x : goal.invariant-loop-x
 invariant-loop-x l = record {
-  forest : IsForest l.up;
+  long : length l.up.items ≡ length l.fn.up.items;
+  bound : l.a < length l.fn.up.items;
+  forest : IsForest l.up.items;
   within : l.x ≤ l.a;
-  same : (f : ℕ → Option ℕ) → GoesAlong f l.fn.up → f l.x ≡ f l.a;
-  along : (f : ℕ → Option ℕ) → GoesAlong f l.fn.up → GoesAlong f l.up;
+  same : (f : ℕ → Option ℕ) → GoesAlong f l.fn.up.items → f l.x ≡ f l.a;
+  along : (f : ℕ → Option ℕ) → GoesAlong f l.fn.up.items → GoesAlong f l.up.items;
 }
 
 abbrev pub decreases-loop-x : goal.decreases-loop-x
