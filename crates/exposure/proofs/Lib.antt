@@ -2,3 +2,4 @@ pub mod NearLaws
 pub mod CountLaws
 pub mod Bounds
 pub mod LineLaws
+pub mod NetLaws

@@ -1,4 +1,5 @@
 pub mod TooNear
 pub mod Counts
+pub mod Nets
 pub mod Text
 pub mod Private

@@ -121,7 +121,11 @@ fn sweep_answer(alloc: Global, texts: &Texts, rest: &str) -> Result<String, Stop
     let (form, rest) = first_word(rest);
     let (version, rest) = first_word(rest);
     let (most, text) = first_word(rest);
-    let form = if form == "lean" { Form::Lean } else { Form::Plain };
+    let form = if form == "lean" {
+        Form::Lean
+    } else {
+        Form::Plain
+    };
     let version = if version == "2" { 2 } else { 1 };
     let most = number(alloc, most)?;
     let bytes = texts.bytes_of(text)?;

@@ -123,8 +123,8 @@ module _ (n : Net) (plan : Plan) where
       ≡ count_so_far n plan p c x + (count_by (is_of (cert_in n plan) p c) (copies_of n x) + count_by (λ q. q == p) (voting_parts n plan.parts (voted_in n plan) x))
   so_far_more p x c =
       let blocks : flat_map (block n plan.parts (voted_in n plan)) (range_with_len 0 (x + 1)) ≡ flat_map (block n plan.parts (voted_in n plan)) (range_with_len 0 x) ++ (block n plan.parts (voted_in n plan) x ++ []) =
-          (let e : x + 1 ≡ suc x = omega arith in ap (λ (m : ℕ). flat_map (block n plan.parts (voted_in n plan)) (range_with_len 0 m)) e)
-          ∙ (ap (flat_map (block n plan.parts (voted_in n plan))) (numbers_more x) ∙ flat_map-append (block n plan.parts (voted_in n plan)) (range_with_len 0 x) (x ∷ [])) in
+      (let e : x + 1 ≡ suc x = omega arith in ap (λ (m : ℕ). flat_map (block n plan.parts (voted_in n plan)) (range_with_len 0 m)) e)
+      ∙ (ap (flat_map (block n plan.parts (voted_in n plan))) (numbers_more x) ∙ flat_map-append (block n plan.parts (voted_in n plan)) (range_with_len 0 x) (x ∷ [])) in
       let test : Role → ℕ = λ r. cond (is_of (cert_in n plan) p c r) 1 0 in
       let all = ap (count_by (is_of (cert_in n plan) p c)) blocks in
       let one = sum_by-append test (flat_map (block n plan.parts (voted_in n plan)) (range_with_len 0 x)) (block n plan.parts (voted_in n plan) x ++ []) in
@@ -150,8 +150,14 @@ module _ (n : Net) (plan : Plan) where
       → slice_index counts p + (length (copies_of n x) + length (voting_parts n plan.parts (voted_in n plan) x)) < 4294967296
   unfolding block_start
   room x p counts few h s l =
-      omega (arith, s.each p First l, count_by-le-length (is_of (cert_in n plan) p First) (flat_map (block n plan.parts (voted_in n plan)) (range_with_len 0 x)), few,
-      start_few n plan.parts (voted_in n plan) (x + 1) (omega (arith, h)), start_more n plan.parts (voted_in n plan) x)
+      omega (
+        arith,
+        s.each p First l,
+        count_by-le-length (is_of (cert_in n plan) p First) (flat_map (block n plan.parts (voted_in n plan)) (range_with_len 0 x)),
+        few,
+        start_few n plan.parts (voted_in n plan) (x + 1) (omega (arith, h)),
+        start_more n plan.parts (voted_in n plan) x,
+      )
 
   pub net_counted : (x : ℕ) (old now new row : List ℕ) → AreSoFar n plan x old → length now ≡ length old → length new ≡ length now → row ≡ voting_parts n plan.parts (voted_in n plan) x
       → ((p : ℕ) (c : CopyNo) → p < length old → slice_index now p ≡ slice_index old p + count_by (is_of (cert_in n plan) p c) (copies_of n x))

@@ -140,19 +140,19 @@ module _ (n : Net) (parts : PlainParts) (voted : ℕ → ℕ → Bool) (t : Labe
       go : (b : Bool) → voted y j ≡ b → Path (hardened_net n parts voted) (pin_net n parts voted y First j (slice_index (node_pins n y) j)) (tables + one_if (voted y j))
       go true v =
           let here = node_of_role n parts voted t (pin_net n parts voted y First j (slice_index (node_pins n y) j)) (Voter (record { 0 = slice_index (node_pins n y) j }) (record { 0 = slice_index parts.of y }) First)
-              (voted_role n parts voted t is y j (slice_index (node_pins n y) j) First l (own_read y j h) v) in
+          (voted_role n parts voted t is y j (slice_index (node_pins n y) j) First l (own_read y j h) v) in
           let pins : table_pins (node_of (hardened_net n parts voted) (pin_net n parts voted y First j (slice_index (node_pins n y) j))) ≡ threefold (copy_net n parts voted (slice_index (node_pins n y) j)) = ap table_pins here in
           let there : Contains (table_pins (node_of (hardened_net n parts voted) (pin_net n parts voted y First j (slice_index (node_pins n y) j)))) (copy_net n parts voted (slice_index (node_pins n y) j) First) =
-              subst (λ (ps : List ℕ). Contains ps (copy_net n parts voted (slice_index (node_pins n y) j) First)) (sym pins) (0, omega arith, refl) in
+          subst (λ (ps : List ℕ). Contains ps (copy_net n parts voted (slice_index (node_pins n y) j) First)) (sym pins) (0, omega arith, refl) in
           let count : tables + 1 ≡ tables + one_if (voted y j) = ap (λ (b : Bool). tables + one_if b) (sym v) in
           subst (λ (m : ℕ). Path (hardened_net n parts voted) (pin_net n parts voted y First j (slice_index (node_pins n y) j)) m) count
-              (path_goes_on (copy_net n parts voted (slice_index (node_pins n y) j) First) (pin_net n parts voted y First j (slice_index (node_pins n y) j)) tables path there)
+          (path_goes_on (copy_net n parts voted (slice_index (node_pins n y) j) First) (pin_net n parts voted y First j (slice_index (node_pins n y) j)) tables path there)
       go false v =
           let same : copy_net n parts voted (slice_index (node_pins n y) j) First ≡ pin_net n parts voted y First j (slice_index (node_pins n y) j) =
-              ap (λ (b : Bool). if b then voter_net n parts voted (slice_index (node_pins n y) j) (slice_index parts.of y) First else copy_net n parts voted (slice_index (node_pins n y) j) First) (sym v) in
+          ap (λ (b : Bool). if b then voter_net n parts voted (slice_index (node_pins n y) j) (slice_index parts.of y) First else copy_net n parts voted (slice_index (node_pins n y) j) First) (sym v) in
           let count : tables ≡ tables + one_if (voted y j) = omega (arith, ap one_if v) in
           subst (λ (m : ℕ). Path (hardened_net n parts voted) (pin_net n parts voted y First j (slice_index (node_pins n y) j)) m) count
-              (subst (λ (g : ℕ). Path (hardened_net n parts voted) g tables) same path)
+          (subst (λ (g : ℕ). Path (hardened_net n parts voted) g tables) same path)
 
   up : (x tables : ℕ) → VotedPath n voted x tables → Path (hardened_net n parts voted) (copy_net n parts voted x First) tables
   up _ _ (begins x start) = path_begins (copy_net n parts voted x First) (start_copy x start)
@@ -162,19 +162,21 @@ module _ (n : Net) (parts : PlainParts) (voted : ℕ → ℕ → Bool) (t : Labe
       let g = copy_net n parts voted (length n.inputs + y) First in
       let pins = copy_pin n parts voted t is y j First l in
       let own : IsTable (node_of (hardened_net n parts voted) (copy_net n parts voted (length n.inputs + y) First)) =
-          subst (λ (o : Option Node). IsTable o) (sym (copy_node y First l)) (copy_table n parts voted y First (node_of n (length n.inputs + y)) table) in
+      subst (λ (o : Option Node). IsTable o) (sym (copy_node y First l)) (copy_table n parts voted y First (node_of n (length n.inputs + y)) table) in
       let there = reads_table (hardened_net n parts voted) (copy_net n parts voted (length n.inputs + y) First) j own (omega (arith, h, pins.0)) in
       path_goes_on (pin_net n parts voted y First j (slice_index (node_pins n y) j)) (copy_net n parts voted (length n.inputs + y) First) (tables + one_if (voted y j)) before
-          (subst (λ (z : ℕ). Contains (table_pins (node_of (hardened_net n parts voted) (copy_net n parts voted (length n.inputs + y) First))) z) (pins.1 h) there)
+      (subst (λ (z : ℕ). Contains (table_pins (node_of (hardened_net n parts voted) (copy_net n parts voted (length n.inputs + y) First))) z) (pins.1 h) there)
 
   output_copy : (k : ℕ) → k < length n.outputs → Contains (hardened_net n parts voted).outputs (copy_net n parts voted (slice_index n.outputs k) First)
   output_copy k l =
       let (x, at) = slice_get_there n.outputs k l in
       let entry = threes_at (copy_net n parts voted) n.outputs k x First at in
       let same : x ≡ slice_index n.outputs k = sym (get_or_from_slice_get n.outputs k x 0 at) in
-      subst (λ (xs : List ℕ). Contains xs (copy_net n parts voted (slice_index n.outputs k) First)) (sym outputs_are)
-          (3 * k + copy_number First, slice_get_within _ (3 * k + copy_number First) (copy_net n parts voted x First) entry,
-          get_or_from_slice_get _ (3 * k + copy_number First) (copy_net n parts voted x First) (copy_net n parts voted (slice_index n.outputs k) First) entry ∙ ap (λ (z : ℕ). copy_net n parts voted z First) same)
+      subst (λ (xs : List ℕ). Contains xs (copy_net n parts voted (slice_index n.outputs k) First)) (sym outputs_are) (
+        3 * k + copy_number First,
+        slice_get_within _ (3 * k + copy_number First) (copy_net n parts voted x First) entry,
+        get_or_from_slice_get _ (3 * k + copy_number First) (copy_net n parts voted x First) (copy_net n parts voted (slice_index n.outputs k) First) entry ∙ ap (λ (z : ℕ). copy_net n parts voted z First) same,
+      )
 
   end_up : (tables : ℕ) → VotedEnd n voted tables → HasPath (hardened_net n parts voted) tables
   end_up _ (at_output k tables l path) = record { end = copy_net n parts voted (slice_index n.outputs k) First; path = up (slice_index n.outputs k) tables path; is_end = inl (output_copy k l) }
@@ -183,7 +185,7 @@ module _ (n : Net) (parts : PlainParts) (voted : ℕ → ℕ → Bool) (t : Labe
       let h : 0 < length (node_pins n y) = one_pin (node_of n (length n.inputs + y)) register in
       let pins = copy_pin n parts voted t is y 0 First l in
       let own : IsRegister (node_of (hardened_net n parts voted) (copy_net n parts voted (length n.inputs + y) First)) =
-          subst (λ (o : Option Node). IsRegister o) (sym (copy_node y First l)) (copy_register n parts voted y First (node_of n (length n.inputs + y)) register) in
+      subst (λ (o : Option Node). IsRegister o) (sym (copy_node y First l)) (copy_register n parts voted y First (node_of n (length n.inputs + y)) register) in
       let there = reads_register (hardened_net n parts voted) (copy_net n parts voted (length n.inputs + y) First) own in
       record {
         end = pin_net n parts voted y First 0 (slice_index (node_pins n y) 0);
@@ -246,7 +248,7 @@ module _ (n : Net) (parts : PlainParts) (voted : ℕ → ℕ → Bool) (t : Labe
           }
       go false v s =
           let same : g ≡ copy_net n parts voted (slice_index (node_pins n y) j) c =
-              e ∙ ap (λ (b : Bool). if b then voter_net n parts voted (slice_index (node_pins n y) j) (slice_index parts.of y) c else copy_net n parts voted (slice_index (node_pins n y) j) c) v in
+          e ∙ ap (λ (b : Bool). if b then voter_net n parts voted (slice_index (node_pins n y) j) (slice_index parts.of y) c else copy_net n parts voted (slice_index (node_pins n y) j) c) v in
           record { before = tables; path = copy_down g (slice_index (node_pins n y) j) tables c same high s; sum = omega (arith, ap one_if v) }
 
   -- a copy that stands for a node
@@ -288,7 +290,7 @@ module _ (n : Net) (parts : PlainParts) (voted : ℕ → ℕ → Bool) (t : Labe
       let read : g ≡ pin_net n parts voted (x.0 - length n.inputs) c reads.pin (slice_index (node_pins n (x.0 - length n.inputs)) reads.pin) = sym reads.is ∙ (ap (λ (ps : List ℕ). slice_index ps reads.pin) own ∙ pins.1 h) in
       let down = pin_down g (x.0 - length n.inputs) reads.pin tables c l h read s in
       let path : VotedPath n voted (length n.inputs + (x.0 - length n.inputs)) (down.before + one_if (voted (x.0 - length n.inputs) reads.pin) + 1) =
-          goes_on (x.0 - length n.inputs) reads.pin down.before (subst (λ (z : ℕ). IsTable (node_of n z)) (sym back) table) h down.path in
+      goes_on (x.0 - length n.inputs) reads.pin down.before (subst (λ (z : ℕ). IsTable (node_of n z)) (sym back) table) h down.path in
       let count : down.before + one_if (voted (x.0 - length n.inputs) reads.pin) + 1 ≡ tables + 1 = omega (arith, down.sum) in
       as_copy x.0 c role (subst (λ (z : ℕ). VotedPath n voted z (tables + 1)) back (subst (λ (m : ℕ). VotedPath n voted (length n.inputs + (x.0 - length n.inputs)) m) count path))
   table_down g f tables s reads (Voter x p c) role =
@@ -323,7 +325,7 @@ module _ (n : Net) (parts : PlainParts) (voted : ℕ → ℕ → Bool) (t : Labe
           let entry = threes_at (copy_net n parts voted) n.outputs place.triple x place.copy at in
           let same : x ≡ slice_index n.outputs place.triple = sym (get_or_from_slice_get n.outputs place.triple x 0 at) in
           let listed : get_or (hardened_net n parts voted).outputs k has.end ≡ copy_net n parts voted x place.copy =
-              ap (λ (xs : List ℕ). get_or xs k has.end) outputs_are ∙ (ap (λ (i : ℕ). get_or (flat_map (λ z. threefold (copy_net n parts voted z)) n.outputs) i has.end) place.is ∙ get_or_from_slice_get (flat_map (λ z. threefold (copy_net n parts voted z)) n.outputs) (3 * place.triple + copy_number place.copy) (copy_net n parts voted x place.copy) has.end entry) in
+          ap (λ (xs : List ℕ). get_or xs k has.end) outputs_are ∙ (ap (λ (i : ℕ). get_or (flat_map (λ z. threefold (copy_net n parts voted z)) n.outputs) i has.end) place.is ∙ get_or_from_slice_get (flat_map (λ z. threefold (copy_net n parts voted z)) n.outputs) (3 * place.triple + copy_number place.copy) (copy_net n parts voted x place.copy) has.end entry) in
           let read : has.end ≡ copy_net n parts voted x place.copy = sym e ∙ listed in
           let high : x < net_count n = subst (λ (z : ℕ). z < net_count n) (sym same) (is.valid.unordered.outputs_in_range place.triple 0 place.below) in
           at_output place.triple tables place.below (subst (λ (z : ℕ). VotedPath n voted z tables) same (copy_down has.end x tables place.copy read high s))

@@ -78,7 +78,7 @@ module _ (n : Net) where
       let here : node_pins n (y - length n.inputs) ≡ pins_at (node_of n y) = ap (λ (z : ℕ). pins_at (node_of n z)) back in
       let read : x ≡ slice_index (node_pins n (y - length n.inputs)) r.pin = sym (ap (λ (ps : List ℕ). slice_index ps r.pin) here ∙ r.is) in
       let step : VotedPath n (λ y j. false) (length n.inputs + (y - length n.inputs)) (tables + one_if false + 1) =
-          goes_on (y - length n.inputs) r.pin tables (subst (λ (z : ℕ). IsTable (node_of n z)) (sym back) r.table) (omega (arith, r.below, ap length here)) (subst (λ (z : ℕ). VotedPath n (λ y j. false) z tables) read path) in
+      goes_on (y - length n.inputs) r.pin tables (subst (λ (z : ℕ). IsTable (node_of n z)) (sym back) r.table) (omega (arith, r.below, ap length here)) (subst (λ (z : ℕ). VotedPath n (λ y j. false) z tables) read path) in
       subst (λ (z : ℕ). VotedPath n (λ y j. false) z (tables + 1)) back (subst (λ (t : ℕ). VotedPath n (λ y j. false) (length n.inputs + (y - length n.inputs)) t) count step)
 
   from_path : (x tables : ℕ) → Path n x tables → VotedPath n (λ y j. false) x tables
@@ -90,7 +90,7 @@ module _ (n : Net) where
   to_path _ _ (goes_on y j tables table h path) =
       let count : tables + 1 ≡ tables + one_if false + 1 = omega arith in
       subst (λ (t : ℕ). Path n (length n.inputs + y) t) count
-          (path_goes_on (slice_index (node_pins n y) j) (length n.inputs + y) tables (to_path (slice_index (node_pins n y) j) tables path) (reads_table n (length n.inputs + y) j table h))
+      (path_goes_on (slice_index (node_pins n y) j) (length n.inputs + y) tables (to_path (slice_index (node_pins n y) j) tables path) (reads_table n (length n.inputs + y) j table h))
 
   from_end : (tables : ℕ) → HasPath n tables → VotedEnd n (λ y j. false) tables
   from_end tables has = go has.is_end (from_path has.end tables has.path)
@@ -106,7 +106,7 @@ module _ (n : Net) where
           let read : has.end ≡ slice_index (node_pins n (y - length n.inputs)) 0 = sym (ap (λ (ps : List ℕ). slice_index ps 0) here ∙ r.is) in
           let count : tables + one_if false ≡ tables = omega arith in
           subst (λ (t : ℕ). VotedEnd n (λ y j. false) t) count
-              (at_register (y - length n.inputs) tables (subst (λ (z : ℕ). IsRegister (node_of n z)) (sym back) r.register) (subst (λ (x : ℕ). VotedPath n (λ y j. false) x tables) read path))
+          (at_register (y - length n.inputs) tables (subst (λ (z : ℕ). IsRegister (node_of n z)) (sym back) r.register) (subst (λ (x : ℕ). VotedPath n (λ y j. false) x tables) read path))
 
   to_end : (tables : ℕ) → VotedEnd n (λ y j. false) tables → HasPath n tables
   to_end _ (at_output k tables l path) = record { end = slice_index n.outputs k; path = to_path (slice_index n.outputs k) tables path; is_end = inl (output_at n k l) }

@@ -14,5 +14,5 @@ mod swept;
 mod votes;
 
 pub use longest::levels;
-pub use swept::{Swept, sweep_size};
 pub use sweeping::sweep;
+pub use swept::{Swept, sweep_size};

@@ -125,11 +125,7 @@ fn first_reaches(alloc: Global, n: &FlatNet) -> Result<Vec<u32>, OutOfMemory>
 }
 
 /// For each net one more than the most tables on a path to it, or 0 where none leads to it. A voted pin counts one table more.
-pub fn reached(
-    alloc: Global,
-    n: &FlatNet,
-    votes: &Votes,
-) -> Result<Vec<u32>, OutOfMemory>
+pub fn reached(alloc: Global, n: &FlatNet, votes: &Votes) -> Result<Vec<u32>, OutOfMemory>
     requires taps { HasTaps n.now.net votes.now }
     requires few { net_count n.now.net + pin_total n.now.net ≤ 16777216 }
     ensures { IfOk result (λ reach. AreReached n.now.net (voted_by n.now.net votes.now) n.now.order (length n.now.net.nodes) reach.items) }

@@ -3,8 +3,8 @@ ghost use Rattle.std.specs.Prelude.{◌≡◌, ◌+◌, ◌<◌, ◌≤◌, ◌�
 ghost use Rattle.flat_net.specs.Net.{net_count, pin_total};
 ghost use Rattle.sweep.specs.Sweep.{IsSweep, IsSweepText};
 
-use crate::longest::levels;
 use crate::lines::{put_original, put_swept};
+use crate::longest::levels;
 use crate::swept::{Swept, sweep_size};
 use flat_net::{FreeNet, nodes_of};
 use std::alloc::Global;
