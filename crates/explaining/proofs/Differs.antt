@@ -247,7 +247,7 @@ bit_same m q false true e = absurd (omega arith)
 bit_same m q true false e = absurd (omega arith)
 bit_same m q true true e = (omega arith, refl)
 
-bits_same : (a b c d e f : Bool) → bits_number a b c ≡ bits_number d e f → (a ≡ d) × (b ≡ e) × (c ≡ f)
+pub bits_same : (a b c d e f : Bool) → bits_number a b c ≡ bits_number d e f → (a ≡ d) × (b ≡ e) × (c ≡ f)
 bits_same a b c d e f same =
     let low = bit_same (2 * bit_number a + bit_number b) (2 * bit_number d + bit_number e) c f (omega arith) in
     let middle = bit_same (bit_number a) (bit_number d) b e low.0 in

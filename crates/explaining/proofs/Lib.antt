@@ -7,3 +7,4 @@ pub mod Numbers
 pub mod Truth
 pub mod Found
 pub mod Told
+pub mod One

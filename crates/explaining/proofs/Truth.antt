@@ -38,7 +38,7 @@ clocks_wrong None (Some h) (WrongEdge is wanted) w e = e
 clocks_wrong (Some n) (Some h) (WrongEdge is wanted) w e = w.2 (sym w.0 ∙ (sym e ∙ w.1))
 clocks_wrong n h reason w e = w
 
-covers_wrong : (h n : PlainCover) (reason : Reason) → CoversDiffer h n reason → h ≡ n → ⊥
+pub covers_wrong : (h n : PlainCover) (reason : Reason) → CoversDiffer h n reason → h ≡ n → ⊥
 covers_wrong h n (PinCount is wanted) w e = w.2 (w.0 ∙ (ap (λ (c : PlainCover). c.width) e ∙ sym w.1))
 covers_wrong h n Polarity w e = w.1 (ap (λ (c : PlainCover). c.is_on) e)
 covers_wrong h n (RowCount is wanted) w e = w.4 (w.2 ∙ (ap (λ (c : PlainCover). length c.rows) e ∙ sym w.3))

@@ -1,5 +1,11 @@
 //! All places at which a rule fails, and why.
-ghost use Rattle.std.specs.Prelude.{◌≡◌, ◌-◌, ◌++◌, length, IfOk, OnOk};
+ghost use Rattle.std.specs.Prelude.{◌≡◌, ◌-◌, ◌++◌, ℕ, Bool, List, length, IfOk, OnOk};
+ghost use Rattle.flat_net.specs.Net.{Net};
+ghost use Rattle.certificate.specs.Cert.{PlainCert};
+ghost use Rattle.explaining.specs.declared.rule.Rule.{Rule};
+ghost use Rattle.explaining.specs.declared.reason.Reason.{Reason};
+ghost use Rattle.explaining.specs.Reasons.{Explains};
+ghost use Rattle.explaining.specs.Words.{reason_text};
 ghost use Rattle.std.specs.List.{concat};
 ghost use Rattle.certificate.specs.Cert.{Fits};
 ghost use Rattle.certificate.specs.Starts.{counted};
@@ -52,6 +58,12 @@ fn put_more(alloc: Global, count: u64, text: &mut Vec<u8>) -> Result<(), AllocEr
     Ok(())
 }
 
+/// The law: two reasons of one place say the same. So the text of a pair is one.
+#[tactic(auto, using(crate::proofs::One::reasons_say_one))]
+fn reasons_say_one()
+    ensures { (n : Net) (f : List Bool) (h : Net) (g : List Bool) (k : PlainCert) (rule : Rule) (place : ℕ) (a b : Reason) → Explains n f h g k rule place a → Explains n f h g k rule place b → reason_text n h k place a ≡ reason_text n h k place b }
+{}
+
 /// All places at which a rule fails, and why: a line `rule R at PLACE: WHY` for each of the first 100 places, in the order of rules
 /// and then of places, and then how many more there are. Where the eight rules hold, the text is empty. The first line is of
 /// the rule and the place that `validator::check_free` answers.
@@ -65,8 +77,14 @@ pub fn explain(
     c: &Certificate,
 ) -> Result<Vec<u8>, OutOfMemory>
     requires { Fits n.now.design.net h.now.design.net c.now }
-    ensures { IfOk result (λ text. IsExplanation n.now.design.net (counted c.now n.now.free) h.now.design.net (counted c.now h.now.free) c.now text.items) }
+    ensures explained { IfOk result (λ text. IsExplanation n.now.design.net (counted c.now n.now.free) h.now.design.net (counted c.now h.now.free) c.now text.items) }
+    // Two reasons of one place say the same, so that there is one such text.
+    ensures one { (a b : Reason) (rule : Rule) (place : ℕ)
+        → Explains n.now.design.net (counted c.now n.now.free) h.now.design.net (counted c.now h.now.free) c.now rule place a
+        → Explains n.now.design.net (counted c.now n.now.free) h.now.design.net (counted c.now h.now.free) c.now rule place b
+        → reason_text n.now.design.net h.now.design.net c.now place a ≡ reason_text n.now.design.net h.now.design.net c.now place b }
 {
+    reasons_say_one();
     let told = all_told(alloc, n, h, c)?;
     let Told { mut text, count } = told;
     put_more(alloc, count, &mut text)?;
