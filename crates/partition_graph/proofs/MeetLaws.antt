@@ -1,8 +1,8 @@
 -- Where nets lead, noted role by role, pin by pin and output by output.
-use Rattle.std.proofs.Common.{◌≡◌, ◌≢◌, ℕ, ◌+◌, ◌<◌, ◌≤◌, ◌⊎◌, inl, inr, Bool, true, false, ◌&&◌, ◌||◌, ◌-◌, List, [], ◌∷◌, ◌++◌, length, map, take, get_or, slice_index, slice_get, Option, Some, refl, sym, ◌∙◌, ap, arith, add-one}
-use Rattle.std.specs.Prelude.{◌==◌, nat_lt, nat_le}
+use Rattle.std.proofs.Common.{◌≡◌, ◌≢◌, ℕ, ◌+◌, ◌<◌, ◌≤◌, ◌⊎◌, inl, inr, Bool, false, ◌&&◌, ◌||◌, ◌-◌, List, [], ◌∷◌, ◌++◌, length, map, take, get_or, slice_index, slice_get, Some, refl, sym, ◌∙◌, ap, arith}
+use Rattle.std.specs.Prelude.{◌==◌, nat_le}
 use Rattle.std.specs.List.{list_any, range_with_len}
-use Rattle.std.proofs.lemmas.Bool.{cases_eq, ne_eqb, false≢true, eqb-true, lt-ltb, le-ltb, le-leb, lt-leb}
+use Rattle.std.proofs.lemmas.Bool.{cases_eq, ne_eqb, le-leb, lt-leb}
 use Rattle.std.proofs.lemmas.Option.{get_or_from_slice_get}
 use Rattle.std.proofs.lemmas.List.FromFn.{map-range_with_len_more}
 use Rattle.std.proofs.lemmas.List.Folds.{list_any_more, list_any-append}
@@ -81,6 +81,6 @@ edges_are n k homes e are counted met = record {
       counted.numbers a b
       ∙ (ap (λ (m : ℕ). count_below m (λ x. slice_index homes x == a && is_met e x b)) are.long
       ∙ count_same (k.original_inputs + length k.part) (λ x. slice_index homes x == a && is_met e x b) (λ x. home k x == a && leads_to n k b x)
-        (λ x h. ap (λ (z : ℕ). z == a && is_met e x b) (are.each x h) ∙ ap (λ (t : Bool). home k x == a && t) (met x b)));
+      (λ x h. ap (λ (z : ℕ). z == a && is_met e x b) (are.each x h) ∙ ap (λ (t : Bool). home k x == a && t) (met x b)));
   some = counted.some;
 }

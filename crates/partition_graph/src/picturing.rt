@@ -9,8 +9,8 @@ ghost use Rattle.partition_graph.specs.Picture.{IsPicture, is_node_register, is_
 ghost use Rattle.partition_graph.specs.Private.Counting.{AreCounted, IsRest};
 
 use crate::counting::{greater, greatest, tally};
-use crate::meeting::edges;
 use crate::groups::groups;
+use crate::meeting::edges;
 use crate::places::{homes, is_drawn, node_counts, part_list, places};
 use crate::writing::{BoxCounts, Rest, put_edges, put_end, put_head, put_parts, put_rest};
 use certificate::Certificate;

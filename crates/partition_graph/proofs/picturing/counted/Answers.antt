@@ -1,6 +1,5 @@
-use Rattle.std.proofs.Common.{◌≡◌, ℕ, List, length, slice_index, ap, sym, ◌∙◌, subst, arith}
+use Rattle.std.proofs.Common.{ℕ, List, length, slice_index, ap, ◌∙◌, arith}
 use Rattle.partition_graph.specs.Places.{max_below}
-use Rattle.partition_graph.specs.Private.Counting.{AreNodeCounts}
 use Rattle.partition_graph.proofs.BoxLaws.{most_is}
 use Rattle.partition_graph.proofs.picturing.counted.Goals as goal
 

@@ -1,4 +1,4 @@
-use Rattle.std.proofs.Common.{◌≡◌, ◌++◌, [], ◌∙◌, List, ℕ}
+use Rattle.std.proofs.Common.{◌≡◌, ◌++◌, [], ◌∙◌}
 use Rattle.partition_graph.specs.Picture.{quoted, framed}
 use Rattle.partition_graph.proofs.writing.put_framed.Goals as goal
 
