@@ -1,6 +1,6 @@
 -- What the runs of a campaign come to.
 use Rattle.std.proofs.Common.{◌≡◌, ℕ, zero, suc, ◌+◌, ◌*◌, ◌<◌, ◌≤◌, ◌⊎◌, inl, inr, List, [], ◌∷◌, ◌++◌, length, get_or, take, slice_get, Option, Some, None, refl, sym, ap, subst, ◌∙◌, arith}
-use Rattle.std.specs.Prelude.{◌%◌, ◌^◌, All, Bool, true, false, sum_by}
+use Rattle.std.specs.Prelude.{◌%◌, ◌^◌, All, Bool, true, false, sum_by, if◌then◌else◌}
 use Rattle.std.proofs.lemmas.List.{length-append}
 use Rattle.std.proofs.lemmas.List.FromFn.{length-map-range_with_len}
 use Rattle.std.proofs.lemmas.List.Sums.{length-filter, count_by-le-length, sum_by_more, sum_by-le}
@@ -16,7 +16,7 @@ use Rattle.validator.specs.Masking.{Masks}
 use Rattle.validator.proofs.Laws.{masks_too}
 use Rattle.schedule_replay.specs.declared.outcome.Outcome.{Outcome}
 use Rattle.schedule_replay.specs.Many.{AreReplaysOf, HaveOneLength}
-use Rattle.schedule_replay.specs.Outcome.{IsReplayOf, differs, is_wrong, output_at, outputs_in, outputs_until, one_if, bits_differ, copies_wrong, late_at, late_in, late_until, is_quiet}
+use Rattle.schedule_replay.specs.Outcome.{IsReplayOf, differs, is_wrong, output_at, outputs_in, outputs_until, one_if, copies_wrong, late_at, late_in, late_until, is_quiet}
 use Rattle.schedule_replay.specs.OutcomeView.{plain_outcome}
 use Rattle.schedule_replay.specs.Schedule.{PlainSchedule}
 use Rattle.schedule_replay.proofs.Kept.{append_cases}
@@ -120,9 +120,10 @@ unharmed n h k cycles s o masks run allowed is =
 -- of all runs
 pub none_harmed : (n h : Net) (k : PlainCert) (cycles : ℕ) (list : List PlainSchedule) (outcomes : List Outcome) → Masks n h k → All (λ s. IsRunnable n h cycles s) list → All (λ s. Allowed s.upsets k) list → AreReplaysOf n h k list outcomes
     → (sum_by (λ o. o.wrong) outcomes ≡ 0) × (sum_by (λ o. o.late) outcomes ≡ 0)
-none_harmed n h k cycles list outcomes masks run allowed replays =
-    (omega (arith, sum_by-le (λ (o : Outcome). o.wrong) 0 outcomes (λ j d l. let e : (get_or outcomes j d).wrong ≡ 0 = (each j d l).0 in omega (arith, e))),
-     omega (arith, sum_by-le (λ (o : Outcome). o.late) 0 outcomes (λ j d l. let e : (get_or outcomes j d).late ≡ 0 = (each j d l).1 in omega (arith, e))))
+none_harmed n h k cycles list outcomes masks run allowed replays = (
+  omega (arith, sum_by-le (λ (o : Outcome). o.wrong) 0 outcomes (λ j d l. let e : (get_or outcomes j d).wrong ≡ 0 = (each j d l).0 in omega (arith, e))),
+  omega (arith, sum_by-le (λ (o : Outcome). o.late) 0 outcomes (λ j d l. let e : (get_or outcomes j d).late ≡ 0 = (each j d l).1 in omega (arith, e))),
+)
   where
     each : (j : ℕ) (d : Outcome) → j < length outcomes → ((get_or outcomes j d).wrong ≡ 0) × ((get_or outcomes j d).late ≡ 0)
     each j d within =
@@ -143,3 +144,25 @@ run_added {A = A} f xs i x old new within is before added =
 -- an outcome at its place
 pub bounded_at : (outcomes : List Outcome) (j : ℕ) (o : Outcome) → All (λ x. IsBounded x) outcomes → j < length outcomes → o ≡ get_or outcomes j o → IsBounded o
 bounded_at outcomes j o all within is = subst (λ (x : Outcome). IsBounded x) (sym is) (all j o within)
+
+-- ---- the campaign
+
+pub three_inputs : (n : Net) (f : List Bool) (h : Net) (g : List Bool) (k : PlainCert) → FreeCorresponds n f h g k → length h.inputs ≡ 3 * length n.inputs
+three_inputs n f h g k all_hold = (all_hold 1 0).inputs refl refl
+
+pub three_of_each : (n : Net) (f : List Bool) (h : Net) (g : List Bool) (k : PlainCert) → FreeCorresponds n f h g k → length h.outputs ≡ 3 * length n.outputs
+three_of_each n f h g k all_hold = three_outputs n h k (λ place. (all_hold 8 place).outputs refl)
+
+pub campaign_is : (number cycles : ℕ) (n h : Net) (k : PlainCert) (list : List PlainSchedule) (outcomes : List Outcome) (sums : CampaignSums) → Masks n h k → AreCampaignSchedules number cycles n h k list
+    → All (λ s. IsRunnable n h cycles s) list → AreReplaysOf n h k list outcomes → AreSumsOf list outcomes sums → IsCampaign number cycles n h k sums
+campaign_is number cycles n h k list outcomes sums masks drawn run replays are =
+    let none = none_harmed n h k cycles list outcomes masks run drawn.allowed replays in
+    record {
+      schedules = list;
+      outcomes = outcomes;
+      are_drawn = drawn;
+      replays = replays;
+      are_sums = are;
+      none_wrong = are.wrong ∙ none.0;
+      none_late = are.late ∙ none.1;
+    }

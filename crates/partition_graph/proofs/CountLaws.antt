@@ -1,13 +1,13 @@
 -- Counts that grow entry by entry.
-use Rattle.std.proofs.Common.{◌≡◌, ◌≢◌, ℕ, zero, suc, ◌+◌, ◌<◌, ◌≤◌, ◌⊎◌, inl, inr, Bool, true, false, ◌&&◌, List, length, map, get_or, slice_index, slice_set, refl, sym, ◌∙◌, ap, arith, add-one}
-use Rattle.std.specs.Prelude.{◌==◌, nat_lt, max, replicate, All}
+use Rattle.std.proofs.Common.{◌≡◌, ◌≢◌, ℕ, zero, suc, ◌+◌, ◌<◌, ◌≤◌, ◌⊎◌, inl, inr, Bool, true, false, ◌&&◌, List, length, map, slice_index, slice_set, refl, sym, ◌∙◌, ap, arith, add-one}
+use Rattle.std.specs.Prelude.{◌==◌, nat_lt, max, replicate}
 use Rattle.std.specs.List.{range_with_len}
 use Rattle.std.proofs.lemmas.Bool.{cases_eq, eq-eqb, ne_eqb}
 use Rattle.std.proofs.lemmas.Bool.Decides.{nat_tests}
 use Rattle.std.proofs.lemmas.List.{get_or-set_same, get_or-set_other, get_or-replicate, length-set, length-replicate}
 use Rattle.std.proofs.lemmas.List.FromFn.{get_or-map-range_with_len}
-use Rattle.partitioner.specs.Below.{sum_below, count_below, one_if}
-use Rattle.partitioner.proofs.BelowLaws.{count_none, count_same, count_le, sum_more}
+use Rattle.partitioner.specs.Below.{count_below, one_if}
+use Rattle.partitioner.proofs.BelowLaws.{count_none, count_same, count_le}
 use Rattle.partition_graph.specs.Places.{max_below}
 use Rattle.partition_graph.specs.Private.Counting.{is_marked}
 

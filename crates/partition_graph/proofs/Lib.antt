@@ -3,5 +3,5 @@ pub mod PlaceLaws
 pub mod EdgeLaws
 pub mod MeetLaws
 pub mod GroupLaws
-pub mod WordLaws
 pub mod LineLaws
+pub mod BoxLaws

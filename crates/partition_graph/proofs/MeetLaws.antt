@@ -1,14 +1,22 @@
 -- Where nets lead, noted role by role, pin by pin and output by output.
-use Rattle.std.proofs.Common.{◌≡◌, ◌≢◌, ℕ, ◌+◌, ◌<◌, ◌≤◌, ◌⊎◌, inl, inr, Bool, true, false, ◌&&◌, ◌||◌, ◌-◌, List, [], ◌∷◌, ◌++◌, length, map, take, get_or, slice_index, slice_get, Option, Some, refl, sym, ◌∙◌, ap, arith, add-one}
-use Rattle.std.specs.Prelude.{◌==◌, nat_lt, nat_le}
+use Rattle.std.proofs.Common.{◌≡◌, ◌≢◌, ℕ, ◌+◌, ◌<◌, ◌≤◌, ◌⊎◌, inl, inr, Bool, false, ◌&&◌, ◌||◌, ◌-◌, List, [], ◌∷◌, ◌++◌, length, map, take, get_or, slice_index, slice_get, Some, refl, sym, ◌∙◌, ap, arith}
+use Rattle.std.specs.Prelude.{◌==◌, nat_le}
 use Rattle.std.specs.List.{list_any, range_with_len}
-use Rattle.std.proofs.lemmas.Bool.{cases_eq, ne_eqb, false≢true, eqb-true, lt-ltb, le-ltb, le-leb, lt-leb}
+use Rattle.std.proofs.lemmas.Bool.{cases_eq, ne_eqb, le-leb, lt-leb}
 use Rattle.std.proofs.lemmas.Option.{get_or_from_slice_get}
 use Rattle.std.proofs.lemmas.List.FromFn.{map-range_with_len_more}
 use Rattle.std.proofs.lemmas.List.Folds.{list_any_more, list_any-append}
 use Rattle.flat_net.proofs.Slots.{slot_at}
 use Rattle.certificate.specs.declared.role.Role.{Role}
 use Rattle.certificate.specs.Cert.{PlainCert, role_of}
+use Rattle.flat_net.specs.Net.{Net}
+use Rattle.partitioner.specs.Below.{count_below}
+use Rattle.partitioner.proofs.BelowLaws.{count_same}
+use Rattle.partition_graph.specs.declared.edges.Edges.{Edges}
+use Rattle.partition_graph.specs.Places.{home}
+use Rattle.partition_graph.specs.Edges.{is_voted_for, is_read_at, is_put_out, leads_to, AreEdges}
+use Rattle.partition_graph.specs.Private.Counting.{AreHomes}
+use Rattle.partition_graph.specs.Private.Meeting.{is_met, AreCounted}
 use Rattle.partition_graph.proofs.EdgeLaws.{or_assoc, or_false, and_false}
 
 -- one element more, of which nothing was met before
@@ -56,37 +64,23 @@ voter_of_input inputs node y at h = go (cases_eq node y)
     go (inl e) = ap (λ (b : Bool). b && (node == y && at)) (lt-leb inputs y (omega (arith, h, e)))
     go (inr ne) = ap (λ (b : Bool). nat_le inputs y && (b && at)) (ne_eqb node y ne) ∙ and_false (nat_le inputs y)
 
--- ---- pins
+-- ---- all that was met
 
-put_pin : (first t h any q : Bool) → (q ≡ true → t ≡ true) → ((first || (t && (h && any))) || (q && h)) ≡ (first || (t && (h && (any || q))))
-put_pin true t h any q e = refl
-put_pin false true true true q e = refl
-put_pin false true true false true e = refl
-put_pin false true true false false e = refl
-put_pin false true false any true e = refl
-put_pin false true false any false e = refl
-put_pin false false h any false e = refl
-put_pin false false h any true e = absurd (false≢true (e refl))
+or_three : (e0 e1 e2 e3 v r o : Bool) → e0 ≡ false → e1 ≡ (e0 || v) → e2 ≡ (e1 || r) → e3 ≡ (e2 || o) → e3 ≡ (v || (r || o))
+or_three e0 e1 e2 e3 v r o none is_first is_second is_third =
+    is_third ∙ (ap (λ (b : Bool). b || o) (is_second ∙ ap (λ (b : Bool). b || r) (is_first ∙ ap (λ (b : Bool). b || v) none)) ∙ or_assoc v r o)
 
-skip_pin : (first t h any q : Bool) → (q ≡ true → t ≡ false) → (first || (t && (h && any))) ≡ (first || (t && (h && (any || q))))
-skip_pin true t h any q e = refl
-skip_pin false false h any q e = refl
-skip_pin false true false any q e = refl
-skip_pin false true true true q e = refl
-skip_pin false true true false false e = refl
-skip_pin false true true false true e = absurd (false≢true (sym (e refl)))
+pub leads_are : (n : Net) (k : PlainCert) (x b : ℕ) (e0 e1 e2 e3 : Bool) → e0 ≡ false → e1 ≡ (e0 || is_voted_for k x b) → e2 ≡ (e1 || is_read_at n k x b) → e3 ≡ (e2 || is_put_out n k x b) → e3 ≡ leads_to n k b x
+unfolding leads_to
+leads_are n k x b e0 e1 e2 e3 = or_three e0 e1 e2 e3 (is_voted_for k x b) (is_read_at n k x b) (is_put_out n k x b)
 
--- one pin more, which reads an input, or another net
-module _ (inputs : ℕ) (pins : List ℕ) (j pin x : ℕ) (h first old new : Bool) (within : j < length pins) (at : pin ≡ slice_index pins j) (before : old ≡ (first || (nat_lt x inputs && (h && list_any (λ z. z == x) (take j pins))))) where
-  more : list_any (λ z. z == x) (take (j + 1) pins) ≡ (list_any (λ z. z == x) (take j pins) || (pin == x))
-  more = list_any_more (λ z. z == x) pins j 0 within ∙ ap (λ z. list_any (λ z. z == x) (take j pins) || (z == x)) (sym at)
-
-  pub pin_put : pin < inputs → new ≡ (old || (pin == x && h)) → new ≡ (first || (nat_lt x inputs && (h && list_any (λ z. z == x) (take (j + 1) pins))))
-  pin_put is_input is =
-      is ∙ (ap (λ (b : Bool). b || (pin == x && h)) before ∙ (put_pin first (nat_lt x inputs) h (list_any (λ z. z == x) (take j pins)) (pin == x) (λ e. lt-ltb x inputs (omega (arith, is_input, eqb-true pin x e)))
-      ∙ sym (ap (λ (b : Bool). first || (nat_lt x inputs && (h && b))) more)))
-
-  pub pin_skipped : inputs ≤ pin → new ≡ old → new ≡ (first || (nat_lt x inputs && (h && list_any (λ z. z == x) (take (j + 1) pins))))
-  pin_skipped is_node is =
-      is ∙ (before ∙ (skip_pin first (nat_lt x inputs) h (list_any (λ z. z == x) (take j pins)) (pin == x) (λ e. le-ltb inputs x (omega (arith, is_node, eqb-true pin x e)))
-      ∙ sym (ap (λ (b : Bool). first || (nat_lt x inputs && (h && b))) more)))
+pub edges_are : (n : Net) (k : PlainCert) (homes : List ℕ) (e : Edges) → AreHomes k homes → AreCounted homes e → ((x b : ℕ) → is_met e x b ≡ leads_to n k b x) → AreEdges n k e.counts
+edges_are n k homes e are counted met = record {
+  ascending = counted.ascending;
+  numbers = λ a b.
+      counted.numbers a b
+      ∙ (ap (λ (m : ℕ). count_below m (λ x. slice_index homes x == a && is_met e x b)) are.long
+      ∙ count_same (k.original_inputs + length k.part) (λ x. slice_index homes x == a && is_met e x b) (λ x. home k x == a && leads_to n k b x)
+      (λ x h. ap (λ (z : ℕ). z == a && is_met e x b) (are.each x h) ∙ ap (λ (t : Bool). home k x == a && t) (met x b)));
+  some = counted.some;
+}

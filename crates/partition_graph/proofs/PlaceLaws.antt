@@ -1,5 +1,5 @@
 -- Which partitions are drawn, told by counts.
-use Rattle.std.proofs.Common.{◌≡◌, ◌≢◌, ℕ, suc, ◌+◌, ◌-◌, ◌<◌, ◌≤◌, ◌⊎◌, inl, inr, Bool, true, false, List, [], ◌∷◌, ◌++◌, length, take, get_or, slice_get, slice_index, slice_set, Some, refl, sym, ◌∙◌, ap, subst, arith}
+use Rattle.std.proofs.Common.{◌≡◌, ◌≢◌, ℕ, suc, ◌+◌, ◌-◌, ◌<◌, ◌≤◌, ◌⊎◌, inl, inr, Bool, true, false, List, [], ◌∷◌, ◌++◌, length, take, get_or, slice_get, slice_index, slice_set, Some, refl, sym, ◌∙◌, ap, arith}
 use Rattle.std.specs.Prelude.{◌==◌, nat_lt, replicate, All, if◌then◌else◌}
 use Rattle.std.proofs.lemmas.Bool.{cases_eq, eq-eqb, ne_eqb, le-ltb}
 use Rattle.std.proofs.lemmas.List.{get_or-set_same, get_or-set_other, get_or-replicate, length-set, length-replicate, length-append, take_more, get_or_append_left, get_or_push}
@@ -7,7 +7,7 @@ use Rattle.std.proofs.lemmas.Option.{get_or_from_slice_get}
 use Rattle.flat_net.proofs.Slots.{slot_at}
 use Rattle.certificate.specs.Cert.{PlainCert, part_of}
 use Rattle.partitioner.specs.Below.{count_below, one_if}
-use Rattle.partitioner.proofs.BelowLaws.{count_none, count_same, count_le}
+use Rattle.partitioner.proofs.BelowLaws.{count_none, count_same}
 use Rattle.partition_graph.specs.Places.{nodes_in, count_before, is_drawn, place_of}
 use Rattle.partition_graph.specs.Private.Counting.{AreNodeCounts}
 use Rattle.partition_graph.proofs.CountLaws.{count_more, more_above, none_pass}
@@ -103,12 +103,12 @@ unfolding count_before
 before_is k nodes p are h =
     let here : nodes_in k p ≡ slice_index nodes p = sym (are.each p (omega (arith, h, are.long))) in
     let many : count_below (length k.depth) (λ q. nat_lt (nodes_in k p) (nodes_in k q)) ≡ count_below (length nodes) (λ q. nat_lt (slice_index nodes p) (slice_index nodes q)) =
-        ap (λ (c : ℕ). count_below c (λ q. nat_lt (nodes_in k p) (nodes_in k q))) (sym are.long)
-        ∙ count_same (length nodes) (λ q. nat_lt (nodes_in k p) (nodes_in k q)) (λ q. nat_lt (slice_index nodes p) (slice_index nodes q))
-          (λ q l. ap (λ (v : ℕ). nat_lt v (nodes_in k q)) here ∙ ap (nat_lt (slice_index nodes p)) (sym (are.each q (omega (arith, l, are.long))))) in
+    ap (λ (c : ℕ). count_below c (λ q. nat_lt (nodes_in k p) (nodes_in k q))) (sym are.long)
+    ∙ count_same (length nodes) (λ q. nat_lt (nodes_in k p) (nodes_in k q)) (λ q. nat_lt (slice_index nodes p) (slice_index nodes q))
+    (λ q l. ap (λ (v : ℕ). nat_lt v (nodes_in k q)) here ∙ ap (nat_lt (slice_index nodes p)) (sym (are.each q (omega (arith, l, are.long))))) in
     let as_many : count_below p (λ q. nodes_in k q == nodes_in k p) ≡ count_below p (λ q. slice_index nodes q == slice_index nodes p) =
-        count_same p (λ q. nodes_in k q == nodes_in k p) (λ q. slice_index nodes q == slice_index nodes p)
-        (λ q l. ap (λ (v : ℕ). nodes_in k q == v) here ∙ ap (λ (v : ℕ). v == slice_index nodes p) (sym (are.each q (omega (arith, l, h, are.long))))) in
+    count_same p (λ q. nodes_in k q == nodes_in k p) (λ q. slice_index nodes q == slice_index nodes p)
+    (λ q l. ap (λ (v : ℕ). nodes_in k q == v) here ∙ ap (λ (v : ℕ). v == slice_index nodes p) (sym (are.each q (omega (arith, l, h, are.long))))) in
     omega (arith, many, as_many)
 
 place_is : (k : PlainCert) (p before rest place : ℕ) → before ≡ count_before k p → rest ≡ length k.depth → place ≡ (if nat_lt before 400 then p else rest) → place ≡ place_of k p

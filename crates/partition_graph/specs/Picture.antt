@@ -6,7 +6,7 @@ use Rattle.std.specs.BTreeMap.{BTreeMap}
 use Rattle.flat_net.specs.Net.{Net, Node, Table, Register, node_of}
 use Rattle.certificate.specs.Cert.{PlainCert, depth_of}
 use Rattle.partitioner.specs.Below.{sum_below, count_below}
-use Rattle.partition_graph.specs.Places.{nodes_in, is_drawn, rest_place, inputs_place, max_below}
+use Rattle.partition_graph.specs.Places.{nodes_in, is_drawn, max_below}
 use Rattle.partition_graph.specs.Edges.{AreEdges}
 use Rattle.partition_graph.specs.Groups.{AreGroups, group_at}
 

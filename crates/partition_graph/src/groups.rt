@@ -51,7 +51,10 @@ fn next_lead(n: &FlatNet, inputs: u32, lead: Lead, x: u32) -> Lead
     if lead.by == 0 {
         return vote(lead, x, false);
     }
-    let same = are_same(path(n, NetId(inputs + x)), path(n, NetId(inputs + lead.node)));
+    let same = are_same(
+        path(n, NetId(inputs + x)),
+        path(n, NetId(inputs + lead.node)),
+    );
     vote(lead, x, same)
 }
 
@@ -95,7 +98,10 @@ fn has_lead(n: &FlatNet, inputs: u32, c: &Certificate, leads: &[Lead], x: u32) -
     // What the design keeps.
     let _nodes = nodes_of(n);
     let p = c.part(NetId(inputs + x)).0 as usize;
-    are_same(path(n, NetId(inputs + x)), path(n, NetId(inputs + leads[p].node)))
+    are_same(
+        path(n, NetId(inputs + x)),
+        path(n, NetId(inputs + leads[p].node)),
+    )
 }
 
 /// For each node whether it has the path that leads in its partition.

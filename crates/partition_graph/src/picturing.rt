@@ -9,8 +9,8 @@ ghost use Rattle.partition_graph.specs.Picture.{IsPicture, is_node_register, is_
 ghost use Rattle.partition_graph.specs.Private.Counting.{AreCounted, IsRest};
 
 use crate::counting::{greater, greatest, tally};
-use crate::meeting::edges;
 use crate::groups::groups;
+use crate::meeting::edges;
 use crate::places::{homes, is_drawn, node_counts, part_list, places};
 use crate::writing::{BoxCounts, Rest, put_edges, put_end, put_head, put_parts, put_rest};
 use certificate::Certificate;
@@ -62,6 +62,8 @@ fn counted(alloc: Global, n: &FlatNet, c: &Certificate) -> Result<BoxCounts, Out
     requires nodes { length c.now.part ≡ length n.now.net.nodes }
     ensures { IfOk result (λ counts. AreCounted n.now.net c.now counts) }
 {
+    // What the certificate keeps.
+    let _parts = c.parts();
     let nodes = node_counts(alloc, n, c)?;
     let registers = register_counts(alloc, n, c)?;
     let places = places(alloc, c, &nodes)?;
@@ -131,6 +133,8 @@ pub fn picture(
     requires { Fits n.now.net h.now.net c.now }
     ensures { IfOk result (λ text. IsPicture n.now.net c.now text.items) }
 {
+    // What the certificate keeps.
+    let _parts = c.parts();
     let counts = counted(alloc, n, c)?;
     let homes = homes(alloc, n, c, &counts.places)?;
     let edges = edges(alloc, n, h, c, &counts.places, &homes)?;

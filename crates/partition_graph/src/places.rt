@@ -41,7 +41,11 @@ pub fn node_counts(alloc: Global, n: &FlatNet, c: &Certificate) -> Result<Vec<us
 
 /// For each number up to the greatest, how many of the numbers are above it, where it is known how many
 /// have each value.
-fn counts_above(alloc: Global, numbers: &[usize], exactly: &[usize]) -> Result<Vec<usize>, OutOfMemory>
+fn counts_above(
+    alloc: Global,
+    numbers: &[usize],
+    exactly: &[usize],
+) -> Result<Vec<usize>, OutOfMemory>
     requires some { 0 < length exactly.now }
     requires below { All (λ m. m < length exactly.now) numbers.now }
     requires few { length numbers.now < 4294967296 }

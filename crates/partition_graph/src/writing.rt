@@ -1,9 +1,8 @@
 //! The lines of a picture.
 ghost use Rattle.std.specs.Prelude.{◌≡◌, ◌==◌, ◌<◌, ◌≤◌, ◌+◌, ◌*◌, ◌/◌, ◌++◌, ℕ, length, slice_index, max, IfOk, OnOk, codes};
 ghost use Rattle.std.specs.List.{flat_map, range_with_len};
-ghost use Rattle.certificate.specs.Cert.{depth_of};
-ghost use Rattle.partition_graph.specs.Places.{is_drawn};
-ghost use Rattle.partition_graph.specs.Picture.{box_text, framed, unframed, box_line, part_line, part_line_in, rest_line, others_line, place_name, edge_line, head_text};
+ghost use Rattle.partition_graph.specs.Groups.{group_at};
+ghost use Rattle.partition_graph.specs.Picture.{quoted, box_text, framed, unframed, box_line, part_line, part_line_in, rest_text, rest_line, place_name, edge_line, head_text};
 ghost use Rattle.partition_graph.specs.Private.Counting.{AreCounted, ArePlaces, texts};
 
 use crate::counting::greater;
@@ -40,6 +39,15 @@ pub struct Rest {
     pub depth: usize,
 }
 
+/// A name as it stands between quotes.
+fn quoted(alloc: Global, name: &[u8]) -> Result<Vec<u8>, AllocError>
+    ensures { IfOk result (λ text. text.items ≡ quoted name.now) }
+{
+    let mut text = Vec::new(alloc);
+    put_quoted(&mut text, name)?;
+    Ok(text)
+}
+
 /// Puts the first lines.
 #[tactic(auto, unfolding(crate::specs::Picture::head_text))]
 pub fn put_head(alloc: Global, out: &mut Vec<u8>, n: &FlatNet) -> Result<(), AllocError>
@@ -47,8 +55,7 @@ pub fn put_head(alloc: Global, out: &mut Vec<u8>, n: &FlatNet) -> Result<(), All
 {
     let inputs = n.input_count().to_string(alloc)?;
     let outputs = n.output_count().to_string(alloc)?;
-    let mut name = Vec::new(alloc);
-    put_quoted(&mut name, n.model().bytes())?;
+    let name = quoted(alloc, n.model().bytes())?;
     put_all(
         out,
         &[
@@ -60,7 +67,8 @@ pub fn put_head(alloc: Global, out: &mut Vec<u8>, n: &FlatNet) -> Result<(), All
             outputs.as_bytes(),
             b"\", shape=ellipse];\n".as_slice(),
         ],
-    )
+    )?;
+    Ok(())
 }
 
 /// The width of the border of a partition with so many nodes.
@@ -115,8 +123,7 @@ fn box_of(
 fn put_framed(alloc: Global, out: &mut Vec<u8>, path: &[u8], text: &[u8]) -> Result<(), AllocError>
     ensures { OnOk result (out.new.items ≡ out.old.items ++ framed path.now text.now) }
 {
-    let mut name = Vec::new(alloc);
-    put_quoted(&mut name, path)?;
+    let name = quoted(alloc, path)?;
     put_all(
         out,
         &[
@@ -128,7 +135,8 @@ fn put_framed(alloc: Global, out: &mut Vec<u8>, path: &[u8], text: &[u8]) -> Res
             text,
             b" }\n".as_slice(),
         ],
-    )
+    )?;
+    Ok(())
 }
 
 /// Puts a box without a frame.
@@ -157,19 +165,29 @@ fn put_part(
     c: &Certificate,
     counts: &BoxCounts,
     path: &[u8],
-    p: usize,
+    p: u32,
 ) -> Result<(), AllocError>
     requires part { p < length c.now.depth }
     requires counts { AreCounted n.now.net c.now counts.now }
     ensures { OnOk result (out.new.items ≡ out.old.items ++ part_line_in n.now.net c.now path.now p) }
 {
-    if !is_drawn(c, &counts.places, p) {
+    let at = p as usize;
+    if !is_drawn(c, &counts.places, at) {
         return Ok(());
     }
-    let nodes = counts.nodes[p];
-    let depth = c.depth(PartId(p as u32));
-    let text = box_of(alloc, p, nodes, counts.registers[p], depth, border(nodes, counts.most))?;
+    let nodes = counts.nodes[at];
+    let registers = counts.registers[at];
+    let width = border(nodes, counts.most);
+    let text = box_of(alloc, at, nodes, registers, c.depth(PartId(p)), width)?;
     put_box(alloc, out, path, &text)
+}
+
+/// The path of partition p.
+fn path_of<'a>(groups: &[&'a [u8]], p: usize) -> &'a [u8]
+    requires { p < length groups.now }
+    ensures { result.now ≡ group_at (texts groups.now) p }
+{
+    groups[p]
 }
 
 /// Puts the lines of all partitions that are drawn.
@@ -185,20 +203,18 @@ pub fn put_parts(
     requires counts { AreCounted n.now.net c.now counts.now }
     ensures { OnOk result (out.new.items ≡ out.old.items ++ flat_map (part_line n.now.net c.now (texts groups.now)) (range_with_len 0 (length c.now.depth))) }
 {
-    for p in 0..groups.len() {
-        put_part(alloc, out, n, c, counts, groups[p], p)?;
+    for p in 0..c.parts() {
+        let path = path_of(groups, p as usize);
+        put_part(alloc, out, n, c, counts, path, p)?;
     }
     Ok(())
 }
 
-/// Puts the line of the partitions that are not drawn, if there are some.
+/// Puts the line of the partitions that are not drawn.
 #[tactic(auto, unfolding(crate::specs::Picture::rest_text))]
-pub fn put_rest(alloc: Global, out: &mut Vec<u8>, rest: Rest) -> Result<(), AllocError>
-    ensures { OnOk result (out.new.items ≡ out.old.items ++ rest_line rest.count rest.nodes rest.registers rest.depth) }
+fn put_others(alloc: Global, out: &mut Vec<u8>, rest: Rest) -> Result<(), AllocError>
+    ensures { OnOk result (out.new.items ≡ out.old.items ++ rest_text rest.count rest.nodes rest.registers rest.depth) }
 {
-    if rest.count == 0 {
-        return Ok(());
-    }
     let count = rest.count.to_string(alloc)?;
     let nodes = rest.nodes.to_string(alloc)?;
     let registers = rest.registers.to_string(alloc)?;
@@ -216,7 +232,18 @@ pub fn put_rest(alloc: Global, out: &mut Vec<u8>, rest: Rest) -> Result<(), Allo
             depth.as_bytes(),
             b"\", style=dashed];\n".as_slice(),
         ],
-    )
+    )?;
+    Ok(())
+}
+
+/// Puts the line of the partitions that are not drawn, if there are some.
+pub fn put_rest(alloc: Global, out: &mut Vec<u8>, rest: Rest) -> Result<(), AllocError>
+    ensures { OnOk result (out.new.items ≡ out.old.items ++ rest_line rest.count rest.nodes rest.registers rest.depth) }
+{
+    if rest.count == 0 {
+        return Ok(());
+    }
+    put_others(alloc, out, rest)
 }
 
 /// The name of a place, where there are so many partitions.

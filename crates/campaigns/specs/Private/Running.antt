@@ -1,16 +1,14 @@
 -- Schedules and outcomes of a campaign.
-use Rattle.std.specs.Prelude.{◌≡◌, ◌≤◌, ◌*◌, ℕ, All, length}
+use Rattle.std.specs.Prelude.{◌≡◌, ◌≤◌, ℕ, All, length}
 use Rattle.flat_net.specs.Net.{Net}
-use Rattle.certificate.specs.Cert.{PlainCert}
-use Rattle.certificate.specs.Schedules.{Allowed}
 use Rattle.schedule_replay.specs.declared.outcome.Outcome.{Outcome}
 use Rattle.schedule_replay.specs.Reading.{IsNodeOf}
 use Rattle.schedule_replay.specs.Schedule.{PlainSchedule, IsPlainSchedule}
 
 -- so many cycles of the original's inputs, with upsets of hardened nodes
-pub record IsRunnable (n h : Net) (cycles : ℕ) (s : PlainSchedule) : Type 0 where
+pub record IsRunnable (n h : Net) (count : ℕ) (s : PlainSchedule) : Type 0 where
   pub inputs : s.inputs ≡ length n.inputs
-  pub cycles : length s.rows ≡ cycles
+  pub cycles : length s.rows ≡ count
   pub nodes : All (λ u. IsNodeOf h u.net.0) s.upsets
   pub plain : IsPlainSchedule s
 

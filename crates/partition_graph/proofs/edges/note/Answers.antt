@@ -1,9 +1,8 @@
-use Rattle.std.proofs.Common.{◌≡◌, ◌||◌, ◌&&◌, ◌∙◌, ℕ, Bool, true, false, length, slice_index, refl, sym, ap, arith}
+use Rattle.std.proofs.Common.{◌≡◌, ◌&&◌, ◌∙◌, Bool, true, false, slice_index, sym, ap, arith}
 use Rattle.std.specs.Prelude.{◌==◌, not}
-use Rattle.std.specs.HashSet as set
 use Rattle.partition_graph.specs.declared.edges.Edges.{Edges}
-use Rattle.partition_graph.specs.Private.Meeting.{same_pair, is_met}
-use Rattle.partition_graph.proofs.EdgeLaws.{or_from_cond, met_again, met_first, few_counted}
+use Rattle.partition_graph.specs.Private.Meeting.{is_met}
+use Rattle.partition_graph.proofs.EdgeLaws.{or_from_cond, met_first, few_counted}
 use Rattle.partition_graph.proofs.edges.note.Goals as goal
 
 from_not : (b f : Bool) → f ≡ not b → b ≡ not f

@@ -1,5 +1,4 @@
-use Rattle.std.proofs.Common.{◌+◌, ◌<◌, length, sym, ap, ◌∙◌, arith}
-use Rattle.partition_graph.specs.Private.Leading.{lead_at}
+use Rattle.std.proofs.Common.{◌+◌, sym, ◌∙◌, arith}
 use Rattle.partition_graph.proofs.PlaceLaws.{part_here}
 use Rattle.partition_graph.proofs.GroupLaws.{lead_within, has_lead_is}
 use Rattle.partition_graph.proofs.groups.has_lead.Goals as goal

@@ -1,4 +1,4 @@
-use Rattle.std.proofs.Common.{◌≡◌, ◌+◌, ◌-◌, ℕ, length, slice_index, refl, sym, arith}
+use Rattle.std.proofs.Common.{length, slice_index, refl, arith}
 use Rattle.partitioner.proofs.BelowLaws.{count_le}
 use Rattle.std.specs.Prelude.{◌==◌, nat_lt}
 use Rattle.partition_graph.proofs.PlaceLaws.{none_above, next_above}

@@ -1,6 +1,4 @@
-use Rattle.std.proofs.Common.{Bool, List, length, slice_index, ap, sym, ◌∙◌, subst, true, arith}
-use Rattle.std.specs.Prelude.{replicate}
-use Rattle.std.proofs.lemmas.List.{get_or_default}
+use Rattle.std.proofs.Common.{length, slice_index, ◌∙◌, arith}
 use Rattle.partition_graph.proofs.CountLaws.{max_le, all_count}
 use Rattle.partition_graph.proofs.places.counts_of.Goals as goal
 

@@ -1,4 +1,4 @@
-use Rattle.std.proofs.Common.{ℕ, Bool, List, length, slice_index, true, ap, sym, ◌∙◌, subst, arith}
+use Rattle.std.proofs.Common.{ℕ, List, length, slice_index, true, ap, sym, ◌∙◌, arith}
 use Rattle.std.specs.Prelude.{◌==◌, replicate}
 use Rattle.partitioner.specs.Below.{count_below}
 use Rattle.partition_graph.proofs.CountLaws.{all_count}

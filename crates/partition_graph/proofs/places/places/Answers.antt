@@ -1,7 +1,6 @@
-use Rattle.std.proofs.Common.{◌≡◌, ◌+◌, ◌<◌, ℕ, length, get_or, slice_index, refl, sym, ap, ◌∙◌, arith}
+use Rattle.std.proofs.Common.{◌≡◌, ◌+◌, ◌<◌, ℕ, length, get_or, slice_index, sym, ap, ◌∙◌, arith}
 use Rattle.std.specs.Prelude.{◌==◌, nat_lt, slice_set, if◌then◌else◌}
 use Rattle.std.proofs.lemmas.List.{get_or_default}
-use Rattle.partitioner.specs.Below.{count_below}
 use Rattle.partitioner.proofs.BelowLaws.{count_le}
 use Rattle.partition_graph.proofs.PlaceLaws.{none_placed, one_placed}
 use Rattle.partition_graph.proofs.places.places.Goals as goal
@@ -17,8 +16,17 @@ overflow_add-index c =
     let told = c.in_ok-above.ensures.above (slice_index c.args.nodes.now c.loop-p.p) (omega (arith, below, ap length c.deref.ensures.value)) in
     let a : c.index.result.now ≡ slice_index c.in_ok-above.above.items (slice_index c.args.nodes.now c.loop-p.p) = c.index.ensures ∙ get_or_default c.in_ok-above.above.items (slice_index c.args.nodes.now c.loop-p.p) c.index.result.now 0 (omega (arith, below, ap length c.deref.ensures.value, c.in_ok-above.ensures.long)) in
     let b : c.index-in-loop-p.result.now ≡ slice_index c.loop-p.seen.items (slice_index c.args.nodes.now c.loop-p.p) = c.index-in-loop-p.ensures ∙ get_or_default c.loop-p.seen.items (slice_index c.args.nodes.now c.loop-p.p) c.index-in-loop-p.result.now 0 (omega (arith, below, c.loop-p.invariant.seen_long)) in
-    omega (arith, a, b, told, count_le (length c.args.nodes.now) (λ q. nat_lt (slice_index c.args.nodes.now c.loop-p.p) (slice_index c.args.nodes.now q)), c.loop-p.invariant.seen_are (slice_index c.args.nodes.now c.loop-p.p) below,
-      count_le c.loop-p.p (λ q. slice_index c.args.nodes.now q == slice_index c.args.nodes.now c.loop-p.p), c.loop-p-test.true, c.requires.few)
+    omega (
+      arith,
+      a,
+      b,
+      told,
+      count_le (length c.args.nodes.now) (λ q. nat_lt (slice_index c.args.nodes.now c.loop-p.p) (slice_index c.args.nodes.now q)),
+      c.loop-p.invariant.seen_are (slice_index c.args.nodes.now c.loop-p.p) below,
+      count_le c.loop-p.p (λ q. slice_index c.args.nodes.now q == slice_index c.args.nodes.now c.loop-p.p),
+      c.loop-p-test.true,
+      c.requires.few,
+    )
 
 pub overflow_add-index_mut : goal.overflow_add-index_mut
 overflow_add-index_mut c =
