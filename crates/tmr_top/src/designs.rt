@@ -1,11 +1,11 @@
 //! Designs, read from what was loaded of their files.
-ghost use Rattle.std.specs.Prelude.{◌≡◌, ◌≢◌, ◌≤◌, ◌∷◌, [], IfOk, OnOk};
+ghost use Rattle.std.specs.Prelude.{◌≡◌, ◌≢◌, ◌≤◌, ◌∷◌, [], ℕ, IfOk, OnOk, Ok, Err};
 ghost use Rattle.flat_net.specs.Net.{IsDesign};
 ghost use Rattle.tmr_texts.specs.Reasons.{flat_reason as reason_of_flat};
 ghost use Rattle.tmr_texts.specs.Texts.{refused_line};
 ghost use Rattle.tmr_top.specs.Designs.{HoldsDesign};
 ghost use Rattle.tmr_top.specs.Loads.{original_file};
-ghost use Rattle.tmr_top.specs.Private.Opened.{netlist_file, HoldsText, Gives, Opens};
+ghost use Rattle.tmr_top.specs.Private.Opened.{netlist_file, HoldsText, IsRefusal, Gives, Opens};
 ghost use Rattle.tmr_top.specs.Private.Refused.{IsRefusedNetlist, IsWithin, Refuses, RefusesFor};
 
 use crate::loads::{Netlist, ORIGINAL_LIMIT, Stop, load_netlist};
@@ -82,6 +82,17 @@ fn design_of<'a>(
     }
 }
 
+/// The refusal of a netlist that was read with this fault.
+fn refuse_text<'a>(alloc: Global, name: &str, fault: TextFault) -> Stop<'a>
+    ensures { (limit : ℕ) → IsRefusal (λ held. HoldsText held (netlist_file name.now limit) (Err fault))
+        (IsRefusedNetlist (netlist_file name.now limit)) result }
+{
+    match fault {
+        TextFault::Bad { line, kind } => refuse_for(alloc, name, bad_line(alloc, line, kind)),
+        TextFault::Memory => Stop::Memory,
+    }
+}
+
 /// The design that a netlist gives which was read so. Its names become the design's.
 pub fn read_netlist<'a>(
     alloc: Global,
@@ -97,10 +108,7 @@ pub fn read_netlist<'a>(
 {
     match text {
         Ok(library) => design_of(alloc, name, library, limit),
-        Err(TextFault::Bad { line, kind }) => {
-            Err(refuse_for(alloc, name, bad_line(alloc, line, kind)))
-        }
-        Err(TextFault::Memory) => Err(Stop::Memory),
+        Err(fault) => Err(refuse_text(alloc, name, fault)),
     }
 }
 

@@ -23,8 +23,8 @@ returns-in_ok-text-in-Ok c =
         pair = _;
         holds = holds;
         accepts = c.in-Ok.ensures.accepts;
-        says = subst (λ (d : Design). IsReport pair.original.design.net d.net pair.certificate _) c.net-in-Ok.ensures.net
-            (subst (λ (d : Design). IsReport d.net c.net-in-Ok.result.now.net pair.certificate _) c.net.ensures.net c.in_ok-text-in-Ok.ensures);
+        says = subst (λ (d : Design). IsReport pair.original.design.net d.net pair.certificate c.in_ok-text-in-Ok.text.items) c.net-in-Ok.ensures.net
+            (subst (λ (d : Design). IsReport d.net c.net-in-Ok.result.now.net pair.certificate c.in_ok-text-in-Ok.text.items) c.net.ensures.net c.in_ok-text-in-Ok.ensures);
       },
       refl,
     ))
