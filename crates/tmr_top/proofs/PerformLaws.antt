@@ -354,4 +354,3 @@ module _ (c : Command) (a b new : FilesSeen) (same : b.contents ≡ a.contents) 
   pub leaves_since : Leaves c b new → Leaves c a new
   leaves_since (inl is) = inl (is ∙ same)
   leaves_since (inr is) = inr (broken_since is)
-

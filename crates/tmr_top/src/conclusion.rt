@@ -14,11 +14,7 @@ use tmr_texts::save_fault;
 
 /// Saves the texts of a work that is done, and decides. All texts are made before the first save.
 #[tactic(auto, using(crate::proofs::PerformLaws::conclusions))]
-fn save_work<F: Files>(
-    alloc: Global,
-    work: Work,
-    files: &mut F,
-) -> Result<Decision, OutOfMemory>
+fn save_work<F: Files>(alloc: Global, work: Work, files: &mut F) -> Result<Decision, OutOfMemory>
     requires { work.verdict ≡ Verdict.Done }
     ensures { (c : Command) → SavesFor c work.entry → Concludes c (Ok work.entry)
         (F.seen files.old) (F.seen files.new) (F.steady files.old) (F.steady files.new) result }
@@ -41,11 +37,7 @@ fn save_work<F: Files>(
 
 /// Decides by a work. Texts are saved only where it is Done.
 #[tactic(auto, using(crate::proofs::PerformLaws::conclusions))]
-fn decide_work<F: Files>(
-    alloc: Global,
-    work: Work,
-    files: &mut F,
-) -> Result<Decision, OutOfMemory>
+fn decide_work<F: Files>(alloc: Global, work: Work, files: &mut F) -> Result<Decision, OutOfMemory>
     ensures { (c : Command) → SavesFor c work.entry → Concludes c (Ok work.entry)
         (F.seen files.old) (F.seen files.new) (F.steady files.old) (F.steady files.new) result }
 {

@@ -125,7 +125,7 @@ fn read_certificate<'a>(
     requires { length bytes.now ≤ 1073741824 }
     ensures gives { Gives (λ held. HoldsBytes held (certificate_file name.now) bytes.now)
         (λ c held. HoldsCertificate held (certificate_file name.now)
-            designs.now.original.design.net designs.now.hardened.design.net c)
+        designs.now.original.design.net designs.now.hardened.design.net c)
         (IsRefusedCertificate name.now designs.now.original.design.net designs.now.hardened.design.net) result }
     ensures fits { IfOk result
         (Fits designs.now.original.design.net designs.now.hardened.design.net) }

@@ -55,7 +55,8 @@ IsSteadyStop loads contents stop.Memory = Unit {0}
 
 -- These files were loaded and read, or that came to no end. H holds of what was read and of what the files hold. `was` says that the
 -- files were steady, and `is` that they are.
-pub record Opens {A : Type 0} (loads : List Load) (H : A → Contents → Type 0) (R : List ℕ → Contents → Type 0) (old new : FilesSeen) (was is : Type 0) (answer : Result A Stop) : Type 0 where
+pub record Opens {A : Type 0} (loads : List Load) (H : A → Contents → Type 0) (R : List ℕ → Contents → Type 0)
+    (old new : FilesSeen) (was is : Type 0) (answer : Result A Stop) : Type 0 where
   pub stays : new.contents ≡ old.contents
   pub changes : ChangesOnly (map load_name loads) [] old new
   pub steady : was → is

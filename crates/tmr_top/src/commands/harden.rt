@@ -92,11 +92,7 @@ fn tell_form<'a>(
 
 /// A hardened form of a design.
 #[tactic(auto, using(crate::proofs::HardenLaws::versions))]
-fn tell<'a>(
-    alloc: Global,
-    words: &HardenWords<'a>,
-    n: &FreeNet,
-) -> Result<Work<'a>, OutOfMemory>
+fn tell<'a>(alloc: Global, words: &HardenWords<'a>, n: &FreeNet) -> Result<Work<'a>, OutOfMemory>
     requires { IsWithin 8388608 n.now }
     ensures { IfOk result (IsWorkOver (Harden (hardening_in words.now))
         (λ held. HoldsDesign held (original_file words.now.original.now) n.now.design.net n.now.free)) }

@@ -157,13 +157,15 @@ fn schedule_for<'a>(
         (λ line held. IsReplayRefused (replaying_in words.now) held line) result }
     ensures replayable { IfOk result (IsReplayable (word_in words.now.waves) pair.now) }
 {
-    match read_upsets(alloc, bytes, &pair.original, &pair.hardened, &pair.certificate) {
+    match read_upsets(
+        alloc,
+        bytes,
+        &pair.original,
+        &pair.hardened,
+        &pair.certificate,
+    ) {
         Ok(s) => keep_small(alloc, words, pair, s),
-        Err(fault) => Err(refuse_for(
-            alloc,
-            words.schedule,
-            schedule_reason(alloc, fault),
-        )),
+        Err(fault) => Err(refuse_for(alloc, words.schedule, schedule_reason(alloc, fault))),
     }
 }
 

@@ -19,18 +19,19 @@ use tmr_outside::Files;
 use tmr_words::PairWords;
 
 /// The report on a pair, where it is accepted.
-fn tell<'a>(
-    alloc: Global,
-    words: &PairWords<'a>,
-    pair: &PairRead,
-) -> Result<Work<'a>, OutOfMemory>
+fn tell<'a>(alloc: Global, words: &PairWords<'a>, pair: &PairRead) -> Result<Work<'a>, OutOfMemory>
     requires { IsFit pair.now }
     ensures { IfOk result (IsWorkOver (Report (pair_in words.now))
         (λ held. HoldsPair held (pair_in words.now) (pair_of pair.now))) }
 {
     match check_pair(pair) {
         Ok(()) => {
-            let text = report(alloc, pair.original.net(), pair.hardened.net(), &pair.certificate)?;
+            let text = report(
+                alloc,
+                pair.original.net(),
+                pair.hardened.net(),
+                &pair.certificate,
+            )?;
             Ok(telling(alloc, text))
         }
         Err(refusal) => deny(alloc, pair, refusal),

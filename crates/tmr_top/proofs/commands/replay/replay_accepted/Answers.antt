@@ -35,7 +35,11 @@ replay_lines-requires c =
 pub returns : goal.returns
 returns c =
     let o = plain_outcome c.in_ok-outcome.outcome in
-    record { done = refl; names_are = c.in_ok-saves.ensures.names; told = told (word_in c.args.waves) c.args.n.now.design.net c.args.n.now.free c.args.h.now.design.net c.args.h.now.free c.args.c.now c.args.s.now o (save_texts c.in_ok-saves.saves.items) c.in_ok-text.text.items
-    c.in_ok-outcome.ensures.replayed c.in_ok-outcome.ensures.masked
-    (c.in_ok-text.ensures ∙ ap (λ (d : Design). replay_lines d.net c.args.s.now o) c.net.ensures.net)
-    c.in_ok-saves.ensures.saves }
+    record {
+      done = refl;
+      names_are = c.in_ok-saves.ensures.names;
+      told = told (word_in c.args.waves) c.args.n.now.design.net c.args.n.now.free c.args.h.now.design.net c.args.h.now.free c.args.c.now c.args.s.now o (save_texts c.in_ok-saves.saves.items) c.in_ok-text.text.items
+          c.in_ok-outcome.ensures.replayed c.in_ok-outcome.ensures.masked
+          (c.in_ok-text.ensures ∙ ap (λ (d : Design). replay_lines d.net c.args.s.now o) c.net.ensures.net)
+          c.in_ok-saves.ensures.saves;
+    }

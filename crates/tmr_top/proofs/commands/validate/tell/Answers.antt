@@ -18,8 +18,8 @@ returns-in_ok-text-in-Ok c = done_over _ _ _ _ _ _ c.telling.ensures refl (λ t 
       refl,
     ))
     (λ held holds p e.
-      let same : pair_in c.args.words.now ≡ p = cc in
-      subst (λ (q : Pair). Masked held q) same (record { pair = _; holds = holds; accepts = c.in-Ok.ensures.accepts; is_masking = c.in-Ok.ensures.masks }))
+    let same : pair_in c.args.words.now ≡ p = cc in
+    subst (λ (q : Pair). Masked held q) same (record { pair = _; holds = holds; accepts = c.in-Ok.ensures.accepts; is_masking = c.in-Ok.ensures.masks }))
 
 pub returns-in-Err : goal.returns-in-Err
 returns-in-Err c = if_ok c.deny.result _ _ (λ w is. denied_over _ _ _ w is refl (λ t e. cc)
