@@ -1,5 +1,5 @@
 -- What an AIGER file comes to.
-use Rattle.std.proofs.Common.{◌≡◌, ◌≢◌, ℕ, List, [], ◌∷◌, Option, Some, refl, sym, ap, ◌∙◌, subst}
+use Rattle.std.proofs.Common.{◌≡◌, ◌≢◌, ℕ, List, Option, Some, refl, sym, subst}
 use Rattle.std.specs.FinMap.{get}
 use Rattle.flat_net.specs.Free.{FreeDesign}
 use Rattle.aag_design.specs.Read.{IsFaultOf, IsReadAs, IsReadCounted}

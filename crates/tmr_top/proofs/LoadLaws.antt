@@ -8,7 +8,7 @@ use Rattle.blif_text.specs.Reading.{reading, Reads}
 use Rattle.blif_text.specs.Reader.{ReaderState, StandsFor}
 use Rattle.blif_text.specs.declared.fault.TextFault.{TextFault}
 use Rattle.tmr_outside.specs.Contents.{Contents}
-use Rattle.tmr_outside.specs.Counts.{RoseOf, NoneFell, NoneRose, OthersStay}
+use Rattle.tmr_outside.specs.Counts.{RoseOf, NoneRose, OthersStay}
 use Rattle.tmr_outside.specs.Pieces.{TakesFile}
 use Rattle.tmr_outside.specs.Seen.{FilesSeen, IsTold}
 use Rattle.tmr_texts.specs.Texts.{refused_line}

@@ -1,6 +1,6 @@
 -- How a command ends, from its work and its saves.
-use Rattle.std.proofs.Common.{◌≡◌, ◌≢◌, ◌⊎◌, ℕ, List, [], ◌∷◌, ◌++◌, map, Option, Some, None, Result, Ok, Err, inl, inr, refl, sym, ap, subst, ◌∙◌}
-use Rattle.std.specs.Prelude.{IfOk, IfSome, codes, Vec}
+use Rattle.std.proofs.Common.{◌≡◌, ◌≢◌, ◌⊎◌, ℕ, List, [], ◌∷◌, ◌++◌, Option, Some, None, Ok, Err, inl, inr, refl, sym, ap, subst, ◌∙◌}
+use Rattle.std.specs.Prelude.{IfSome, codes, Vec}
 use Rattle.std.specs.declared.alloc.Global.{Global}
 use Rattle.std.specs.Borrow.{Bor}
 use Rattle.tmr_outside.specs.Contents.{Contents}
@@ -9,32 +9,28 @@ use Rattle.tmr_outside.specs.Seen.{FilesSeen, IsTold}
 use Rattle.tmr_top.specs.declared.decision.Verdict.{Verdict}
 use Rattle.tmr_top.specs.declared.decision.Verdict.TheVariants as verdict
 use Rattle.tmr_top.specs.declared.decision.Work.{Work}
-use Rattle.tmr_top.specs.declared.decision.Decision.{Decision}
 use Rattle.tmr_top.specs.declared.loads.Stop.{Stop}
 use Rattle.tmr_top.specs.declared.loads.Stop.TheVariants as stop
 use Rattle.tmr_top.specs.declared.saves.SaveStop.{SaveStop}
 use Rattle.tmr_top.specs.declared.saves.SaveStop.TheVariants as save_stop
 use Rattle.tmr_top.specs.declared.status.Status.{Status}
 use Rattle.tmr_top.specs.declared.status.Status.TheVariants as status
-use Rattle.tmr_words.specs.Trials.{Trial}
-use Rattle.tmr_top.specs.Tried.{IsTried}
-use Rattle.tmr_words.specs.Line.{Command, Pair, Validate, TryOut}
+use Rattle.tmr_words.specs.Line.{Command, Pair, Validate}
 use Rattle.tmr_top.specs.Loads.{Load, loads_of, saves_of}
 use Rattle.tmr_top.specs.Files.{OfOne, OfEach, OfFirst, IsLong, IsFine}
 use Rattle.tmr_top.specs.Changes.{LoadFailed, SaveFailed, HeldElsewhere, ChangesOnly, NoneFailed}
 use Rattle.tmr_top.specs.Pairs.{Masked}
 use Rattle.tmr_top.specs.Outcomes.{Outcome}
-use Rattle.tmr_top.specs.Private.Opened.{IsOpen, IsStop, IsSteadyStop, IsStopped, Opens}
+use Rattle.tmr_top.specs.Private.Opened.{IsStop, IsSteadyStop, IsStopped}
 use Rattle.tmr_top.specs.Causes.{SomeMissing}
 use Rattle.tmr_top.specs.Saves.{with_texts, IsDone, IsBroken}
 use Rattle.tmr_top.specs.Private.Saved.{after_saves, Saves, StopsAt, IsSaveStop}
 use Rattle.tmr_top.specs.declared.decision.Save.{Save}
-use Rattle.tmr_top.specs.ByWords.{compares}
-use Rattle.tmr_top.specs.Private.Works.{save_names, save_texts, SavesFor, Agrees, IsWork, IsWorkOver, Comes, Leaves}
-use Rattle.tmr_top.specs.Private.Rooms.{Concludes, Performed}
+use Rattle.tmr_top.specs.Private.Works.{save_names, save_texts, SavesFor, Comes, Leaves}
+use Rattle.tmr_top.specs.Private.Rooms.{Concludes}
 use Rattle.tmr_texts.specs.Texts.{load_fault_line, save_fault_line, refused_line}
 use Rattle.tmr_top.specs.Runs.{Untouched, Says, SaysTooLong, SaysSaveFault, SaysBroken, Performs}
-use Rattle.tmr_top.proofs.ChangeLaws.{rose_since, load_failed_since, save_failed_since, told_as_before, changes_none, held_same}
+use Rattle.tmr_top.proofs.ChangeLaws.{rose_since, load_failed_since, save_failed_since, told_as_before, changes_none}
 
 -- ---- saves
 

@@ -1,13 +1,11 @@
 -- What a replay comes to.
-use Rattle.std.proofs.Common.{◌≡◌, ◌≢◌, ℕ, zero, suc, ◌+◌, ◌*◌, ◌<◌, ◌≤◌, ◌⊎◌, inl, inr, Bool, true, false, List, [], ◌∷◌, ◌++◌, length, drop, get_or, filter, All, Option, Some, None, Result, Ok, Err, refl, sym, ap, ◌∙◌, subst, append_assoc, add-one, drop-cons, arith}
-use Rattle.std.specs.Prelude.{IfOk, IfErr, IsTrue, slice_get, codes, if◌then◌else◌}
+use Rattle.std.proofs.Common.{◌≡◌, ◌≢◌, ℕ, zero, suc, ◌*◌, ◌<◌, ◌⊎◌, inl, inr, Bool, true, false, List, [], ◌∷◌, length, filter, All, Option, Some, None, Result, Ok, Err, refl, sym, ap, ◌∙◌, subst, arith}
+use Rattle.std.specs.Prelude.{IfOk, IfErr, IsTrue, codes, if◌then◌else◌}
 use Rattle.std.specs.Option.{unwrap_or}
 use Rattle.std.proofs.lemmas.Bool.{eq-eqb, ne_eqb}
-use Rattle.std.proofs.lemmas.List.{nil_from_length, length-drop, append-nil}
 use Rattle.std.proofs.lemmas.List.Elements.{All-append, All-filter, All-take, All-weaker}
-use Rattle.std.proofs.lemmas.Option.{get_or_from_slice_get}
 use Rattle.tmr_base.specs.declared.ids.Upset.{Upset}
-use Rattle.flat_net.specs.Net.{Net, Design, name_of, net_count, node_of}
+use Rattle.flat_net.specs.Net.{Net, Design, net_count, node_of}
 use Rattle.flat_net.specs.Free.{node_bit}
 use Rattle.net_meaning.specs.Meaning.{upset_at, start_at, net_value, row_at, row_before, spread, IsFreeFaultTrace, HasOneTrace}
 use Rattle.certificate.specs.Cert.{PlainCert, IsCert}
@@ -39,7 +37,7 @@ use Rattle.tmr_top.specs.Private.PairFiles.{pair_of}
 use Rattle.tmr_top.specs.Private.Refused.{Refuses}
 use Rattle.tmr_top.specs.Pairs.{ReadPair, HoldsPair, Accepts}
 use Rattle.tmr_texts.specs.Reasons.{schedule_reason}
-use Rattle.tmr_texts.specs.ReplayText.{output_name, difference_line, difference_lines, replay_lines}
+use Rattle.tmr_texts.specs.ReplayText.{replay_lines}
 use Rattle.tmr_top.specs.Replayed.{HoldsNoSchedule, ReadFiles, SavesWaves, IsReplayed, IsReplayDenied, IsReplayRefused, is_too_large}
 use Rattle.tmr_top.specs.Private.Replaying.{ReadsSchedule, IsBeforeSchedule, IsReplayable, IsReplayRead, IsTooLargeStop, IsTold, IsToldWork}
 use Rattle.tmr_texts.specs.Texts.{not_accepted_line, refused_line}

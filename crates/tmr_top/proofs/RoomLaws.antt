@@ -1,6 +1,6 @@
 -- A room, from how its files are opened, its work, and how it concludes.
-use Rattle.std.proofs.Common.{◌≡◌, ◌≢◌, ◌⊎◌, ℕ, Bool, true, false, List, [], ◌∷◌, map, Option, Some, None, Result, Ok, Err, inl, inr, refl, sym, ap, subst, ◌∙◌}
-use Rattle.std.specs.Prelude.{IfOk, IsOkAnd, IfSome, MatchResult, Vec}
+use Rattle.std.proofs.Common.{◌≡◌, ◌≢◌, ℕ, true, List, [], map, Option, Some, None, Result, Ok, Err, inl, inr, refl, sym, subst, ◌∙◌}
+use Rattle.std.specs.Prelude.{IfOk, IsOkAnd, IfSome, Vec}
 use Rattle.std.specs.declared.alloc.Global.{Global}
 use Rattle.tmr_outside.specs.Contents.{Contents}
 use Rattle.tmr_outside.specs.Counts.{NoneRose}
@@ -12,7 +12,6 @@ use Rattle.tmr_top.specs.declared.decision.Work.{Work}
 use Rattle.tmr_top.specs.declared.decision.Verdict.{Verdict}
 use Rattle.tmr_top.specs.declared.decision.Verdict.TheVariants as verdict
 use Rattle.tmr_top.specs.declared.loads.Stop.{Stop}
-use Rattle.tmr_top.specs.declared.status.Status.{Status}
 use Rattle.tmr_top.specs.declared.status.Status.TheVariants as status
 use Rattle.tmr_top.specs.ByWords.{compares}
 use Rattle.tmr_top.specs.Causes.{SomeMissing}
@@ -23,9 +22,9 @@ use Rattle.tmr_top.specs.Outcomes.{Outcome}
 use Rattle.tmr_top.specs.Pairs.{Masked}
 use Rattle.tmr_top.specs.Runs.{Performs}
 use Rattle.tmr_top.specs.Tried.{IsTried}
-use Rattle.tmr_top.specs.Private.Opened.{IsOpen, IsStop, IsStopped, Opens, Never}
+use Rattle.tmr_top.specs.Private.Opened.{IsOpen, IsStopped, Opens}
 use Rattle.tmr_top.specs.Private.Rooms.{Concludes, Performed}
-use Rattle.tmr_top.specs.Private.Works.{save_names, save_texts, IsDoneWith, IsDeniedWith, SavesFor, Agrees, IsWork, IsWorkOver, Comes, Leaves}
+use Rattle.tmr_top.specs.Private.Works.{save_texts, IsDoneWith, IsDeniedWith, SavesFor, Agrees, IsWork, IsWorkOver, Comes, Leaves}
 use Rattle.tmr_top.proofs.ChangeLaws.{none_since, told_as_before, changes_none, loads_and_saves, loads_alone, match_since}
 use Rattle.tmr_top.proofs.PerformLaws.{stop_performs, stop_quiet, stop_missing, stop_not_done, stop_agrees, masked_since, performs_since, leaves_since}
 

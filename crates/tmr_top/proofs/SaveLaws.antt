@@ -9,7 +9,7 @@ use Rattle.tmr_outside.specs.Counts.{RoseOf, NoneFell, NoneRose, OthersStay}
 use Rattle.tmr_outside.specs.Seen.{FilesSeen, IsTold}
 use Rattle.tmr_top.specs.declared.saves.SaveStop.{SaveStop}
 use Rattle.tmr_top.specs.declared.saves.SaveStop.TheVariants as stop
-use Rattle.tmr_top.specs.Changes.{IsNone, HeldElsewhere, ChangesOnly, SaveFailed, NoneFailed}
+use Rattle.tmr_top.specs.Changes.{IsNone, HeldElsewhere, ChangesOnly}
 use Rattle.tmr_top.specs.Saves.{with_texts}
 use Rattle.tmr_top.specs.declared.decision.Save.{Save}
 use Rattle.tmr_top.specs.Private.Works.{save_names, save_texts}

@@ -20,14 +20,12 @@ use Rattle.schedule_replay.specs.Schedule.{PlainSchedule}
 use Rattle.schedule_replay.proofs.Kept.{append_cases}
 use Rattle.schedule_replay.proofs.Quiet.{three_outputs}
 use Rattle.schedule_replay.proofs.Unharmed.{plain_unharmed}
-use Rattle.tmr_outside.specs.Contents.{Contents}
 use Rattle.tmr_trial.specs.Designs.{design_of}
 use Rattle.tmr_trial.specs.Schedules.{IsDrawnSchedule}
 use Rattle.tmr_trial.proofs.NodeLaws.{pins_few}
 use Rattle.tmr_trial.proofs.Valid.{count_is}
 use Rattle.tmr_top.specs.declared.commands.trial.RunSums.{RunSums}
 use Rattle.tmr_texts.specs.FormText.{form_numbers}
-use Rattle.tmr_words.specs.Line.{TryOut}
 use Rattle.tmr_words.specs.Trials.{Trial}
 use Rattle.tmr_top.specs.Tried.{AreSums, IsTried, trial_lines}
 use Rattle.tmr_top.specs.Private.Trying.{IsRunnable, IsCalm}

@@ -1,5 +1,5 @@
 -- Files that were loaded and read, and loads and reads that came to no end.
-use Rattle.std.specs.Prelude.{◌≡◌, ℕ, ◌≤◌, List, [], ◌∷◌, length, map, codes, Option, IfSome, Result, IfOk, IfErr, MatchResult}
+use Rattle.std.specs.Prelude.{◌≡◌, ℕ, List, [], map, codes, Option, IfSome, Result, IfOk, IfErr, MatchResult}
 use Rattle.blif_text.specs.Models.{PlainModel}
 use Rattle.blif_text.specs.Reading.{reading, Reads}
 use Rattle.blif_text.specs.declared.fault.TextFault.{TextFault}

@@ -1,6 +1,6 @@
 -- The files of a pair as they were loaded, and as they were read.
-use Rattle.std.specs.Prelude.{◌≡◌, ◌≤◌, ◌+◌, ℕ, List}
-use Rattle.flat_net.specs.Net.{net_count, pin_total}
+use Rattle.std.specs.Prelude.{◌≤◌, ℕ, List}
+use Rattle.flat_net.specs.Net.{net_count}
 use Rattle.certificate.specs.Cert.{Fits}
 use Rattle.tmr_outside.specs.Contents.{Contents}
 use Rattle.tmr_words.specs.Line.{Pair}

@@ -1,6 +1,5 @@
 -- What every room of a command owes.
-use Rattle.std.specs.Prelude.{◌≡◌, ◌≢◌, ◌⊎◌, ℕ, Bool, false, List, [], map, Result, IfOk, IsOkAnd, IfSome, MatchResult}
-use Rattle.tmr_outside.specs.Contents.{Contents}
+use Rattle.std.specs.Prelude.{◌≡◌, ◌≢◌, ◌⊎◌, false, [], map, Result, IfOk, IsOkAnd, IfSome, MatchResult}
 use Rattle.tmr_outside.specs.Counts.{NoneRose}
 use Rattle.tmr_outside.specs.Seen.{FilesSeen, IsTold}
 use Rattle.tmr_top.specs.declared.decision.Decision.{Decision}

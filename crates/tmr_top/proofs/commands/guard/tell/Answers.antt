@@ -1,4 +1,4 @@
-use Rattle.std.proofs.Common.{◌≡◌, ℕ, ◌≤◌, List, length, refl, sym, ap, subst, ◌∙◌}
+use Rattle.std.proofs.Common.{◌≡◌, ℕ, ◌≤◌, length, refl, sym, ap, subst, ◌∙◌}
 use Rattle.flat_net.specs.Net.{Design}
 use Rattle.blif_writer.specs.Length.{flat_length}
 use Rattle.dwc.specs.Guard.{guard_net}

@@ -1,5 +1,5 @@
 use Rattle.std.proofs.Common.{ℕ, List, subst, sym, inl}
-use Rattle.tmr_words.specs.FileWords.{pair_in, replaying_in}
+use Rattle.tmr_words.specs.FileWords.{replaying_in}
 use Rattle.tmr_top.specs.Loads.{schedule_file}
 use Rattle.tmr_top.specs.Replayed.{IsReplayRefused}
 use Rattle.tmr_top.specs.Validated.{IsPairUnread}

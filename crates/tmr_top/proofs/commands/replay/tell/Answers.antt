@@ -1,4 +1,4 @@
-use Rattle.std.proofs.Common.{refl, ◌≡◌}
+use Rattle.std.proofs.Common.{refl}
 use Rattle.tmr_words.specs.FileWords.{replaying_in}
 use Rattle.tmr_top.proofs.ReplayLaws.{told_over, denied_outcome}
 use Rattle.tmr_top.proofs.RoomLaws.{if_ok, denied_over}

@@ -1,7 +1,6 @@
-use Rattle.std.proofs.Common.{◌≡◌, refl, ap, subst, ◌∙◌}
+use Rattle.std.proofs.Common.{◌≡◌, refl, subst}
 use Rattle.tmr_words.specs.Line.{Pair}
 use Rattle.tmr_words.specs.FileWords.{pair_in}
-use Rattle.tmr_texts.specs.Texts.{accepted_line}
 use Rattle.tmr_top.specs.Pairs.{Masked}
 use Rattle.tmr_top.proofs.RoomLaws.{if_ok, done_over, denied_over}
 use Rattle.tmr_top.proofs.commands.validate.tell.Goals as goal
