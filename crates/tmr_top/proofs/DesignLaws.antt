@@ -1,12 +1,16 @@
 -- Bytes give one design, or none.
-use Rattle.std.proofs.Common.{◌≡◌, ◌≢◌, ℕ, Bool, List, Option, Some, Result, Ok, Err, inl, inr, subst}
+use Rattle.std.proofs.Common.{◌≡◌, ◌≢◌, ℕ, Bool, List, Option, Some, Result, Ok, Err, inl, inr, refl, ◌≤◌, ◌+◌, ◌*◌, subst}
 use Rattle.std.specs.Prelude.{count_by}
 use Rattle.std.specs.FinMap.{get}
 use Rattle.blif_text.specs.Kind.{Bad}
 use Rattle.blif_text.specs.Models.{PlainModel}
-use Rattle.blif_text.specs.Reading.{reading, Reads}
+use Rattle.blif_text.specs.Reading.{reading, IsFaultOf, Reads}
 use Rattle.blif_text.specs.declared.fault.TextFault.{TextFault}
-use Rattle.flat_net.specs.Net.{Net}
+use Rattle.blif_text.specs.declared.fault.TextFault.TheVariants as faults
+use Rattle.blif_text.specs.declared.fault.TextKind.{TextKind}
+use Rattle.tmr_texts.specs.Texts.{line_reason}
+use Rattle.flat_net.specs.Net.{Net, net_count, pin_total}
+use Rattle.flat_net.specs.Free.{FreeDesign}
 use Rattle.hierarchy.specs.Flatten.{IsFlatFault, IsFreeFlat}
 use Rattle.hierarchy.specs.declared.flat_fault.FlatFault.{FlatFault}
 use Rattle.hierarchy.specs.declared.flat_fault.FlatFault.TheVariants.{Memory}
@@ -14,37 +18,45 @@ use Rattle.hierarchy.proofs.OneAnswer.{flat_or_fault}
 use Rattle.hierarchy.proofs.Marks.{one_free}
 use Rattle.tmr_outside.specs.Contents.{Contents}
 use Rattle.blif_writer.specs.NetOf.{IsFreeNetOf}
-use Rattle.tmr_top.specs.FlatWithin.{IsFlatWithin}
+use Rattle.hierarchy.specs.Sizes.{row_total}
+use Rattle.tmr_top.specs.Private.Refused.{IsWithin}
 use Rattle.tmr_top.specs.Loads.{Load}
-use Rattle.tmr_top.specs.Loaded.{HoldsText}
+use Rattle.tmr_top.specs.Private.Opened.{HoldsText}
 use Rattle.tmr_top.specs.Designs.{IsUnread, HoldsDesign, HoldsNoDesign}
-use Rattle.tmr_texts.specs.Reasons.{bad_reason, flat_reason}
+use Rattle.tmr_texts.specs.Reasons.{kind_text, flat_reason}
 
--- ---- what a text gives
+-- ---- what a name holds that was read so
 
-pub is_design : (limit : ℕ) (bytes : List ℕ) (library : List PlainModel) (n : Net) (free : List Bool) → reading bytes ≡ Ok library → IsFreeFlat library limit n free → IsFreeNetOf bytes limit n free
-is_design limit bytes library n free read flat = record { library = library; reads = read; flat = flat }
+-- its library is flattened
+pub holds_flat : (held : Contents) (load : Load) (library : List PlainModel) (n : Net) (free : List Bool) → IsFreeFlat library load.limit n free → HoldsText held load (Ok library) → HoldsDesign held load n free
+holds_flat held load library n free flat holds = record { bytes = holds.bytes; there = holds.there; short = holds.short; fact = record { library = library; reads = holds.fact; flat = flat } }
 
-pub bad_library : (limit : ℕ) (bytes : List ℕ) (library : List PlainModel) (fault : FlatFault) (reason : List ℕ) → reading bytes ≡ Ok library → fault ≢ Memory → IsFlatFault library limit fault → reason ≡ flat_reason fault → IsUnread limit bytes reason
-bad_library limit bytes library fault reason read caused first says = inr (record { library = library; read = read; fault = fault; caused = caused; first = first; says = says })
+-- its library gives no design
+pub holds_fault : (held : Contents) (load : Load) (library : List PlainModel) (fault : FlatFault) → fault ≢ Memory → IsFlatFault library load.limit fault → HoldsText held load (Ok library) → HoldsNoDesign held load (flat_reason fault)
+holds_fault held load library fault caused first holds = record {
+  bytes = holds.bytes;
+  there = holds.there;
+  short = holds.short;
+  fact = inr (record { library = library; read = holds.fact; fault = fault; caused = caused; first = first; says = refl });
+}
 
-pub is_flat_within : (limit : ℕ) (library : List PlainModel) (n : Net) (free : List Bool) → IsFreeFlat library limit n free → IsFlatWithin limit n free
-is_flat_within limit library n free flat = record { library = library; flat = flat }
+-- it has a bad line
+pub holds_bad : (held : Contents) (load : Load) (text : Result (List PlainModel) TextFault) (fault : TextFault) (line : ℕ) (kind : TextKind) → text ≡ Err fault → fault ≡ faults.Bad line kind → HoldsText held load text → HoldsNoDesign held load (line_reason line (kind_text kind))
+holds_bad held load text fault line kind is bad holds = record {
+  bytes = holds.bytes;
+  there = holds.there;
+  short = holds.short;
+  fact = inl (record {
+    bad = record { line = line; kind = kind };
+    read = subst (λ (f : TextFault). IsFaultOf (reading holds.bytes) f) bad (subst (λ (t : Result (List PlainModel) TextFault). Reads t (reading holds.bytes)) is holds.fact);
+    says = refl;
+  });
+}
 
-pub ruleset libraries = (is_design, bad_library, is_flat_within)
+pub is_within : (limit : ℕ) (library : List PlainModel) (n : FreeDesign) → IsFreeFlat library limit n.design.net n.free → 2 * (net_count n.design.net + pin_total n.design.net) ≤ limit → row_total n.design.net ≤ limit → IsWithin limit n
+is_within limit library n flat few rows = record { few = few; rows = rows; flat = record { library = library; flat = flat } }
 
-pub bad_text : (limit : ℕ) (bytes : List ℕ) (bad : Bad) (reason : List ℕ) → reading bytes ≡ Err bad → reason ≡ bad_reason bad → IsUnread limit bytes reason
-bad_text limit bytes bad reason read says = inl (record { bad = bad; read = read; says = says })
-
-pub ruleset texts = (bad_text)
-
--- ---- what a name holds
-
-pub holds_design : (held : Contents) (load : Load) (text : Result (List PlainModel) TextFault) (n : Net) (free : List Bool) → HoldsText held load text → ((bytes : List ℕ) → Reads text (reading bytes) → IsFreeNetOf bytes load.limit n free) → HoldsDesign held load n free
-holds_design held load text n free holds read = record { bytes = holds.bytes; there = holds.there; short = holds.short; fact = read holds.bytes holds.fact }
-
-pub holds_no_design : (held : Contents) (load : Load) (text : Result (List PlainModel) TextFault) (reason : List ℕ) → HoldsText held load text → ((bytes : List ℕ) → Reads text (reading bytes) → IsUnread load.limit bytes reason) → HoldsNoDesign held load reason
-holds_no_design held load text reason holds unread = record { bytes = holds.bytes; there = holds.there; short = holds.short; fact = unread holds.bytes holds.fact }
+pub ruleset designs = (is_within)
 
 -- ---- it gives one design, or none
 

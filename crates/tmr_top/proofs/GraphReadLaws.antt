@@ -1,42 +1,22 @@
 -- What an AIGER file comes to.
-use Rattle.std.proofs.Common.{◌≡◌, ◌≢◌, ℕ, List, [], ◌∷◌, Option, Some, refl, sym, ap, ◌∙◌, subst}
+use Rattle.std.proofs.Common.{◌≡◌, ◌≢◌, ℕ, List, Option, Some, refl, sym, subst}
 use Rattle.std.specs.FinMap.{get}
 use Rattle.flat_net.specs.Free.{FreeDesign}
-use Rattle.blif_writer.specs.Text.{free_text}
 use Rattle.aag_design.specs.Read.{IsFaultOf, IsReadAs, IsReadCounted}
 use Rattle.aag_design.specs.declared.file.CountedDesign.{CountedDesign}
 use Rattle.aag_design.specs.declared.fault.AagFault.{AagFault}
 use Rattle.aag_design.specs.declared.fault.AagFault.TheVariants.{Memory}
 use Rattle.aag_design.proofs.OneAnswer.{design_or_fault}
 use Rattle.tmr_outside.specs.Contents.{Contents}
-use Rattle.tmr_top.specs.declared.decision.Work.{Work}
 use Rattle.tmr_top.specs.declared.decision.Verdict.{Verdict}
 use Rattle.tmr_top.specs.declared.decision.Verdict.TheVariants.{Done, NotAccepted, Refused}
-use Rattle.tmr_top.specs.FileWords.{texts_in}
-use Rattle.tmr_words.specs.Line.{GraphReading, ReadGraph}
+use Rattle.tmr_words.specs.Line.{GraphReading}
 use Rattle.tmr_top.specs.Loads.{Load, graph_file}
-use Rattle.tmr_top.specs.Loaded.{HoldsBytes}
+use Rattle.tmr_top.specs.Private.Opened.{HoldsBytes, IsRefusal}
 use Rattle.tmr_top.specs.GraphRead.{HoldsGraph, HoldsNoGraph, GraphRead}
-use Rattle.tmr_top.specs.GraphCounted.{HoldsCounted}
-use Rattle.tmr_texts.specs.Reasons.{aag_reason}
-use Rattle.tmr_texts.specs.Texts.{aag_line, refused_line}
-use Rattle.tmr_top.specs.Works.{IsWork}
-use Rattle.tmr_top.proofs.PairLaws.{outcome_work}
-
--- ---- works
-
-pub graph_read_work : (held : Contents) (w : GraphReading) (read : CountedDesign) (r : Work) → HoldsCounted held (graph_file w.graph) read → r.verdict ≡ Done → texts_in r.saves.items ≡ free_text read.net.design.net read.net.free ∷ [] → r.text.items ≡ aag_line read.counts → IsWork (ReadGraph w) held r
-graph_read_work held w read r holds done saves says =
-    outcome_work (ReadGraph w) held r Done done (record {
-      design = read.net;
-      holds = record { bytes = holds.bytes; there = holds.there; short = holds.short; fact = holds.fact.read };
-      saves = saves;
-      says = says ∙ ap aag_line holds.fact.counts;
-    }) (λ p is. cc)
-
-pub graph_unread_work : (held : Contents) (w : GraphReading) (fault : AagFault) (r : Work) → HoldsNoGraph held (graph_file w.graph) fault → fault ≢ Memory → r.verdict ≡ Refused → r.text.items ≡ refused_line w.graph (aag_reason fault) → IsWork (ReadGraph w) held r
-graph_unread_work held w fault r first caused refused says =
-    outcome_work (ReadGraph w) held r Refused refused (record { fault = fault; caused = caused; first = first; says = says }) (λ p is. cc)
+use Rattle.tmr_top.specs.declared.loads.Stop.{Stop}
+use Rattle.tmr_top.specs.declared.loads.Stop.TheVariants as stop
+use Rattle.tmr_top.specs.Private.GraphCounted.{HoldsCounted, IsRefusedGraph, RefusesGraph}
 
 -- ---- what the bytes of a file give
 
@@ -56,11 +36,17 @@ holds_no_graph held load bytes fault holds is = record {
   fact = subst (λ (b : List ℕ). IsFaultOf b load.limit fault) (sym holds.fact) is;
 }
 
-pub ruleset making = (graph_read_work)
-
-pub ruleset refusing = (graph_unread_work)
-
-pub ruleset reading = (holds_counted, holds_no_graph)
+-- a refusal for a fault
+pub graph_refusal : (name bytes : List ℕ) (fault : AagFault) (why : Stop) → IsFaultOf bytes 8388608 fault → RefusesGraph name fault why → IsRefusal (λ held. HoldsBytes held (graph_file name) bytes) (IsRefusedGraph name) why
+graph_refusal name bytes fault (stop.Failed other) first is = absurd is
+graph_refusal name bytes fault (stop.TooLong other) first is = absurd is
+graph_refusal name bytes fault (stop.Refused line) first is = λ held holds. record {
+  fault = fault;
+  caused = is.0;
+  first = holds_no_graph held (graph_file name) bytes fault holds first;
+  says = is.1;
+}
+graph_refusal name bytes fault stop.Memory first is = tt
 
 -- ---- one verdict
 

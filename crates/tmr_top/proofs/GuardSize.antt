@@ -18,7 +18,7 @@ use Rattle.hardened_size.proofs.Original.{limit_kept}
 use Rattle.dwc.specs.Guard.{twin, twin_text, twofold, node_twin, differ_cover, comparator, any_cover, alarm, alarm_net, guard_net}
 use Rattle.dwc.proofs.Texts.{twin_tailed, comparator_tailed, alarm_tailed}
 use Rattle.dwc.proofs.Nodes.{twin_name, comparator_name, alarm_name}
-use Rattle.tmr_top.specs.FlatWithin.{IsFlatWithin}
+use Rattle.tmr_top.specs.Private.FlatWithin.{IsFlatWithin}
 
 -- ---- the parts of a guarded design
 

@@ -1,5 +1,5 @@
 -- What a hardening comes to.
-use Rattle.std.proofs.Common.{◌≡◌, ℕ, zero, suc, ◌+◌, ◌<◌, ◌≤◌, ◌⊎◌, Bool, List, [], ◌∷◌, length, Ok, inl, inr, refl, ap, subst, ◌∙◌, arith}
+use Rattle.std.proofs.Common.{◌≡◌, ℕ, zero, suc, ◌+◌, ◌*◌, ◌<◌, ◌≤◌, ◌⊎◌, Bool, List, [], ◌∷◌, length, Ok, inl, inr, refl, ap, subst, ◌∙◌, arith}
 use Rattle.std.specs.Prelude.{◌↔◌, IsTrue, count_by, nat_eq}
 use Rattle.flat_net.specs.Net.{Net, IsValid, net_count, pin_total}
 use Rattle.blif_writer.specs.NetOf.{IsFreeNetOf}
@@ -8,7 +8,7 @@ use Rattle.certificate.specs.Cert.{PlainCert, IsCert}
 use Rattle.certificate.specs.Starts.{counted}
 use Rattle.recovery_depth.specs.Extra.{is_extra}
 use Rattle.hardened_size.specs.Size.{AreShort, IsHardenedFrom, FlatTextKeepsLimit, HardenedTextsKeepLimits, KeepLimits}
-use Rattle.tmr_top.specs.FlatWithin.{IsFlatWithin}
+use Rattle.tmr_top.specs.Private.FlatWithin.{IsFlatWithin}
 use Rattle.certificate.specs.Reading.{cert_of_text}
 use Rattle.certificate.specs.Text.{cert_text}
 use Rattle.partitioner.specs.Cost.{cost}
@@ -18,44 +18,46 @@ use Rattle.triplicate.specs.declared.form.Form.{Form}
 use Rattle.triplicate.specs.Form.{BoundedForm, parts_of}
 use Rattle.triplicate.specs.Result.{is_voter_role}
 use Rattle.tmr_outside.specs.Contents.{Contents}
-use Rattle.tmr_top.specs.declared.decision.Work.{Work}
-use Rattle.tmr_top.specs.declared.decision.Verdict.TheVariants.{Done, Refused}
-use Rattle.tmr_top.specs.FileWords.{texts_in}
-use Rattle.tmr_words.specs.Line.{Hardening, Harden}
+use Rattle.tmr_words.specs.Line.{Pair, Hardening, Harden, TryOut, Validate}
+use Rattle.tmr_words.specs.Trials.{Trial}
 use Rattle.tmr_top.specs.Loads.{original_file}
-use Rattle.tmr_top.specs.Designs.{HoldsDesign, HoldsNoDesign}
-use Rattle.tmr_top.specs.Hardened.{HasNoExtra}
+use Rattle.tmr_top.specs.Designs.{HoldsDesign}
+use Rattle.tmr_top.specs.Hardened.{HasNoExtra, IsHardened}
 use Rattle.tmr_texts.specs.FormText.{form_numbers, hardened_lines}
-use Rattle.tmr_texts.specs.Texts.{greatest, refused_line}
-use Rattle.tmr_top.specs.Works.{IsWork}
-use Rattle.tmr_top.proofs.PairLaws.{outcome_work}
+use Rattle.tmr_texts.specs.Texts.{greatest}
 
-pub hardened_work : (held : Contents) (w : Hardening) (n h : Net) (f g : List Bool) (k : PlainCert) (minimal : Bool) (d e : List ℕ) (r : Work) → HoldsDesign held (original_file w.original) n f → BoundedForm w.form n f w.size w.version w.most h g k → (length n.nodes < w.most → HasNoExtra w n f h g k) → net_count n + pin_total n ≤ 16777216 → AreShort n h k → (IsTrue minimal ↔ IsMinimal n w.size (parts_of k)) → d ≡ free_text h g → length d ≤ 1073741824 → IsFreeNetOf d 1073741824 h g → e ≡ cert_text n h k → length e ≤ 1073741824 → cert_of_text n h e ≡ Ok k → r.verdict ≡ Done → texts_in r.saves.items ≡ d ∷ e ∷ [] → r.text.items ≡ hardened_lines (form_numbers n w.size h k minimal) k.version (count_by (λ bit. bit) f) → IsWork (Harden w) held r
-hardened_work held w n h f g k minimal d e r holds form unbounded few short is_minimal d_is d_short d_read e_is e_short e_read done saves says =
-    outcome_work (Harden w) held r Done done
-    (record {
-      original = n;
-      free = f;
-      holds = holds;
-      hardened = h;
-      marks = g;
-      certificate = k;
-      form = form;
-      few = omega (arith, few);
-      unbounded = unbounded;
-      short = short;
-      saves = saves ∙ both;
-      read = record {
-        design_short = subst (λ (t : List ℕ). length t ≤ 1073741824) d_is d_short;
-        design_read = subst (λ (t : List ℕ). IsFreeNetOf t 1073741824 h g) d_is d_read;
-        certificate_short = subst (λ (t : List ℕ). length t ≤ 1073741824) e_is e_short;
-        certificate_read = subst (λ (t : List ℕ). cert_of_text n h t ≡ Ok k) e_is e_read;
-      };
-      minimal = minimal;
-      is_minimal = is_minimal;
-      says = says;
-    })
-    (λ p is. cc)
+pub no_trial : (w : Hardening) (t : Trial) → Harden w ≡ TryOut t → ⊥
+no_trial w t e = cc
+
+pub no_check : (w : Hardening) (p : Pair) → Harden w ≡ Validate p → ⊥
+no_check w p e = cc
+
+pub few_pins : (x : ℕ) → 2 * x ≤ 8388608 → x ≤ 16777216
+few_pins x few = omega (arith, few)
+
+pub hardened_outcome : (held : Contents) (w : Hardening) (n h : Net) (f g : List Bool) (k : PlainCert) (minimal : Bool) (d e text : List ℕ) → HoldsDesign held (original_file w.original) n f → BoundedForm w.form n f w.size w.version w.most h g k → (length n.nodes < w.most → HasNoExtra w n f h g k) → net_count n + pin_total n ≤ 16777216 → AreShort n h k → (IsTrue minimal ↔ IsMinimal n w.size (parts_of k)) → d ≡ free_text h g → length d ≤ 1073741824 → IsFreeNetOf d 1073741824 h g → e ≡ cert_text n h k → length e ≤ 1073741824 → cert_of_text n h e ≡ Ok k → text ≡ hardened_lines (form_numbers n w.size h k minimal) k.version (count_by (λ bit. bit) f) → IsHardened w held (d ∷ e ∷ []) text
+hardened_outcome held w n h f g k minimal d e text holds form unbounded few short is_minimal d_is d_short d_read e_is e_short e_read says = record {
+  original = n;
+  free = f;
+  holds = holds;
+  hardened = h;
+  marks = g;
+  certificate = k;
+  form = form;
+  few = omega (arith, few);
+  unbounded = unbounded;
+  short = short;
+  saves = both;
+  read = record {
+    design_short = subst (λ (t : List ℕ). length t ≤ 1073741824) d_is d_short;
+    design_read = subst (λ (t : List ℕ). IsFreeNetOf t 1073741824 h g) d_is d_read;
+    certificate_short = subst (λ (t : List ℕ). length t ≤ 1073741824) e_is e_short;
+    certificate_read = subst (λ (t : List ℕ). cert_of_text n h t ≡ Ok k) e_is e_read;
+  };
+  minimal = minimal;
+  is_minimal = is_minimal;
+  says = says;
+}
   where
     both : d ∷ e ∷ [] ≡ free_text h g ∷ cert_text n h k ∷ []
     both = ap (λ (t : List ℕ). t ∷ e ∷ []) d_is ∙ ap (λ (t : List ℕ). free_text h g ∷ t ∷ []) e_is
@@ -63,10 +65,6 @@ hardened_work held w n h f g k minimal d e r holds form unbounded few short is_m
 -- the numbers of a form
 pub told_numbers : (n h : Net) (k : PlainCert) (size : ℕ) (minimal : Bool) (f : List Bool) (nodes hardened_nodes partitions pairs plain voters depth version count : ℕ) → nodes ≡ length n.nodes → hardened_nodes ≡ length h.nodes → partitions ≡ length k.depth → pairs ≡ cost n (parts_of k) → plain ≡ cost n (plain_parts n size) → voters ≡ count_by is_voter_role k.roles → depth ≡ greatest k.depth → version ≡ k.version → count ≡ count_by (λ bit. bit) f → hardened_lines (record { nodes = nodes; hardened_nodes = hardened_nodes; partitions = partitions; cost = pairs; plain = plain; minimal = minimal; voters = voters; depth = depth }) version count ≡ hardened_lines (form_numbers n size h k minimal) k.version (count_by (λ bit. bit) f)
 told_numbers n h k size minimal f nodes hardened_nodes partitions pairs plain voters depth version count a b c d e g i v m = cc
-
-pub unhardened_work : (held : Contents) (w : Hardening) (reason : List ℕ) (r : Work) → HoldsNoDesign held (original_file w.original) reason → r.verdict ≡ Refused → r.text.items ≡ refused_line w.original reason → IsWork (Harden w) held r
-unhardened_work held w reason r unread refused says =
-    outcome_work (Harden w) held r Refused refused (record { reason = reason; unread = unread; says = says }) (λ p is. cc)
 
 -- a version above 0 and below 3
 pub known_version : (v : ℕ) → 0 < v → v < 3 → (v ≡ 1) ⊎ (v ≡ 2)
@@ -93,9 +91,5 @@ hardened_from kind n h f g size version most k valid certificate some form = rec
 -- the texts of a hardened form keep the limits of their files, where the original was flattened within its own
 pub limits_kept : (n h : Net) (f : List Bool) (k : PlainCert) → IsHardenedFrom n h k → IsFlatWithin 8388608 n f → FlatTextKeepsLimit n → HardenedTextsKeepLimits n → KeepLimits n h k
 limits_kept n h f k from within original law = law h k f from (original within.library 8388608 f within.flat)
-
-pub ruleset texts = (unhardened_work)
-
-pub ruleset works = (hardened_work)
 
 pub ruleset versions = (known_version)

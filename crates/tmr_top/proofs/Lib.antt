@@ -3,15 +3,14 @@ pub mod LoadLaws
 pub mod SaveLaws
 pub mod DesignLaws
 pub mod PairLaws
+pub mod PerformLaws
+pub mod RoomLaws
 pub mod ReplayLaws
 pub mod GuardSize
 pub mod GuardLaws
-pub mod GraphLaws
 pub mod GraphReadLaws
 pub mod WaveLaws
-pub mod FlatLaws
 pub mod HardenLaws
-pub mod PerformLaws
 pub mod RunLaws
 pub mod TrialVerdicts
 pub mod TrialLaws

@@ -1,29 +1,25 @@
--- Loads, one after the other.
-use Rattle.std.proofs.Common.{◌≡◌, ℕ, ◌<◌, ◌≤◌, ◌+◌, List, [], ◌∷◌, ◌++◌, map, length, take, drop, get_or, Option, Some, None, Result, inl, inr, refl, sym, ap, subst, ◌∙◌, drop-cons, add-one}
-use Rattle.std.specs.Prelude.{IfSome, Vec}
+-- Loads, one after the other, and reads behind them.
+use Rattle.std.proofs.Common.{◌≡◌, ℕ, ◌≤◌, List, [], ◌∷◌, ◌++◌, map, length, Option, Some, None, Result, Ok, Err, inl, inr, refl, sym, subst, ◌∙◌}
+use Rattle.std.specs.Prelude.{IfSome, IfOk, IfErr, OnOk, Vec}
 use Rattle.std.specs.declared.alloc.Global.{Global}
 use Rattle.std.specs.FinMap.{get}
-use Rattle.std.proofs.lemmas.List.{map-append, take-append-drop, take_more}
 use Rattle.blif_text.specs.Models.{PlainModel}
 use Rattle.blif_text.specs.Reading.{reading, Reads}
 use Rattle.blif_text.specs.Reader.{ReaderState, StandsFor}
 use Rattle.blif_text.specs.declared.fault.TextFault.{TextFault}
 use Rattle.tmr_outside.specs.Contents.{Contents}
-use Rattle.tmr_outside.specs.Counts.{RoseOf, NoneFell, NoneRose, OthersStay}
+use Rattle.tmr_outside.specs.Counts.{RoseOf, NoneRose, OthersStay}
 use Rattle.tmr_outside.specs.Pieces.{TakesFile}
 use Rattle.tmr_outside.specs.Seen.{FilesSeen, IsTold}
+use Rattle.tmr_texts.specs.Texts.{refused_line}
 use Rattle.tmr_top.specs.declared.loads.Stop.{Stop}
 use Rattle.tmr_top.specs.declared.loads.Stop.TheVariants as stop
-use Rattle.tmr_top.specs.declared.file_words.LoadWords.{LoadWords}
-use Rattle.tmr_top.specs.declared.loads.Loaded.{Loaded}
-use Rattle.tmr_top.specs.declared.loads.Loaded.TheVariants as loaded
-use Rattle.tmr_top.specs.declared.file_words.FileKind.TheVariants as kind
-use Rattle.tmr_top.specs.FileWords.{load_in}
 use Rattle.tmr_top.specs.Loads.{Load, load_name}
-use Rattle.tmr_top.specs.Files.{OfOne, OfEach, OfFirst, IsLong, IsMissing, IsFine}
+use Rattle.tmr_top.specs.Files.{Holds, OfOne, OfEach, OfFirst, IsLong, IsMissing, IsFine}
 use Rattle.tmr_top.specs.Changes.{LoadFailed, IsNone, ChangesOnly, NoneFailed}
-use Rattle.tmr_top.specs.Loaded.{HoldsText, HoldsBytes, HoldsLoaded, HoldsEach, FitsEach, Loads, IsStop, IsSteadyStop}
-use Rattle.tmr_top.proofs.ChangeLaws.{none_rose, load_change, load_failed_since, none_since, told_as_before, changes_then, changes_more, none_at}
+use Rattle.tmr_top.specs.Private.Opened.{HoldsText, HoldsBytes, IsOpen, IsStop, IsSteadyStop, Opens, Never, IsRefusal, Gives}
+use Rattle.tmr_top.specs.Private.Refused.{Refuses, RefusesFor}
+use Rattle.tmr_top.proofs.ChangeLaws.{none_rose, load_change, load_failed_since, none_since, told_as_before, changes_then, changes_more}
 
 -- ---- one load
 
@@ -54,132 +50,259 @@ missing_stop (Some held) load missing = inl missing
 
 pub ruleset one_load = (none_rose, held_text, held_bytes, failed_stop, long_stop, missing_stop, load_change)
 
-pub loads_text : (load : Load) (old new : FilesSeen) (text : Result (List PlainModel) TextFault) → load.kind ≡ kind.Netlist → IfSome old.contents (λ held. HoldsText held load text) → (IsTold old → NoneRose old.load_count new.load_count) → Loads (load ∷ []) old new (loaded.Netlist text ∷ [])
-loads_text load old new text is holds none = record { fits = (is, tt); holds = go old.contents holds; none = none }
-  where
-    go : (o : Option Contents) → IfSome o (λ held. HoldsText held load text) → IfSome o (λ held. HoldsEach held (load ∷ []) (loaded.Netlist text ∷ []))
-    go None holds = tt
-    go (Some held) holds = (holds, tt)
+-- ---- one load, as files that are opened
 
-pub loads_bytes : (load : Load) (old new : FilesSeen) (bytes : Vec ℕ Global) → load.kind ≡ kind.Bytes → length bytes.items ≤ load.limit → IfSome old.contents (λ held. HoldsBytes held load bytes.items) → (IsTold old → NoneRose old.load_count new.load_count) → Loads (load ∷ []) old new (loaded.Bytes bytes ∷ [])
-loads_bytes load old new bytes is short holds none = record { fits = ((is, short), tt); holds = go old.contents holds; none = none }
-  where
-    go : (o : Option Contents) → IfSome o (λ held. HoldsBytes held load bytes.items) → IfSome o (λ held. HoldsEach held (load ∷ []) (loaded.Bytes bytes ∷ []))
-    go None holds = tt
-    go (Some held) holds = (holds, tt)
+fine_of : (held : Contents) (load : Load) (P : List ℕ → Type 0) → Holds held load P → IsFine held load
+fine_of held load P holds = record { bytes = holds.bytes; there = holds.there; short = holds.short; fact = tt }
 
-pub ruleset of_kind = (loads_text, loads_bytes)
+one_fine : (load : Load) (G : Contents → Type 0) (P : Contents → List ℕ → Type 0) → ((held : Contents) → G held → Holds held load (P held)) → (o : Option Contents) → IfSome o G → IfSome o (λ held. OfEach (IsFine held) (load ∷ []) × G held)
+one_fine load G P fine None holds = tt
+one_fine load G P fine (Some held) holds = ((fine_of held load (P held) (fine held holds), tt), holds)
 
--- ---- one load behind others
+pub opens_text : (load : Load) (a b : FilesSeen) (was is : Type 0) (text : Result (List PlainModel) TextFault) → b.contents ≡ a.contents → ChangesOnly (load.name ∷ []) [] a b → (was → is) → IfSome a.contents (λ held. HoldsText held load text) → (IsTold a → NoneRose a.load_count b.load_count) → Opens (load ∷ []) (λ (t : Result (List PlainModel) TextFault) held. HoldsText held load t) Never a b was is (Ok text)
+opens_text load a b was is text same changes steady holds none = record {
+  stays = same;
+  changes = changes;
+  steady = steady;
+  ok = record { holds = one_fine load (λ held. HoldsText held load text) (λ held bytes. Reads text (reading bytes)) (λ held h. h) a.contents holds; none = none };
+  stop = tt;
+  steady_stop = λ s. tt;
+}
 
-fits_then : (ls : List Load) (all : List Loaded) (l : Load) (one : Loaded) → FitsEach ls all → FitsEach (l ∷ []) (one ∷ []) → FitsEach (ls ++ l ∷ []) (all ++ one ∷ [])
-fits_then [] [] l one fits fit = fit
-fits_then (load ∷ ls) (first ∷ all) l one fits fit = (fits.0, fits_then ls all l one fits.1 fit)
-fits_then [] (first ∷ all) l one fits fit = absurd fits
-fits_then (load ∷ ls) [] l one fits fit = absurd fits
+pub opens_bytes : (load : Load) (a b : FilesSeen) (was is : Type 0) (bytes : Vec ℕ Global) → b.contents ≡ a.contents → ChangesOnly (load.name ∷ []) [] a b → (was → is) → IfSome a.contents (λ held. HoldsBytes held load bytes.items) → (IsTold a → NoneRose a.load_count b.load_count) → Opens (load ∷ []) (λ (v : Vec ℕ Global) held. HoldsBytes held load v.items) Never a b was is (Ok bytes)
+opens_bytes load a b was is bytes same changes steady holds none = record {
+  stays = same;
+  changes = changes;
+  steady = steady;
+  ok = record { holds = one_fine load (λ held. HoldsBytes held load bytes.items) (λ held b. b ≡ bytes.items) (λ held h. h) a.contents holds; none = none };
+  stop = tt;
+  steady_stop = λ s. tt;
+}
 
-holds_then : (held : Contents) (ls : List Load) (all : List Loaded) (l : Load) (one : Loaded) → HoldsEach held ls all → HoldsEach held (l ∷ []) (one ∷ []) → HoldsEach held (ls ++ l ∷ []) (all ++ one ∷ [])
-holds_then held [] [] l one holds hold = hold
-holds_then held (load ∷ ls) (first ∷ all) l one holds hold = (holds.0, holds_then held ls all l one holds.1 hold)
-holds_then held [] (first ∷ all) l one holds hold = absurd holds
-holds_then held (load ∷ ls) [] l one holds hold = absurd holds
+pub opens_none : {A : Type 0} (load : Load) (H : A → Contents → Type 0) (a b : FilesSeen) (was is : Type 0) (e : Stop) → b.contents ≡ a.contents → ChangesOnly (load.name ∷ []) [] a b → (was → is) → IsStop (load ∷ []) Never a b e → (was → IsSteadyStop (load ∷ []) a.contents e) → Opens {A = A} (load ∷ []) H Never a b was is (Err e)
+opens_none load H a b was is e same changes steady stops steady_stops = record { stays = same; changes = changes; steady = steady; ok = tt; stop = stops; steady_stop = steady_stops }
 
-pub loads_then : (ls : List Load) (all : List Loaded) (l : Load) (one : Loaded) (a b c : FilesSeen) → b.contents ≡ a.contents → Loads ls a b all → Loads (l ∷ []) b c (one ∷ []) → Loads (ls ++ l ∷ []) a c (all ++ one ∷ [])
-loads_then ls all l one a b c same first last = record {
-  fits = fits_then ls all l one first.fits last.fits;
-  holds = go a.contents first.holds (subst (λ (o : Option Contents). IfSome o (λ held. HoldsEach held (l ∷ []) (one ∷ []))) same last.holds);
-  none = λ told. none_since a.load_count b.load_count c.load_count (first.none told) (last.none (told_as_before a.contents b.contents same told));
+pub opens_netlist : (load : Load) (a b : FilesSeen) (was is : Type 0) (answer : Result (Result (List PlainModel) TextFault) Stop) → b.contents ≡ a.contents → ChangesOnly (load.name ∷ []) [] a b → (was → is) → IfOk answer (λ t. IfSome a.contents (λ held. HoldsText held load t)) → OnOk answer (IsTold a → NoneRose a.load_count b.load_count) → IfErr answer (IsStop (load ∷ []) Never a b) → (was → IfErr answer (IsSteadyStop (load ∷ []) a.contents)) → Opens (load ∷ []) (λ (t : Result (List PlainModel) TextFault) held. HoldsText held load t) Never a b was is answer
+opens_netlist load a b was is (Ok t) same changes steady holds none stops steady_stops = opens_text load a b was is t same changes steady holds none
+opens_netlist load a b was is (Err e) same changes steady holds none stops steady_stops = opens_none load (λ (t : Result (List PlainModel) TextFault) held. HoldsText held load t) a b was is e same changes steady stops steady_stops
+
+pub opens_taken : (load : Load) (a b : FilesSeen) (was is : Type 0) (answer : Result (Vec ℕ Global) Stop) → b.contents ≡ a.contents → ChangesOnly (load.name ∷ []) [] a b → (was → is) → IfOk answer (λ v. IfSome a.contents (λ held. HoldsBytes held load v.items)) → OnOk answer (IsTold a → NoneRose a.load_count b.load_count) → IfErr answer (IsStop (load ∷ []) Never a b) → (was → IfErr answer (IsSteadyStop (load ∷ []) a.contents)) → Opens (load ∷ []) (λ (v : Vec ℕ Global) held. HoldsBytes held load v.items) Never a b was is answer
+opens_taken load a b was is (Ok v) same changes steady holds none stops steady_stops = opens_bytes load a b was is v same changes steady holds none
+opens_taken load a b was is (Err e) same changes steady holds none stops steady_stops = opens_none load (λ (v : Vec ℕ Global) held. HoldsBytes held load v.items) a b was is e same changes steady stops steady_stops
+
+-- ---- lists of files, one behind the other
+
+one_left : {A : Type 0} (P : A → Type 0) (xs ys : List A) → OfOne P xs → OfOne P (xs ++ ys)
+one_left P [] ys one = absurd one
+one_left P (x ∷ xs) ys (inl here) = inl here
+one_left P (x ∷ xs) ys (inr later) = inr (one_left P xs ys later)
+
+one_right : {A : Type 0} (P : A → Type 0) (xs ys : List A) → OfOne P ys → OfOne P (xs ++ ys)
+one_right P [] ys one = one
+one_right P (x ∷ xs) ys one = inr (one_right P xs ys one)
+
+each_both : {A : Type 0} (P : A → Type 0) (xs ys : List A) → OfEach P xs → OfEach P ys → OfEach P (xs ++ ys)
+each_both P [] ys one other = other
+each_both P (x ∷ xs) ys one other = (one.0, each_both P xs ys one.1 other)
+
+first_left : (held : Contents) (P : Load → Type 0) (ls ms : List Load) → OfFirst held P ls → OfFirst held P (ls ++ ms)
+first_left held P [] ms first = absurd first
+first_left held P (l ∷ ls) ms (inl here) = inl here
+first_left held P (l ∷ ls) ms (inr later) = inr (later.0, first_left held P ls ms later.1)
+
+first_right : (held : Contents) (P : Load → Type 0) (ls ms : List Load) → OfEach (IsFine held) ls → OfFirst held P ms → OfFirst held P (ls ++ ms)
+first_right held P [] ms fine first = first
+first_right held P (l ∷ ls) ms fine first = inr (fine.0, first_right held P ls ms fine.1 first)
+
+none_left : (ls ms : List Load) (name : List ℕ) → IsNone (map load_name (ls ++ ms)) name → IsNone (map load_name ls) name
+none_left [] ms name none = tt
+none_left (l ∷ ls) ms name none = (none.0, none_left ls ms name none.1)
+
+none_right : (ls ms : List Load) (name : List ℕ) → IsNone (map load_name (ls ++ ms)) name → IsNone (map load_name ms) name
+none_right [] ms name none = none
+none_right (l ∷ ls) ms name none = none_right ls ms name none.1
+
+changes_left : (ls ms : List Load) (a b : FilesSeen) → ChangesOnly (map load_name ls) [] a b → ChangesOnly (map load_name (ls ++ ms)) [] a b
+changes_left ls ms a b changes = changes_more (map load_name ls) [] (map load_name (ls ++ ms)) [] a b (none_left ls ms) (λ name none. tt) changes
+
+changes_right : (ls ms : List Load) (a b : FilesSeen) → ChangesOnly (map load_name ms) [] a b → ChangesOnly (map load_name (ls ++ ms)) [] a b
+changes_right ls ms a b changes = changes_more (map load_name ms) [] (map load_name (ls ++ ms)) [] a b (none_right ls ms) (λ name none. tt) changes
+
+if_some_left : (P Q : Contents → Type 0) (o : Option Contents) → ((held : Contents) → P held → Q held) → IfSome o P → IfSome o Q
+if_some_left P Q None f p = tt
+if_some_left P Q (Some held) f p = f held p
+
+both_some : (P Q S : Contents → Type 0) (o : Option Contents) → ((held : Contents) → P held → Q held → S held) → IfSome o P → IfSome o Q → IfSome o S
+both_some P Q S None f p q = tt
+both_some P Q S (Some held) f p q = f held p q
+
+-- ---- what is opened, said in other words
+
+open_weaker : (ls : List Load) (G K : Contents → Type 0) (a b : FilesSeen) → ((held : Contents) → G held → K held) → IsOpen ls G a b → IsOpen ls K a b
+open_weaker ls G K a b f is = record {
+  holds = if_some_left (λ held. OfEach (IsFine held) ls × G held) (λ held. OfEach (IsFine held) ls × K held) a.contents (λ held h. (h.0, f held h.1)) is.holds;
+  none = is.none;
+}
+
+stop_weaker : (ls : List Load) (R S : List ℕ → Contents → Type 0) (a b : FilesSeen) (e : Stop) → ((line : List ℕ) (held : Contents) → R line held → S line held) → IsStop ls R a b e → IsStop ls S a b e
+stop_weaker ls R S a b (stop.Failed name) f is = is
+stop_weaker ls R S a b (stop.TooLong name) f is = is
+stop_weaker ls R S a b (stop.Refused line) f is = open_weaker ls (R line.items) (S line.items) a b (f line.items) is
+stop_weaker ls R S a b stop.Memory f is = is
+
+-- loads that came to no end are reads that did
+pub still_stops : {A B : Type 0} (ls : List Load) (H : A → Contents → Type 0) (K : B → Contents → Type 0) (R : List ℕ → Contents → Type 0) (a b : FilesSeen) (was is : Type 0) (e : Stop) → Opens {A = A} ls H Never a b was is (Err e) → Opens {A = B} ls K R a b was is (Err e)
+still_stops ls H K R a b was is e opens = record {
+  stays = opens.stays;
+  changes = opens.changes;
+  steady = opens.steady;
+  ok = tt;
+  stop = stop_weaker ls Never R a b e (λ line held never. absurd never) opens.stop;
+  steady_stop = opens.steady_stop;
+}
+
+-- files that are loaded, and then read
+pub opens_read : {A B : Type 0} (ls : List Load) (K : A → Contents → Type 0) (H : B → Contents → Type 0) (R : List ℕ → Contents → Type 0) (a b : FilesSeen) (was is : Type 0) (x : A) (answer : Result B Stop) → Opens {A = A} ls K Never a b was is (Ok x) → Gives (K x) H R answer → Opens {A = B} ls H R a b was is answer
+opens_read ls K H R a b was is x (Ok y) opens gives = record {
+  stays = opens.stays;
+  changes = opens.changes;
+  steady = opens.steady;
+  ok = open_weaker ls (K x) (H y) a b gives opens.ok;
+  stop = tt;
+  steady_stop = λ s. tt;
+}
+opens_read ls K H R a b was is x (Err e) opens gives = record {
+  stays = opens.stays;
+  changes = opens.changes;
+  steady = opens.steady;
+  ok = tt;
+  stop = stops e gives;
+  steady_stop = λ s. steady_stops e gives;
 }
   where
-    go : (o : Option Contents) → IfSome o (λ held. HoldsEach held ls all) → IfSome o (λ held. HoldsEach held (l ∷ []) (one ∷ [])) → IfSome o (λ held. HoldsEach held (ls ++ l ∷ []) (all ++ one ∷ []))
-    go None holds hold = tt
-    go (Some held) holds hold = holds_then held ls all l one holds hold
+    stops : (e : Stop) → IsRefusal (K x) R e → IsStop ls R a b e
+    stops (stop.Failed name) is = absurd is
+    stops (stop.TooLong name) is = absurd is
+    stops (stop.Refused line) is = open_weaker ls (K x) (R line.items) a b is opens.ok
+    stops stop.Memory is = opens.ok.none
 
-loaded_fine : (held : Contents) (load : Load) (one : Loaded) → HoldsLoaded held load one → IsFine held load
-loaded_fine held load (loaded.Netlist text) holds = record { bytes = holds.bytes; there = holds.there; short = holds.short; fact = tt }
-loaded_fine held load (loaded.Bytes bytes) holds = record { bytes = holds.bytes; there = holds.there; short = holds.short; fact = tt }
+    steady_stops : (e : Stop) → IsRefusal (K x) R e → IsSteadyStop ls a.contents e
+    steady_stops (stop.Failed name) is = absurd is
+    steady_stops (stop.TooLong name) is = absurd is
+    steady_stops (stop.Refused line) is = tt
+    steady_stops stop.Memory is = tt
 
--- files that were loaded are there and within their limits
-pub all_fine : (held : Contents) (ls : List Load) (all : List Loaded) → HoldsEach held ls all → OfEach (IsFine held) ls
-all_fine held [] [] holds = tt
-all_fine held (load ∷ ls) (one ∷ all) holds = (loaded_fine held load one holds.0, all_fine held ls all holds.1)
-all_fine held [] (one ∷ all) holds = absurd holds
-all_fine held (load ∷ ls) [] holds = absurd holds
+-- the first loads came to no end
+pub stops_first : {A B : Type 0} (ls ms : List Load) (H : A → Contents → Type 0) (K : B → Contents → Type 0) (a b : FilesSeen) (was is : Type 0) (e : Stop) → Opens {A = A} ls H Never a b was is (Err e) → Opens {A = B} (ls ++ ms) K Never a b was is (Err e)
+stops_first ls ms H K a b was is e opens = record {
+  stays = opens.stays;
+  changes = changes_left ls ms a b opens.changes;
+  steady = opens.steady;
+  ok = tt;
+  stop = stops e opens.stop;
+  steady_stop = λ s. steady_stops e (opens.steady_stop s);
+}
+  where
+    stops : (e : Stop) → IsStop ls Never a b e → IsStop (ls ++ ms) Never a b e
+    stops (stop.Failed name) is = one_left (λ l. LoadFailed a b l × (name.now ≡ l.name)) ls ms is
+    stops (stop.TooLong name) is = (
+      if_some_left (λ held. OfFirst held (λ l. IsLong held l × (name.now ≡ l.name)) ls) (λ held. OfFirst held (λ l. IsLong held l × (name.now ≡ l.name)) (ls ++ ms)) a.contents (λ held h. first_left held (λ l. IsLong held l × (name.now ≡ l.name)) ls ms h) is.0,
+      is.1,
+    )
+    stops (stop.Refused line) is = record {
+      holds = if_some_left (λ held. OfEach (IsFine held) ls × Never line.items held) (λ held. OfEach (IsFine held) (ls ++ ms) × Never line.items held) a.contents (λ held h. absurd h.1) is.holds;
+      none = is.none;
+    }
+    stops stop.Memory is = is
 
-one_behind : {A : Type 0} (P : A → Type 0) (first : List A) (x : A) (later : List A) → OfOne P (x ∷ []) → OfOne P (first ++ x ∷ later)
-one_behind P [] x later (inl here) = inl here
-one_behind P [] x later (inr none) = absurd none
-one_behind P (y ∷ first) x later one = inr (one_behind P first x later one)
+    steady_stops : (e : Stop) → IsSteadyStop ls a.contents e → IsSteadyStop (ls ++ ms) a.contents e
+    steady_stops (stop.Failed name) is = if_some_left (λ held. OfFirst held (IsMissing held) ls) (λ held. OfFirst held (IsMissing held) (ls ++ ms)) a.contents (λ held h. first_left held (IsMissing held) ls ms h) is
+    steady_stops (stop.TooLong name) is = tt
+    steady_stops (stop.Refused line) is = tt
+    steady_stops stop.Memory is = tt
 
-first_behind : (held : Contents) (P : Load → Type 0) (first : List Load) (x : Load) (later : List Load) → OfEach (IsFine held) first → OfFirst held P (x ∷ []) → OfFirst held P (first ++ x ∷ later)
-first_behind held P [] x later fine (inl here) = inl here
-first_behind held P [] x later fine (inr none) = absurd none.1
-first_behind held P (y ∷ first) x later fine one = inr (fine.0, first_behind held P first x later fine.1 one)
-
-module _ (first : List Load) (all : List Loaded) (load : Load) (later : List Load) (a b c : FilesSeen) (same : b.contents ≡ a.contents) (fell : NoneFell a.load_count b.load_count) (kept : IsTold a → NoneRose a.save_count b.save_count) (loads : Loads first a b all) where
-  first_of : (P : Contents → Load → Type 0) → IfSome b.contents (λ held. OfFirst held (P held) (load ∷ [])) → IfSome a.contents (λ held. OfFirst held (P held) (first ++ load ∷ later))
-  first_of P one = go a.contents loads.holds (subst (λ (o : Option Contents). IfSome o (λ held. OfFirst held (P held) (load ∷ []))) same one)
-    where
-      go : (o : Option Contents) → IfSome o (λ held. HoldsEach held first all) → IfSome o (λ held. OfFirst held (P held) (load ∷ [])) → IfSome o (λ held. OfFirst held (P held) (first ++ load ∷ later))
-      go None holds one = tt
-      go (Some held) holds one = first_behind held (P held) first load later (all_fine held first all holds) one
+module _ {A B C : Type 0} (ls ms : List Load) (H : A → Contents → Type 0) (K : B → Contents → Type 0) (L : C → Contents → Type 0) (a b c : FilesSeen) (was is then : Type 0) (x : A) (first : Opens {A = A} ls H Never a b was is (Ok x)) where
+  quiet : IsTold a → NoneFailed a b
+  quiet told = record { loads = first.ok.none told; saves = λ name. first.changes.saves_only told name tt }
 
   none_of : (IsTold b → NoneRose b.load_count c.load_count) → IsTold a → NoneRose a.load_count c.load_count
-  none_of none told = none_since a.load_count b.load_count c.load_count (loads.none told) (none (told_as_before a.contents b.contents same told))
+  none_of none told = none_since a.load_count b.load_count c.load_count (first.ok.none told) (none (told_as_before a.contents b.contents first.stays told))
 
-  risen : (name : List ℕ) → OfOne (λ l. LoadFailed b c l × (name ≡ l.name)) (load ∷ []) → OfOne (λ l. LoadFailed a c l × (name ≡ l.name)) (load ∷ [])
-  risen name (inl here) = inl (load_failed_since a b c load same fell (λ told. record { loads = loads.none told; saves = kept told }) here.0, here.1)
-  risen name (inr none) = absurd none
+  -- what is so of the later files, behind the first ones
+  behind : (P Q : Contents → Type 0) → ((held : Contents) → OfEach (IsFine held) ls → H x held → P held → Q held) → IfSome b.contents P → IfSome a.contents Q
+  behind P Q f p = both_some (λ held. OfEach (IsFine held) ls × H x held) P Q a.contents (λ held h q. f held h.0 h.1 q) first.ok.holds (subst (λ (o : Option Contents). IfSome o P) first.stays p)
 
-  pub stop_behind : (why : Stop) → IsStop (load ∷ []) b c why → IsStop (first ++ load ∷ later) a c why
-  stop_behind (stop.Failed name) is = one_behind (λ l. LoadFailed a c l × (name.now ≡ l.name)) first load later (risen name.now is)
-  stop_behind (stop.TooLong name) is = (first_of (λ held l. IsLong held l × (name.now ≡ l.name)) is.0, none_of is.1)
-  stop_behind stop.Memory is = none_of is
+  changes_both : ChangesOnly (map load_name ms) [] b c → ChangesOnly (map load_name (ls ++ ms)) [] a c
+  changes_both later = changes_then (map load_name (ls ++ ms)) [] a b c (changes_left ls ms a b first.changes) (changes_right ls ms b c later)
 
-  pub steady_behind : (why : Stop) → IsSteadyStop (load ∷ []) b.contents why → IsSteadyStop (first ++ load ∷ later) a.contents why
-  steady_behind (stop.Failed name) is = first_of IsMissing is
-  steady_behind (stop.TooLong name) is = tt
-  steady_behind stop.Memory is = tt
-
--- ---- the loop
-
-pub split_at : (ws : List LoadWords) (i : ℕ) (d : LoadWords) → i < length ws → map load_in ws ≡ map load_in (take i ws) ++ load_in (get_or ws i d) ∷ map load_in (drop (i + 1) ws)
-split_at ws i d h =
-    let cut : drop i ws ≡ get_or ws i d ∷ drop (i + 1) ws = rw (add-one, drop-cons ws i d h) refl in
-    ap (map load_in) (sym (take-append-drop i ws) ∙ ap (λ (t : List LoadWords). take i ws ++ t) cut) ∙ map-append load_in (take i ws) (get_or ws i d ∷ drop (i + 1) ws)
-
-pub one_more : (ws : List LoadWords) (i : ℕ) (d : LoadWords) → i < length ws → map load_in (take (i + 1) ws) ≡ map load_in (take i ws) ++ load_in (get_or ws i d) ∷ []
-one_more ws i d h = ap (map load_in) (take_more ws i d h) ∙ map-append load_in (take i ws) (get_or ws i d ∷ [])
-
-module _ (ws : List LoadWords) (i : ℕ) (x : LoadWords) (a b c : FilesSeen) (within : i < length ws) (is : x ≡ get_or ws i x) (same : b.contents ≡ a.contents) (before : ChangesOnly (map load_name (map load_in ws)) [] a b) where
-  -- one of the files is loaded
-  pub change_in : ChangesOnly (x.name.now ∷ []) [] b c → ChangesOnly (map load_name (map load_in ws)) [] a c
-  change_in one =
-      changes_then (map load_name (map load_in ws)) [] a b c before
-      (changes_more (x.name.now ∷ []) [] (map load_name (map load_in ws)) [] b c one_of (λ name none. none) one)
+  -- the loads behind them came to no end
+  pub stops_later : (e : Stop) → Opens {A = B} ms K Never b c is then (Err e) → Opens {A = C} (ls ++ ms) L Never a c was then (Err e)
+  stops_later e later = record {
+    stays = later.stays ∙ first.stays;
+    changes = changes_both later.changes;
+    steady = λ s. later.steady (first.steady s);
+    ok = tt;
+    stop = stops e later.stop;
+    steady_stop = λ s. steady_stops e (later.steady_stop (first.steady s));
+  }
     where
-      names : map load_name (map load_in ws) ≡ map load_name (map load_in (take i ws)) ++ x.name.now ∷ map load_name (map load_in (drop (i + 1) ws))
-      names = ap (map load_name) (split_at ws i x within) ∙ (map-append load_name (map load_in (take i ws)) (load_in (get_or ws i x) ∷ map load_in (drop (i + 1) ws))
-          ∙ ap (λ (w : LoadWords). map load_name (map load_in (take i ws)) ++ w.name.now ∷ map load_name (map load_in (drop (i + 1) ws))) (sym is))
+      failed : (name : List ℕ) (ns : List Load) → OfOne (λ l. LoadFailed b c l × (name ≡ l.name)) ns → OfOne (λ l. LoadFailed a c l × (name ≡ l.name)) ns
+      failed name [] one = one
+      failed name (l ∷ ns) (inl here) = inl (load_failed_since a b c l first.stays first.changes.loads quiet here.0, here.1)
+      failed name (l ∷ ns) (inr later) = inr (failed name ns later)
 
-      one_of : (name : List ℕ) → IsNone (map load_name (map load_in ws)) name → IsNone (x.name.now ∷ []) name
-      one_of name none = none_at (map load_name (map load_in (take i ws))) x.name.now (map load_name (map load_in (drop (i + 1) ws))) name (subst (λ (ns : List (List ℕ)). IsNone ns name) names none)
+      stops : (e : Stop) → IsStop ms Never b c e → IsStop (ls ++ ms) Never a c e
+      stops (stop.Failed name) is = one_right (λ l. LoadFailed a c l × (name.now ≡ l.name)) ls ms (failed name.now ms is)
+      stops (stop.TooLong name) is = (
+        behind (λ held. OfFirst held (λ l. IsLong held l × (name.now ≡ l.name)) ms) (λ held. OfFirst held (λ l. IsLong held l × (name.now ≡ l.name)) (ls ++ ms)) (λ held fine h q. first_right held (λ l. IsLong held l × (name.now ≡ l.name)) ls ms fine q) is.0,
+        none_of is.1,
+      )
+      stops (stop.Refused line) is = record {
+        holds = behind (λ held. OfEach (IsFine held) ms × Never line.items held) (λ held. OfEach (IsFine held) (ls ++ ms) × Never line.items held) (λ held fine h q. absurd q.1) is.holds;
+        none = none_of is.none;
+      }
+      stops stop.Memory is = none_of is
 
-  split : map load_in ws ≡ map load_in (take i ws) ++ load_in x ∷ map load_in (drop (i + 1) ws)
-  split = split_at ws i x within ∙ ap (λ (w : LoadWords). map load_in (take i ws) ++ load_in w ∷ map load_in (drop (i + 1) ws)) (sym is)
+      steady_stops : (e : Stop) → IsSteadyStop ms b.contents e → IsSteadyStop (ls ++ ms) a.contents e
+      steady_stops (stop.Failed name) is = behind (λ held. OfFirst held (IsMissing held) ms) (λ held. OfFirst held (IsMissing held) (ls ++ ms)) (λ held fine h q. first_right held (IsMissing held) ls ms fine q) is
+      steady_stops (stop.TooLong name) is = tt
+      steady_stops (stop.Refused line) is = tt
+      steady_stops stop.Memory is = tt
 
-  module _ (all : List Loaded) (loads : Loads (map load_in (take i ws)) a b all) where
-    kept : IsTold a → NoneRose a.save_count b.save_count
-    kept told name = before.saves_only told name tt
+  -- they are loaded too
+  pub opens_both : (y : B) (z : C) → ((held : Contents) → H x held → K y held → L z held) → Opens {A = B} ms K Never b c is then (Ok y) → Opens {A = C} (ls ++ ms) L Never a c was then (Ok z)
+  opens_both y z f later = record {
+    stays = later.stays ∙ first.stays;
+    changes = changes_both later.changes;
+    steady = λ s. later.steady (first.steady s);
+    ok = record {
+      holds = behind (λ held. OfEach (IsFine held) ms × K y held) (λ held. OfEach (IsFine held) (ls ++ ms) × L z held) (λ held fine h q. (each_both (IsFine held) ls ms fine q.0, f held h q.1)) later.ok.holds;
+      none = none_of later.ok.none;
+    };
+    stop = tt;
+    steady_stop = λ s. tt;
+  }
 
-    pub stop_in : (why : Stop) → IsStop (load_in x ∷ []) b c why → IsStop (map load_in ws) a c why
-    stop_in why at = subst (λ (ls : List Load). IsStop ls a c why) (sym split) (stop_behind (map load_in (take i ws)) all (load_in x) (map load_in (drop (i + 1) ws)) a b c same before.loads kept loads why at)
+-- ---- refusals
 
-    pub steady_in : (why : Stop) → IsSteadyStop (load_in x ∷ []) b.contents why → IsSteadyStop (map load_in ws) a.contents why
-    steady_in why at = subst (λ (ls : List Load). IsSteadyStop ls a.contents why) (sym split) (steady_behind (map load_in (take i ws)) all (load_in x) (map load_in (drop (i + 1) ws)) a b c same before.loads kept loads why at)
+pub on_ok : {A E : Type 0} (r : Result A E) → OnOk r (Unit {0})
+on_ok (Ok x) = tt
+on_ok (Err e) = tt
 
-    pub loads_in : (one : Loaded) (items : List Loaded) → Loads (load_in x ∷ []) b c (one ∷ []) → items ≡ all ++ one ∷ [] → Loads (map load_in (take (i + 1) ws)) a c items
-    loads_in one items at pushed =
-        let more : map load_in (take (i + 1) ws) ≡ map load_in (take i ws) ++ load_in x ∷ [] = one_more ws i x within ∙ ap (λ (w : LoadWords). map load_in (take i ws) ++ load_in w ∷ []) (sym is) in
-        subst (λ (ls : List Load). Loads ls a c items) (sym more) (subst (λ (l : List Loaded). Loads (map load_in (take i ws) ++ load_in x ∷ []) a c l) (sym pushed)
-        (loads_then (map load_in (take i ws)) all (load_in x) one a b c same loads at))
+-- a refusal for a reason, in the words of the room
+pub is_refusal : {E : Type 0} (name : List ℕ) (reason : Result (Vec ℕ Global) E) (expected : List ℕ) (C : Type 0) (G : Contents → Type 0) (R : List ℕ → Contents → Type 0) (why : Stop) → RefusesFor name reason why → IfOk reason (λ r. r.items ≡ expected) → OnOk reason C → ((line : List ℕ) (held : Contents) → line ≡ refused_line name expected → C → G held → R line held) → IsRefusal G R why
+is_refusal name (Ok r) expected C G R why refuses says caused f = go why refuses
+  where
+    go : (why : Stop) → Refuses (refused_line name r.items) why → IsRefusal G R why
+    go (stop.Failed other) is = absurd is
+    go (stop.TooLong other) is = absurd is
+    go (stop.Refused line) is = λ held g. f line.items held (subst (λ (t : List ℕ). line.items ≡ refused_line name t) says is) caused g
+    go stop.Memory is = tt
+is_refusal name (Err e) expected C G R why refuses says caused f = subst (λ (s : Stop). IsRefusal G R s) (sym refuses) tt
+
+-- refusals that follow from others
+pub refusal_more : (G K : Contents → Type 0) (R S : List ℕ → Contents → Type 0) (why : Stop) → IsRefusal G R why → ((held : Contents) → K held → G held) → ((line : List ℕ) (held : Contents) → K held → R line held → S line held) → IsRefusal K S why
+refusal_more G K R S (stop.Failed name) is f g = absurd is
+refusal_more G K R S (stop.TooLong name) is f g = absurd is
+refusal_more G K R S (stop.Refused line) is f g = λ held k. g line.items held k (is held (f held k))
+refusal_more G K R S stop.Memory is f g = tt

@@ -1,126 +1,26 @@
--- Verdicts over a pair, and that its files give one pair or none.
-use Rattle.std.proofs.Common.{◌≡◌, ◌≢◌, ℕ, Bool, List, [], Option, Some, Result, Ok, Err, inl, inr, refl, sym, ap, subst, ◌∙◌}
+-- Pairs that are read, and that files give one pair or none.
+use Rattle.std.proofs.Common.{◌≡◌, ◌≢◌, ℕ, Bool, List, Option, Some, Result, Ok, Err, inl, inr, refl, sym, ap, subst, ◌∙◌, ◌≤◌, ◌+◌, ◌*◌, arith}
 use Rattle.std.specs.FinMap.{get}
 use Rattle.certificate.specs.Gives.{Fails}
 use Rattle.certificate.specs.declared.fault.CertFault.{CertFault}
 use Rattle.certificate.specs.declared.fault.CertFault.TheVariants as faults
-use Rattle.flat_net.specs.Net.{Net}
+use Rattle.certificate.specs.Cert.{Fits}
+use Rattle.flat_net.specs.Free.{FreeDesign}
+use Rattle.flat_net.specs.Net.{Net, net_count, pin_total}
 use Rattle.certificate.specs.Cert.{PlainCert}
 use Rattle.certificate.specs.Reading.{cert_of_text}
-use Rattle.certificate.specs.Rules.{FreeCorresponds, IsFirstFreeFailure}
-use Rattle.certificate.specs.Starts.{counted}
-use Rattle.net_meaning.specs.Meaning.{FreeTracesAreUnique}
-use Rattle.validator.specs.Masking.{Masks, FreeMasks}
 use Rattle.tmr_outside.specs.Contents.{Contents}
-use Rattle.tmr_top.specs.declared.decision.Work.{Work}
-use Rattle.tmr_top.specs.declared.decision.Verdict.{Verdict}
-use Rattle.tmr_top.specs.declared.decision.Verdict.TheVariants.{Done, NotAccepted, Refused}
-use Rattle.tmr_top.specs.declared.pair_task.PairTask.{PairTask}
-use Rattle.tmr_top.specs.declared.pair_task.PairTask.TheVariants as tasks
-use Rattle.tmr_top.specs.declared.file_task.FileTask.{FileTask}
-use Rattle.tmr_top.specs.declared.file_task.FileTask.TheVariants as files
-use Rattle.tmr_top.specs.FileWords.{texts_in, task_over, files_over}
-use Rattle.tmr_words.specs.Line.{Command, Pair, Validate}
+use Rattle.tmr_words.specs.Line.{Pair}
 use Rattle.tmr_top.specs.Loads.{Load, original_file, hardened_file, certificate_file}
-use Rattle.tmr_top.specs.Loaded.{HoldsBytes}
-use Rattle.tmr_top.specs.Designs.{HoldsDesign, HoldsNoDesign}
-use Rattle.tmr_texts.specs.Reasons.{cert_reason}
-use Rattle.tmr_texts.specs.Texts.{not_accepted_line, refused_line}
-use Rattle.tmr_top.specs.Pairs.{ReadPair, HoldsCertificate, HoldsNoCertificate, HoldsPair, Accepts, Masked}
+use Rattle.tmr_top.specs.Private.Opened.{HoldsBytes}
+use Rattle.tmr_top.specs.Pairs.{ReadPair, HoldsCertificate, HoldsNoCertificate, HoldsPair, Accepts}
+use Rattle.tmr_top.specs.declared.pair_files.Designs.{Designs}
+use Rattle.tmr_top.specs.declared.pair_files.PairRead.{PairRead}
+use Rattle.tmr_top.specs.Designs.{HoldsDesign}
+use Rattle.tmr_top.specs.Private.PairFiles.{AreDesigns, pair_of, IsFit}
+use Rattle.tmr_top.specs.Private.Refused.{AreRefused, IsRefusedCertificate}
 use Rattle.tmr_top.specs.Validated.{IsNotAccepted, IsPairUnread}
-use Rattle.tmr_top.specs.Outcomes.{Outcome}
-use Rattle.tmr_top.specs.Works.{IsWork, Tells}
 use Rattle.tmr_top.proofs.DesignLaws.{one_design, design_or_none}
-
--- ---- works
-
--- a work of this verdict
-pub outcome_work : (c : Command) (held : Contents) (w : Work) (v : Verdict) → w.verdict ≡ v → Outcome c held v (texts_in w.saves.items) w.text.items → ((p : Pair) → c ≡ Validate p → w.verdict ≡ Done → Masked held p) → IsWork c held w
-outcome_work c held w v is outcome masks = record {
-  outcome = subst (λ (q : Verdict). Outcome c held q (texts_in w.saves.items) w.text.items) (sym is) outcome;
-  masks = masks;
-}
-
--- a work that is not done masks nothing
-pub not_done : (held : Contents) (c : Command) (v w : Verdict) → v ≡ w → w ≢ Done → (p : Pair) → c ≡ Validate p → v ≡ Done → Masked held p
-not_done held c v w is other p line done = absurd (other (sym is ∙ done))
-
--- ---- what is said
-
-not_accepted_outcome : (task : PairTask) (held : Contents) (p : Pair) (saved : List (List ℕ)) (text : List ℕ) → IsNotAccepted p held text → Outcome (task_over task p) held NotAccepted saved text
-not_accepted_outcome tasks.Validate held p saved text is = is
-not_accepted_outcome tasks.Report held p saved text is = is
-
-unread_outcome : (task : FileTask) (held : Contents) (p : Pair) (saved : List (List ℕ)) (text : List ℕ) → IsPairUnread p held text → Outcome (files_over task p) held Refused saved text
-unread_outcome (files.Tell tasks.Validate) held p saved text is = is
-unread_outcome (files.Tell tasks.Report) held p saved text is = is
-unread_outcome (files.Replay s) held p saved text is = inl is
-
-accepted_outcome : (task : PairTask) (held : Contents) (p : Pair) (pair : ReadPair) (saved : List (List ℕ)) (text : List ℕ) → HoldsPair held p pair → Accepts pair → saved ≡ [] → Tells task pair text → Outcome (task_over task p) held Done saved text
-accepted_outcome tasks.Validate held p pair saved text holds accepts none says = (record { pair = pair; holds = holds; accepts = accepts; says = says }, none)
-accepted_outcome tasks.Report held p pair saved text holds accepts none says = (record { pair = pair; holds = holds; accepts = accepts; says = says }, none)
-
--- where the pair masks, `validate` of it is masked
-masked_pair : (task : PairTask) (held : Contents) (p : Pair) → Masked held p → (q : Pair) → task_over task p ≡ Validate q → Masked held q
-masked_pair tasks.Validate held p here q is = let same : p ≡ q = cc in subst (Masked held) same here
-masked_pair tasks.Report held p here q is = absurd cc
-
-module _ (held : Contents) (task : PairTask) (p : Pair) (w : Work) (n h : Net) (a c : List Bool) (one : HoldsDesign held (original_file p.original) n a) (other : HoldsDesign held (hardened_file p.hardened) h c) where
-  abbrev pub pair_with : PlainCert → ReadPair
-  pair_with k = record { original = n; free = a; hardened = h; hardened_free = c; certificate = k }
-
-  pub accepted_work : (k : PlainCert) → HoldsCertificate held (certificate_file p.certificate) n h k → w.verdict ≡ Done → texts_in w.saves.items ≡ [] → Tells task (pair_with k) w.text.items → FreeCorresponds n a h c k → Masks n h k → FreeMasks n a h c k → FreeTracesAreUnique n (counted k a) → FreeTracesAreUnique h (counted k c) → IsWork (task_over task p) held w
-  accepted_work k read done none says accepts masks free_masks runs hardened_runs =
-      outcome_work (task_over task p) held w Done done (accepted_outcome task held p (pair_with k) (texts_in w.saves.items) w.text.items holds accepts none says) (λ q is e. masked_pair task held p here q is)
-    where
-      holds : HoldsPair held p (pair_with k)
-      holds = record { original_read = one; hardened_read = other; certificate_read = read }
-
-      here : Masked held p
-      here = record {
-        pair = pair_with k;
-        holds = holds;
-        accepts = accepts;
-        is_masking = record { masks = masks; free_masks = free_masks; original_runs = runs; hardened_runs = hardened_runs };
-      }
-
-  pub not_accepted_work : (k : PlainCert) (rule place : ℕ) → HoldsCertificate held (certificate_file p.certificate) n h k → w.verdict ≡ NotAccepted → w.text.items ≡ not_accepted_line h rule place → IsFirstFreeFailure n a h c k rule place → IsWork (task_over task p) held w
-  not_accepted_work k rule place read is says first = outcome_work (task_over task p) held w NotAccepted is
-      (not_accepted_outcome task held p (texts_in w.saves.items) w.text.items (record {
-        pair = pair_with k;
-        holds = record { original_read = one; hardened_read = other; certificate_read = read };
-        rule = rule;
-        place = place;
-        first = first;
-        says = says;
-      }))
-      (not_done held (task_over task p) w.verdict NotAccepted is (λ e. cc))
-
-module _ (held : Contents) (task : FileTask) (p : Pair) (w : Work) where
-  pub certificate_work : (n h : Net) (a c : List Bool) (fault : CertFault) → HoldsDesign held (original_file p.original) n a → HoldsDesign held (hardened_file p.hardened) h c → HoldsNoCertificate held (certificate_file p.certificate) n h fault → w.verdict ≡ Refused → w.text.items ≡ refused_line p.certificate (cert_reason fault) → IsWork (files_over task p) held w
-  certificate_work n h a c fault one other unread is says = outcome_work (files_over task p) held w Refused is
-      (unread_outcome task held p (texts_in w.saves.items) w.text.items (inr (inr (record {
-        original = n;
-        free = a;
-        original_read = one;
-        hardened = h;
-        hardened_free = c;
-        hardened_read = other;
-        fault = fault;
-        unread = unread;
-        says = says;
-      }))))
-      (not_done held (files_over task p) w.verdict Refused is (λ e. cc))
-
-  pub hardened_work : (n : Net) (a : List Bool) (reason : List ℕ) → HoldsDesign held (original_file p.original) n a → HoldsNoDesign held (hardened_file p.hardened) reason → w.verdict ≡ Refused → w.text.items ≡ refused_line p.hardened reason → IsWork (files_over task p) held w
-  hardened_work n a reason one unread is says = outcome_work (files_over task p) held w Refused is
-      (unread_outcome task held p (texts_in w.saves.items) w.text.items (inr (inl (record { original = n; free = a; original_read = one; reason = reason; unread = unread; says = says }))))
-      (not_done held (files_over task p) w.verdict Refused is (λ e. cc))
-
-  pub original_work : (reason : List ℕ) → HoldsNoDesign held (original_file p.original) reason → w.verdict ≡ Refused → w.text.items ≡ refused_line p.original reason → IsWork (files_over task p) held w
-  original_work reason unread is says = outcome_work (files_over task p) held w Refused is
-      (unread_outcome task held p (texts_in w.saves.items) w.text.items (inl (record { reason = reason; unread = unread; says = says })))
-      (not_done held (files_over task p) w.verdict Refused is (λ e. cc))
 
 -- a fault that is no want of memory is what reading gives
 pub read_fault : (fault : CertFault) (read : Result PlainCert CertFault) → Fails fault read → fault ≢ faults.Memory → read ≡ Err fault
@@ -187,10 +87,47 @@ agrees held p r text holds accepts differs =
     let there : Accepts differs.pair = subst Accepts (one_pair held p r differs.pair holds differs.holds) accepts in
     differs.first.fails (there differs.rule differs.place)
 
-pub ruleset verdicts = (accepted_work, not_accepted_work, holds_certificate)
+-- ---- a pair that is read, and its refusals
 
-pub ruleset certificate_refusals = (certificate_work, holds_certificate, holds_no_certificate, read_fault)
+pub pair_read : (p : Pair) (held : Contents) (designs : Designs) (k : PlainCert) (read : PairRead) → read.original ≡ designs.original → read.hardened ≡ designs.hardened → read.certificate ≡ k → AreDesigns p.original p.hardened designs held → HoldsCertificate held (certificate_file p.certificate) designs.original.design.net designs.hardened.design.net k → HoldsPair held p (pair_of read)
+pair_read p held designs k read one two three are holds = record {
+  original_read = subst (λ (n : FreeDesign). HoldsDesign held (original_file p.original) n.design.net n.free) (sym one) are.original_read;
+  hardened_read = subst (λ (n : FreeDesign). HoldsDesign held (hardened_file p.hardened) n.design.net n.free) (sym two) are.hardened_read;
+  certificate_read =
+      subst (λ (n : FreeDesign). HoldsCertificate held (certificate_file p.certificate) n.design.net read.hardened.design.net read.certificate) (sym one)
+      (subst (λ (n : FreeDesign). HoldsCertificate held (certificate_file p.certificate) designs.original.design.net n.design.net read.certificate) (sym two)
+      (subst (λ (c : PlainCert). HoldsCertificate held (certificate_file p.certificate) designs.original.design.net designs.hardened.design.net c) (sym three) holds));
+}
 
-pub ruleset hardened_refusals = (hardened_work)
+pub fit_pair : (designs : Designs) (k : PlainCert) (read : PairRead) → read.original ≡ designs.original → read.hardened ≡ designs.hardened → read.certificate ≡ k → Fits designs.original.design.net designs.hardened.design.net k → 2 * (net_count designs.original.design.net + pin_total designs.original.design.net) ≤ 8388608 → IsFit read
+fit_pair designs k read one two three fits few = record {
+  fits =
+      subst (λ (n : FreeDesign). Fits n.design.net read.hardened.design.net read.certificate) (sym one)
+      (subst (λ (n : FreeDesign). Fits designs.original.design.net n.design.net read.certificate) (sym two)
+      (subst (λ (c : PlainCert). Fits designs.original.design.net designs.hardened.design.net c) (sym three) fits));
+  small = subst (λ (n : FreeDesign). net_count n.design.net ≤ 4194304) (sym one) (omega (arith, few));
+}
 
-pub ruleset original_refusals = (original_work)
+pub designs_unread : (p : Pair) (line : List ℕ) (held : Contents) → AreRefused (original_file p.original) (hardened_file p.hardened) line held → IsPairUnread p held line
+designs_unread p line held (inl first) = inl (record { reason = first.reason; unread = first.unread; says = first.says })
+designs_unread p line held (inr second) = inr (inl (record {
+  original = second.design;
+  free = second.free;
+  original_read = second.first_read;
+  reason = second.refused.reason;
+  unread = second.refused.unread;
+  says = second.refused.says;
+}))
+
+pub certificate_unread : (p : Pair) (line : List ℕ) (held : Contents) (designs : Designs) → AreDesigns p.original p.hardened designs held → IsRefusedCertificate p.certificate designs.original.design.net designs.hardened.design.net line held → IsPairUnread p held line
+certificate_unread p line held designs are refused = inr (inr (record {
+  original = designs.original.design.net;
+  free = designs.original.free;
+  original_read = are.original_read;
+  hardened = designs.hardened.design.net;
+  hardened_free = designs.hardened.free;
+  hardened_read = are.hardened_read;
+  fault = refused.fault;
+  unread = refused.unread;
+  says = refused.says;
+}))

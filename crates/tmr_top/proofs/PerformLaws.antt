@@ -1,6 +1,6 @@
--- What a command comes to, from its loads, its work and its saves.
-use Rattle.std.proofs.Common.{◌≡◌, ◌≢◌, ◌⊎◌, ℕ, List, [], ◌∷◌, ◌++◌, map, Option, Some, None, Result, Ok, Err, inl, inr, refl, sym, ap, subst, ◌∙◌}
-use Rattle.std.specs.Prelude.{IfOk, IfSome, codes, Vec}
+-- How a command ends, from its work and its saves.
+use Rattle.std.proofs.Common.{◌≡◌, ◌≢◌, ◌⊎◌, ℕ, List, [], ◌∷◌, ◌++◌, Option, Some, None, Ok, Err, inl, inr, refl, sym, ap, subst, ◌∙◌}
+use Rattle.std.specs.Prelude.{IfSome, codes, Vec}
 use Rattle.std.specs.declared.alloc.Global.{Global}
 use Rattle.std.specs.Borrow.{Bor}
 use Rattle.tmr_outside.specs.Contents.{Contents}
@@ -9,66 +9,60 @@ use Rattle.tmr_outside.specs.Seen.{FilesSeen, IsTold}
 use Rattle.tmr_top.specs.declared.decision.Verdict.{Verdict}
 use Rattle.tmr_top.specs.declared.decision.Verdict.TheVariants as verdict
 use Rattle.tmr_top.specs.declared.decision.Work.{Work}
-use Rattle.tmr_top.specs.declared.decision.Decision.{Decision}
 use Rattle.tmr_top.specs.declared.loads.Stop.{Stop}
 use Rattle.tmr_top.specs.declared.loads.Stop.TheVariants as stop
-use Rattle.tmr_top.specs.declared.loads.Loaded.{Loaded}
-use Rattle.tmr_top.specs.declared.file_words.LoadWords.{LoadWords}
 use Rattle.tmr_top.specs.declared.saves.SaveStop.{SaveStop}
 use Rattle.tmr_top.specs.declared.saves.SaveStop.TheVariants as save_stop
 use Rattle.tmr_top.specs.declared.status.Status.{Status}
 use Rattle.tmr_top.specs.declared.status.Status.TheVariants as status
-use Rattle.tmr_words.specs.Trials.{Trial}
-use Rattle.tmr_top.specs.Tried.{IsTried}
-use Rattle.tmr_words.specs.FileWords.{read_words}
-use Rattle.tmr_top.specs.FileWords.{texts_in, load_in}
 use Rattle.tmr_words.specs.Line.{Command, Pair, Validate}
 use Rattle.tmr_top.specs.Loads.{Load, loads_of, saves_of}
-use Rattle.tmr_top.specs.Files.{OfOne, OfFirst, IsLong}
-use Rattle.tmr_top.specs.Changes.{LoadFailed, SaveFailed, HeldElsewhere, NoneFailed}
+use Rattle.tmr_top.specs.Files.{OfOne, OfEach, OfFirst, IsLong, IsFine}
+use Rattle.tmr_top.specs.Changes.{LoadFailed, SaveFailed, HeldElsewhere, ChangesOnly, NoneFailed}
 use Rattle.tmr_top.specs.Pairs.{Masked}
 use Rattle.tmr_top.specs.Outcomes.{Outcome}
-use Rattle.tmr_top.specs.Loaded.{HoldsEach, Loads, IsStop, IsSteadyStop, IsStopped}
+use Rattle.tmr_top.specs.Private.Opened.{IsStop, IsSteadyStop, IsStopped}
 use Rattle.tmr_top.specs.Causes.{SomeMissing}
 use Rattle.tmr_top.specs.Saves.{with_texts, IsDone, IsBroken}
-use Rattle.tmr_top.specs.Saved.{after_saves, Saves, StopsAt, IsSaveStop}
-use Rattle.tmr_top.specs.Works.{IsWork, Comes, Leaves}
+use Rattle.tmr_top.specs.Private.Saved.{after_saves, Saves, StopsAt, IsSaveStop}
+use Rattle.tmr_top.specs.declared.decision.Save.{Save}
+use Rattle.tmr_top.specs.Private.Works.{save_names, save_texts, SavesFor, Comes, Leaves}
+use Rattle.tmr_top.specs.Private.Rooms.{Concludes}
 use Rattle.tmr_texts.specs.Texts.{load_fault_line, save_fault_line, refused_line}
 use Rattle.tmr_top.specs.Runs.{Untouched, Says, SaysTooLong, SaysSaveFault, SaysBroken, Performs}
-use Rattle.tmr_top.proofs.ChangeLaws.{rose_since, load_failed_since, save_failed_since, told_as_before, changes_none, held_same}
-use Rattle.tmr_top.proofs.LoadLaws.{all_fine}
+use Rattle.tmr_top.proofs.ChangeLaws.{rose_since, load_failed_since, save_failed_since, told_as_before, changes_none}
 
 -- ---- saves
 
 -- the work of a command that is done, as an outcome
-done_outcome : (c : Command) (held : Contents) (w : Work) → w.verdict ≡ verdict.Done → Comes c held w → Outcome c held verdict.Done (texts_in w.saves.items) w.text.items
-done_outcome c held w done comes = subst (λ (v : Verdict). Outcome c held v (texts_in w.saves.items) w.text.items) done comes.is_work.outcome
+done_outcome : (c : Command) (held : Contents) (w : Work) → w.verdict ≡ verdict.Done → Comes c held w → Outcome c held verdict.Done (save_texts w.saves.items) w.text.items
+done_outcome c held w done comes = subst (λ (v : Verdict). Outcome c held v (save_texts w.saves.items) w.text.items) done comes.is_work.outcome
 
 module _ (c : Command) (old new : FilesSeen) (w : Work) (names : List (List ℕ)) (is : names ≡ saves_of c) (done : w.verdict ≡ verdict.Done) (comes : IfSome old.contents (λ held. Comes c held w)) where
-  pub all_saved : Saves names (texts_in w.saves.items) old new → IfSome old.contents (λ held. IsDone c held new.contents w.text.items)
+  pub all_saved : Saves names (save_texts w.saves.items) old new → IfSome old.contents (λ held. IsDone c held new.contents w.text.items)
   all_saved saves = go old.contents comes saves.holds
     where
-      go : (o : Option Contents) → IfSome o (λ held. Comes c held w) → new.contents ≡ after_saves o names (texts_in w.saves.items) → IfSome o (λ held. IsDone c held new.contents w.text.items)
+      go : (o : Option Contents) → IfSome o (λ held. Comes c held w) → new.contents ≡ after_saves o names (save_texts w.saves.items) → IfSome o (λ held. IsDone c held new.contents w.text.items)
       go None comes holds = tt
       go (Some held) comes holds = record {
         fine = comes.fine;
-        saved = texts_in w.saves.items;
+        saved = save_texts w.saves.items;
         outcome = done_outcome c held w done comes;
-        whole = holds ∙ ap (λ (ns : List (List ℕ)). Some (with_texts held ns (texts_in w.saves.items))) is;
+        whole = holds ∙ ap (λ (ns : List (List ℕ)). Some (with_texts held ns (save_texts w.saves.items))) is;
       }
 
-  pub broken : (why : SaveStop) → IsSaveStop names (texts_in w.saves.items) old new why → IfSome old.contents (λ held. IsBroken c held old new)
+  pub broken : (why : SaveStop) → IsSaveStop names (save_texts w.saves.items) old new why → IfSome old.contents (λ held. IsBroken c held old new)
   broken why at = go old.contents refl comes
     where
-      holds : (held : Contents) (why : SaveStop) → old.contents ≡ Some held → StopsAt old new at.first (texts_in w.saves.items) at.next why → (new.contents ≡ Some (with_texts held at.first (texts_in w.saves.items))) ⊎ (SaveFailed old new at.next × HeldElsewhere (at.next ∷ []) (Some (with_texts held at.first (texts_in w.saves.items))) new.contents)
-      holds held (save_stop.Failed name) told stops = inr (stops.1, subst (λ (o : Option Contents). HeldElsewhere (at.next ∷ []) (after_saves o at.first (texts_in w.saves.items)) new.contents) told stops.2)
-      holds held save_stop.Memory told stops = inl (stops ∙ ap (λ (o : Option Contents). after_saves o at.first (texts_in w.saves.items)) told)
+      holds : (held : Contents) (why : SaveStop) → old.contents ≡ Some held → StopsAt old new at.first (save_texts w.saves.items) at.next why → (new.contents ≡ Some (with_texts held at.first (save_texts w.saves.items))) ⊎ (SaveFailed old new at.next × HeldElsewhere (at.next ∷ []) (Some (with_texts held at.first (save_texts w.saves.items))) new.contents)
+      holds held (save_stop.Failed name) told stops = inr (stops.1, subst (λ (o : Option Contents). HeldElsewhere (at.next ∷ []) (after_saves o at.first (save_texts w.saves.items)) new.contents) told stops.2)
+      holds held save_stop.Memory told stops = inl (stops ∙ ap (λ (o : Option Contents). after_saves o at.first (save_texts w.saves.items)) told)
 
       go : (o : Option Contents) → old.contents ≡ o → IfSome o (λ held. Comes c held w) → IfSome o (λ held. IsBroken c held old new)
       go None told comes = tt
       go (Some held) told comes = record {
         fine = comes.fine;
-        saved = texts_in w.saves.items;
+        saved = save_texts w.saves.items;
         text = w.text.items;
         outcome = done_outcome c held w done comes;
         first = at.first;
@@ -79,7 +73,7 @@ module _ (c : Command) (old new : FilesSeen) (w : Work) (names : List (List ℕ)
       }
 
 -- the save of a name failed, and it is named
-pub says_broken : (c : Command) (old new : FilesSeen) (w : Work) (names : List (List ℕ)) (name : Bor (List ℕ)) (text : List ℕ) → names ≡ saves_of c → w.verdict ≡ verdict.Done → IfSome old.contents (λ held. Comes c held w) → IsSaveStop names (texts_in w.saves.items) old new (save_stop.Failed name) → text ≡ save_fault_line name.now → IfSome old.contents (λ held. SaysBroken c held old new text)
+pub says_broken : (c : Command) (old new : FilesSeen) (w : Work) (names : List (List ℕ)) (name : Bor (List ℕ)) (text : List ℕ) → names ≡ saves_of c → w.verdict ≡ verdict.Done → IfSome old.contents (λ held. Comes c held w) → IsSaveStop names (save_texts w.saves.items) old new (save_stop.Failed name) → text ≡ save_fault_line name.now → IfSome old.contents (λ held. SaysBroken c held old new text)
 says_broken c old new w names name text is done comes at says = go old.contents refl comes
   where
     go : (o : Option Contents) → old.contents ≡ o → IfSome o (λ held. Comes c held w) → IfSome o (λ held. SaysBroken c held old new text)
@@ -87,14 +81,14 @@ says_broken c old new w names name text is done comes at says = go old.contents 
     go (Some held) told comes = record {
       broken = record {
         fine = comes.fine;
-        saved = texts_in w.saves.items;
+        saved = save_texts w.saves.items;
         text = w.text.items;
         outcome = done_outcome c held w done comes;
         first = at.first;
         next = at.next;
         later = at.later;
         names = sym is ∙ at.split;
-        holds = inr (at.stops.1, subst (λ (o : Option Contents). HeldElsewhere (at.next ∷ []) (after_saves o at.first (texts_in w.saves.items)) new.contents) told at.stops.2);
+        holds = inr (at.stops.1, subst (λ (o : Option Contents). HeldElsewhere (at.next ∷ []) (after_saves o at.first (save_texts w.saves.items)) new.contents) told at.stops.2);
       };
       failed = at.stops.1;
       says = says ∙ ap save_fault_line at.stops.0;
@@ -110,32 +104,14 @@ says_save_fault c old new names texts name text is at says =
     subst (λ (ns : List (List ℕ)). OfOne (λ n. SaveFailed old new n × (text ≡ save_fault_line n)) ns) (sym at.split ∙ is)
     (save_behind (λ n. SaveFailed old new n × (text ≡ save_fault_line n)) at.first at.next at.later (at.stops.1, says ∙ ap save_fault_line at.stops.0))
 
--- the same, from lists that are seen in the call
-pub save_fails : (c : Command) (old new : FilesSeen) (w : Work) (ns vs : List (Bor (List ℕ))) (ts : List (Vec ℕ Global)) (name : Bor (List ℕ)) (why : SaveStop) (text : List ℕ) → read_words ns ≡ saves_of c → vs ≡ ns → ts ≡ w.saves.items → w.verdict ≡ verdict.Done → why ≡ save_stop.Failed name → IsSaveStop (read_words vs) (texts_in ts) old new why → text ≡ save_fault_line name.now → IfSome old.contents (λ held. Comes c held w) → Performs c old new status.Fault text
-save_fails c old new w ns vs ts name why text is these those done failed stop says comes =
-    inr (says_save_fault c old new (read_words vs) (texts_in w.saves.items) name text names at says, says_broken c old new w (read_words vs) name text names done comes at says)
-  where
-    names : read_words vs ≡ saves_of c
-    names = ap read_words these ∙ is
-
-    at : IsSaveStop (read_words vs) (texts_in w.saves.items) old new (save_stop.Failed name)
-    at = subst (λ (s : SaveStop). IsSaveStop (read_words vs) (texts_in w.saves.items) old new s) failed (subst (λ (t : List (Vec ℕ Global)). IsSaveStop (read_words vs) (texts_in t) old new why) those stop)
-
--- there was no memory to name it
-pub save_wants : (c : Command) (old new : FilesSeen) (w : Work) (ns vs : List (Bor (List ℕ))) (ts : List (Vec ℕ Global)) (why : SaveStop) → read_words ns ≡ saves_of c → vs ≡ ns → ts ≡ w.saves.items → w.verdict ≡ verdict.Done → IsSaveStop (read_words vs) (texts_in ts) old new why → IfSome old.contents (λ held. Comes c held w) → Leaves c old new
-save_wants c old new w ns vs ts why is these those done stop comes =
-    inr (broken c old new w (read_words vs) (ap read_words these ∙ is) done comes why (subst (λ (t : List (Vec ℕ Global)). IsSaveStop (read_words vs) (texts_in t) old new why) those stop))
-
-pub ruleset saving = (changes_none)
-
 -- ---- verdicts
 
 says_verdict : (c : Command) (w : Work) (v : Verdict) (o : Option Contents) → w.verdict ≡ v → IfSome o (λ held. Comes c held w) → IfSome o (λ held. Says c held v w.text.items)
 says_verdict c w v None is comes = tt
 says_verdict c w v (Some held) is comes = record {
   fine = comes.fine;
-  saved = texts_in w.saves.items;
-  outcome = subst (λ (q : Verdict). Outcome c held q (texts_in w.saves.items) w.text.items) is comes.is_work.outcome;
+  saved = save_texts w.saves.items;
+  outcome = subst (λ (q : Verdict). Outcome c held q (save_texts w.saves.items) w.text.items) is comes.is_work.outcome;
 }
 
 pub not_accepted : (c : Command) (seen : FilesSeen) (w : Work) → w.verdict ≡ verdict.NotAccepted → IfSome seen.contents (λ held. Comes c held w) → Performs c seen seen status.NotAccepted w.text.items
@@ -153,7 +129,101 @@ pub work_masks : (c : Command) (w : Work) (p : Pair) (o : Option Contents) → c
 work_masks c w p None line done comes = tt
 work_masks c w p (Some held) line done comes = comes.is_work.masks p line done
 
-pub ruleset verdicts = (not_accepted, refused, work_masks, changes_none)
+-- ---- how a work that is done ends
+
+module _ (c : Command) (old new : FilesSeen) (was is : Type 0) (w : Work) (ss : List Save) (these : ss ≡ w.saves.items) (done : w.verdict ≡ verdict.Done) (names : SavesFor c w) (steady : was → is) (changes : ChangesOnly [] (save_names ss) old new) where
+  named : save_names ss ≡ saves_of c
+  named = ap save_names these ∙ names done
+
+  changed : ChangesOnly [] (saves_of c) old new
+  changed = subst (λ (ns : List (List ℕ)). ChangesOnly [] ns old new) named changes
+
+  texts_are : save_texts ss ≡ save_texts w.saves.items
+  texts_are = ap save_texts these
+
+  pub done_concludes : {E : Type 0} → Saves (save_names ss) (save_texts ss) old new → Concludes {E = E} c (Ok w) old new was is (Ok (record { status = status.Done; text = w.text }))
+  done_concludes saves = record {
+    performs = λ comes. all_saved c old new w (save_names ss) named done comes (subst (λ (ts : List (List ℕ)). Saves (save_names ss) ts old new) texts_are saves);
+    unfailed = λ told differs. saves.none told;
+    changes = changed;
+    steady_ok = λ s e. cc;
+    steady = steady;
+    told = λ e. refl;
+    agrees = λ agrees e. cc;
+    masks = λ p line comes e. work_masks c w p old.contents line done comes;
+  }
+
+  -- the save of a name failed
+  pub failed_concludes : {E : Type 0} (why : SaveStop) (name : Bor (List ℕ)) (text : Vec ℕ Global) → why ≡ save_stop.Failed name → IsSaveStop (save_names ss) (save_texts ss) old new why → text.items ≡ save_fault_line name.now → (was → why ≡ save_stop.Memory) → Concludes {E = E} c (Ok w) old new was is (Ok (record { status = status.Fault; text = text }))
+  failed_concludes why name text here stop says steady_stop = record {
+    performs = λ comes. inr (
+      says_save_fault c old new (save_names ss) (save_texts w.saves.items) name text.items named at says,
+      says_broken c old new w (save_names ss) name text.items named done comes at says,
+    );
+    unfailed = λ told differs. absurd (differs refl);
+    changes = changed;
+    steady_ok = λ s. let e = steady_stop s in absurd cc;
+    steady = steady;
+    told = λ e. absurd cc;
+    agrees = λ agrees e. cc;
+    masks = λ p line comes e. absurd cc;
+  }
+    where
+      at : IsSaveStop (save_names ss) (save_texts w.saves.items) old new (save_stop.Failed name)
+      at = subst (λ (ts : List (List ℕ)). IsSaveStop (save_names ss) ts old new (save_stop.Failed name)) texts_are (subst (λ (s : SaveStop). IsSaveStop (save_names ss) (save_texts ss) old new s) here stop)
+
+  -- there was no memory for a save, or to name the one that failed
+  pub wants_concludes : {E : Type 0} (why : SaveStop) (e : E) → IsSaveStop (save_names ss) (save_texts ss) old new why → Concludes {E = E} c (Ok w) old new was is (Err e)
+  wants_concludes why e stop = record {
+    performs = λ comes. inr (broken c old new w (save_names ss) named done comes why (subst (λ (ts : List (List ℕ)). IsSaveStop (save_names ss) ts old new why) texts_are stop));
+    unfailed = tt;
+    changes = changed;
+    steady_ok = λ s. tt;
+    steady = steady;
+    told = tt;
+    agrees = λ agrees. tt;
+    masks = λ p line comes. tt;
+  }
+
+-- ---- how a work ends that is not done
+
+pub denied_concludes : {E : Type 0} (c : Command) (seen : FilesSeen) (was : Type 0) (w : Work) → w.verdict ≡ verdict.NotAccepted → Concludes {E = E} c (Ok w) seen seen was was (Ok (record { status = status.NotAccepted; text = w.text }))
+denied_concludes c seen was w is = record {
+  performs = λ comes. not_accepted c seen w is comes;
+  unfailed = λ told differs name. refl;
+  changes = changes_none [] (saves_of c) seen;
+  steady_ok = λ s e. cc;
+  steady = λ s. s;
+  told = λ e. absurd cc;
+  agrees = λ agrees e. agrees is;
+  masks = λ p line comes e. absurd cc;
+}
+
+pub refused_concludes : {E : Type 0} (c : Command) (seen : FilesSeen) (was : Type 0) (w : Work) → w.verdict ≡ verdict.Refused → Concludes {E = E} c (Ok w) seen seen was was (Ok (record { status = status.Refused; text = w.text }))
+refused_concludes c seen was w is = record {
+  performs = λ comes. refused c seen w is comes;
+  unfailed = λ told differs name. refl;
+  changes = changes_none [] (saves_of c) seen;
+  steady_ok = λ s e. cc;
+  steady = λ s. s;
+  told = λ e. absurd cc;
+  agrees = λ agrees e. cc;
+  masks = λ p line comes e. absurd cc;
+}
+
+pub nothing_concludes : {E : Type 0} (c : Command) (seen : FilesSeen) (was : Type 0) (d e : E) → Concludes {E = E} c (Err d) seen seen was was (Err e)
+nothing_concludes c seen was d e = record {
+  performs = λ comes. inl refl;
+  unfailed = tt;
+  changes = changes_none [] (saves_of c) seen;
+  steady_ok = λ s. tt;
+  steady = λ s. s;
+  told = tt;
+  agrees = λ agrees. tt;
+  masks = λ p line comes. tt;
+}
+
+pub ruleset conclusions = (done_concludes, failed_concludes, wants_concludes, denied_concludes, refused_concludes, nothing_concludes)
 
 -- ---- loads that came to no end
 
@@ -167,19 +237,25 @@ say_long held name text says [] first = first
 say_long held name text says (l ∷ ls) (inl here) = inl (here.0, says ∙ ap (λ (t : List ℕ). refused_line t (codes "too long")) here.1)
 say_long held name text says (l ∷ ls) (inr later) = inr (later.0, say_long held name text says ls later.1)
 
-module _ (c : Command) (old new : FilesSeen) (s : Status) (text : List ℕ) where
-  pub stop_performs : (why : Stop) → Untouched old new → IsStop (loads_of c) old new why → IsStopped why s text → Performs c old new s text
+module _ (c : Command) (R : List ℕ → Contents → Type 0) (unread : (line : List ℕ) (held : Contents) → R line held → Outcome c held verdict.Refused [] line) (old new : FilesSeen) (s : Status) (text : List ℕ) where
+  pub stop_performs : (why : Stop) → Untouched old new → IsStop (loads_of c) R old new why → IsStopped why s text → Performs c old new s text
   stop_performs (stop.Failed name) same is says = subst (λ (q : Status). Performs c old new q text) (sym says.0) (inl (same, say_fault old new name.now text says.1 (loads_of c) is))
   stop_performs (stop.TooLong name) same is says = subst (λ (q : Status). Performs c old new q text) (sym says.0) (same, go old.contents is.0)
     where
       go : (o : Option Contents) → IfSome o (λ held. OfFirst held (λ l. IsLong held l × (name.now ≡ l.name)) (loads_of c)) → IfSome o (λ held. SaysTooLong c held text ⊎ Says c held verdict.Refused text)
       go None is = tt
       go (Some held) is = inl (say_long held name.now text says.1 (loads_of c) is)
+  stop_performs (stop.Refused line) same is says = subst (λ (q : Status). Performs c old new q text) (sym says.0) (same, go old.contents is.holds)
+    where
+      go : (o : Option Contents) → IfSome o (λ held. OfEach (IsFine held) (loads_of c) × R line.items held) → IfSome o (λ held. SaysTooLong c held text ⊎ Says c held verdict.Refused text)
+      go None is = tt
+      go (Some held) is = inr (record { fine = is.0; saved = []; outcome = subst (λ (t : List ℕ). Outcome c held verdict.Refused [] t) (sym says.1) (unread line.items held is.1) })
   stop_performs stop.Memory same is says = absurd says
 
-  pub stop_quiet : (why : Stop) → IsStop (loads_of c) old new why → IsStopped why s text → (IsTold old → NoneRose old.save_count new.save_count) → IsTold old → s ≢ status.Fault → NoneFailed old new
+  pub stop_quiet : (why : Stop) → IsStop (loads_of c) R old new why → IsStopped why s text → (IsTold old → NoneRose old.save_count new.save_count) → IsTold old → s ≢ status.Fault → NoneFailed old new
   stop_quiet (stop.Failed name) is says saves told differs = absurd (differs says.0)
   stop_quiet (stop.TooLong name) is says saves told differs = record { loads = is.1 told; saves = saves told }
+  stop_quiet (stop.Refused line) is says saves told differs = record { loads = is.none told; saves = saves told }
   stop_quiet stop.Memory is says saves told differs = absurd says
 
   pub stop_missing : (why : Stop) → IsSteadyStop (loads_of c) old.contents why → IsStopped why s text → s ≡ status.Fault → IfSome old.contents (SomeMissing c)
@@ -189,28 +265,26 @@ module _ (c : Command) (old new : FilesSeen) (s : Status) (text : List ℕ) wher
       go None missing = tt
       go (Some held) missing = missing
   stop_missing (stop.TooLong name) is says fault = let refused = says.0 in absurd cc
+  stop_missing (stop.Refused line) is says fault = let refused = says.0 in absurd cc
   stop_missing stop.Memory is says fault = absurd says
 
-  pub stop_not_done : (why : Stop) → IsStopped why s text → s ≡ status.Done → ⊥
-  stop_not_done (stop.Failed name) says done = let fault = says.0 in cc
-  stop_not_done (stop.TooLong name) says done = let refused = says.0 in cc
-  stop_not_done stop.Memory says done = says
+pub stop_not_done : (s : Status) (text : List ℕ) (why : Stop) → IsStopped why s text → s ≡ status.Done → ⊥
+stop_not_done s text (stop.Failed name) says done = let fault = says.0 in cc
+stop_not_done s text (stop.TooLong name) says done = let refused = says.0 in cc
+stop_not_done s text (stop.Refused line) says done = let refused = says.0 in cc
+stop_not_done s text stop.Memory says done = says
 
--- ---- after all is loaded
+pub stop_agrees : (s : Status) (text : List ℕ) (why : Stop) → IsStopped why s text → s ≢ status.NotAccepted
+stop_agrees s text (stop.Failed name) says other = let fault = says.0 in cc
+stop_agrees s text (stop.TooLong name) says other = let refused = says.0 in cc
+stop_agrees s text (stop.Refused line) says other = let refused = says.0 in cc
+stop_agrees s text stop.Memory says other = says
 
-pub comes : (c : Command) (all : List Loaded) (w : Work) (o : Option Contents) → IfSome o (λ held. HoldsEach held (loads_of c) all) → ((held : Contents) → HoldsEach held (loads_of c) all → IsWork c held w) → IfSome o (λ held. Comes c held w)
-comes c all w None holds work = tt
-comes c all w (Some held) holds work = record { fine = all_fine held (loads_of c) all holds; is_work = work held holds }
+-- ---- after all is loaded and read
 
--- the same, from lists that are seen in the call
-pub loaded_comes : (c : Command) (ws vs : List LoadWords) (all given : List Loaded) (w : Work) (a b : FilesSeen) → map load_in ws ≡ loads_of c → vs ≡ ws → given ≡ all → b.contents ≡ a.contents → Loads (map load_in vs) a b all → ((held : Contents) → HoldsEach held (loads_of c) given → IsWork c held w) → IfSome b.contents (λ held. Comes c held w)
-loaded_comes c ws vs all given w a b is these those same loads work = subst (λ (o : Option Contents). IfSome o (λ held. Comes c held w)) (sym same)
-    (comes c all w a.contents (subst (λ (ls : List Load). IfSome a.contents (λ held. HoldsEach held ls all)) (ap (map load_in) these ∙ is) loads.holds)
-    (λ held holds. work held (subst (λ (l : List Loaded). HoldsEach held (loads_of c) l) (sym those) holds)))
-
-module _ (c : Command) (a b new : FilesSeen) (same : b.contents ≡ a.contents) (loads : NoneFell a.load_count b.load_count) (saves : NoneFell a.save_count b.save_count) where
-  pub masked_since : (p : Pair) → IfSome b.contents (λ held. Masked held p) → IfSome a.contents (λ held. Masked held p)
-  masked_since p masked = subst (λ (o : Option Contents). IfSome o (λ held. Masked held p)) same masked
+-- the contents are as before
+pub masked_since : (a b : FilesSeen) → b.contents ≡ a.contents → (p : Pair) → IfSome b.contents (λ held. Masked held p) → IfSome a.contents (λ held. Masked held p)
+masked_since a b same p masked = subst (λ (o : Option Contents). IfSome o (λ held. Masked held p)) same masked
 
 -- where nothing failed before
 module _ (c : Command) (a b new : FilesSeen) (same : b.contents ≡ a.contents) (loads : NoneFell a.load_count b.load_count) (saves : NoneFell a.save_count b.save_count) (quiet : IsTold a → NoneFailed a b) where
@@ -276,10 +350,3 @@ module _ (c : Command) (a b new : FilesSeen) (same : b.contents ≡ a.contents) 
   pub leaves_since : Leaves c b new → Leaves c a new
   leaves_since (inl is) = inl (is ∙ same)
   leaves_since (inr is) = inr (broken_since is)
-
--- the text of a trial that is done
-pub tried_since : {E : Type 0} (t : Trial) (w : Work) (r : Result Decision E) → IsTried t w.text.items → IfOk r (λ d. d.status ≡ status.Done → d.text ≡ w.text) → IfOk r (λ d. d.status ≡ status.Done → IsTried t d.text.items)
-tried_since t w (Ok d) tried told = λ done. subst (λ (v : Vec ℕ Global). IsTried t v.items) (sym (told done)) tried
-tried_since t w (Err e) tried told = tt
-
-pub ruleset commands = (changes_none)

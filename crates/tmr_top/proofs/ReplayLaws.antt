@@ -1,13 +1,11 @@
 -- What a replay comes to.
-use Rattle.std.proofs.Common.{◌≡◌, ◌≢◌, ℕ, zero, suc, ◌+◌, ◌*◌, ◌<◌, ◌≤◌, ◌⊎◌, inl, inr, Bool, true, false, List, [], ◌∷◌, ◌++◌, length, drop, get_or, filter, All, Option, Some, None, Result, Ok, Err, refl, sym, ap, ◌∙◌, subst, append_assoc, add-one, drop-cons, arith}
-use Rattle.std.specs.Prelude.{IfOk, IsTrue, slice_get, codes, if◌then◌else◌}
+use Rattle.std.proofs.Common.{◌≡◌, ◌≢◌, ℕ, zero, suc, ◌*◌, ◌<◌, ◌⊎◌, inl, inr, Bool, true, false, List, [], ◌∷◌, length, filter, All, Option, Some, None, Result, Ok, Err, refl, sym, ap, ◌∙◌, subst, arith}
+use Rattle.std.specs.Prelude.{IfOk, IfErr, IsTrue, codes, if◌then◌else◌}
 use Rattle.std.specs.Option.{unwrap_or}
 use Rattle.std.proofs.lemmas.Bool.{eq-eqb, ne_eqb}
-use Rattle.std.proofs.lemmas.List.{nil_from_length, length-drop, append-nil}
 use Rattle.std.proofs.lemmas.List.Elements.{All-append, All-filter, All-take, All-weaker}
-use Rattle.std.proofs.lemmas.Option.{get_or_from_slice_get}
 use Rattle.tmr_base.specs.declared.ids.Upset.{Upset}
-use Rattle.flat_net.specs.Net.{Net, Design, name_of, node_of}
+use Rattle.flat_net.specs.Net.{Net, Design, net_count, node_of}
 use Rattle.flat_net.specs.Free.{node_bit}
 use Rattle.net_meaning.specs.Meaning.{upset_at, start_at, net_value, row_at, row_before, spread, IsFreeFaultTrace, HasOneTrace}
 use Rattle.certificate.specs.Cert.{PlainCert, IsCert}
@@ -20,37 +18,29 @@ use Rattle.schedule_replay.specs.declared.outcome.Difference.{Difference}
 use Rattle.schedule_replay.specs.Document.{Listed, sched_of}
 use Rattle.schedule_replay.specs.Gives.{Fails}
 use Rattle.schedule_replay.specs.Outcome.{PlainOutcome, IsReplayOf, IsFreeReplay, outputs_in, outputs_until, output_at, differs}
-use Rattle.schedule_replay.specs.Reading.{IsReadAs}
+use Rattle.schedule_replay.specs.Reading.{IsNodeOf, IsReadAs}
 use Rattle.schedule_replay.specs.Schedule.{PlainSchedule}
 use Rattle.schedule_replay.specs.Starts.{placed_starts, given_starts}
 use Rattle.schedule_replay.proofs.Quiet.{three_outputs}
 use Rattle.tmr_outside.specs.Contents.{Contents}
+use Rattle.tmr_words.specs.Line.{Replaying, Replay}
+use Rattle.tmr_top.specs.declared.commands.replay.ReplayRead.{ReplayRead}
 use Rattle.tmr_top.specs.declared.decision.Work.{Work}
-use Rattle.tmr_top.specs.declared.decision.Verdict.TheVariants.{Done, NotAccepted, Refused}
-use Rattle.tmr_top.specs.FileWords.{texts_in}
-use Rattle.tmr_words.specs.Line.{Replaying, Pair, Replay, Validate}
-use Rattle.tmr_top.specs.Loads.{Load, original_file, hardened_file, certificate_file, schedule_file}
-use Rattle.tmr_top.specs.Loaded.{HoldsBytes}
-use Rattle.tmr_top.specs.Designs.{HoldsDesign}
-use Rattle.tmr_top.specs.Pairs.{ReadPair, HoldsPair, HoldsCertificate, Masked}
+use Rattle.tmr_top.specs.Private.Works.{save_texts, IsWorkOver}
+use Rattle.tmr_top.proofs.RoomLaws.{done_over}
+use Rattle.tmr_top.specs.declared.loads.Stop.{Stop}
+use Rattle.tmr_top.specs.declared.loads.Stop.TheVariants as stop
+use Rattle.tmr_top.specs.declared.pair_files.PairRead.{PairRead}
+use Rattle.tmr_top.specs.Loads.{Load, schedule_file, wave_names}
+use Rattle.tmr_top.specs.Private.Opened.{HoldsBytes, IsRefusal, Gives}
+use Rattle.tmr_top.specs.Private.PairFiles.{pair_of}
+use Rattle.tmr_top.specs.Private.Refused.{Refuses}
+use Rattle.tmr_top.specs.Pairs.{ReadPair, HoldsPair, Accepts}
 use Rattle.tmr_texts.specs.Reasons.{schedule_reason}
-use Rattle.tmr_texts.specs.ReplayText.{output_name, difference_line, difference_lines, replay_lines}
-use Rattle.tmr_top.specs.Replayed.{HoldsNoSchedule, ReadFiles, SavesWaves, is_too_large}
-use Rattle.tmr_top.specs.Replaying.{ReadsSchedule, IsTold}
+use Rattle.tmr_texts.specs.ReplayText.{replay_lines}
+use Rattle.tmr_top.specs.Replayed.{HoldsNoSchedule, ReadFiles, SavesWaves, IsReplayed, IsReplayDenied, IsReplayRefused, is_too_large}
+use Rattle.tmr_top.specs.Private.Replaying.{ReadsSchedule, IsBeforeSchedule, IsReplayable, IsReplayRead, IsTooLargeStop, IsTold, IsToldWork}
 use Rattle.tmr_texts.specs.Texts.{not_accepted_line, refused_line}
-use Rattle.tmr_top.specs.Works.{IsWork}
-use Rattle.tmr_top.proofs.PairLaws.{outcome_work}
-
--- ---- answers
-
--- what holds of an answer that is Ok goes over to what follows from it
-pub if_ok : {A E : Type 0} (r : Result A E) (P Q : A → Type 0) → ((x : A) → P x → Q x) → IfOk r P → IfOk r Q
-if_ok (Ok x) P Q f p = f x p
-if_ok (Err e) P Q f p = p
-
-pub both_ok : {A E : Type 0} (r : Result A E) (P Q R : A → Type 0) → ((x : A) → P x → Q x → R x) → IfOk r P → IfOk r Q → IfOk r R
-both_ok (Ok x) P Q R f p q = f x p q
-both_ok (Err e) P Q R f p q = p
 
 -- ---- reading, by the version of the certificate
 
@@ -171,55 +161,35 @@ told waves n f h g k s o saved text replayed masked says saves = record { outcom
 
 pub ruleset done = (three_inputs, outputs_in_threes, shown_outputs, told)
 
--- ---- works
+-- ---- what is told, in the words of the command
 
-module _ (held : Contents) (w : Replaying) (v : Work) (n h : Net) (a c : List Bool) (k : PlainCert) (one : HoldsDesign held (original_file w.pair.original) n a) (other : HoldsDesign held (hardened_file w.pair.hardened) h c) (read : HoldsCertificate held (certificate_file w.pair.certificate) n h k) where
-  abbrev pub pair_of_files : ReadPair
-  pair_of_files = record { original = n; free = a; hardened = h; hardened_free = c; certificate = k }
-
-  abbrev holds : HoldsPair held w.pair pair_of_files
-  holds = record { original_read = one; hardened_read = other; certificate_read = read }
-
-  nothing_masked : (p : Pair) → Replay w ≡ Validate p → v.verdict ≡ Done → Masked held p
-  nothing_masked p is = absurd cc
-
-  abbrev files_read : (s : PlainSchedule) (reads : ReadsSchedule held (schedule_file w.schedule) pair_of_files s) → ReadFiles w held
-  files_read s reads = record { pair = pair_of_files; holds = holds; listed = reads.listed; schedule_read = reads.read }
+module _ (w : Replaying) (held : Contents) (r : ReadPair) (holds : HoldsPair held w.pair r) (s : PlainSchedule) (reads : ReadsSchedule held (schedule_file w.schedule) r s) where
+  abbrev files_read : ReadFiles w held
+  files_read = record { pair = r; holds = holds; listed = reads.listed; schedule_read = reads.read }
 
   -- as many rows as are listed
-  same_size : (s : PlainSchedule) (reads : ReadsSchedule held (schedule_file w.schedule) pair_of_files s) (b : Bool) → is_too_large w.waves n (length s.rows) ≡ b → is_too_large w.waves n (length reads.listed.rows) ≡ b
-  same_size s reads b e = ap (λ (rows : List (List Bool)). is_too_large w.waves n (length rows)) (sym reads.is_listed.rows) ∙ e
+  same_size : (b : Bool) → is_too_large w.waves r.original (length s.rows) ≡ b → is_too_large w.waves r.original (length reads.listed.rows) ≡ b
+  same_size b e = ap (λ (rows : List (List Bool)). is_too_large w.waves r.original (length rows)) (sym reads.is_listed.rows) ∙ e
 
-  pub replayed_work : (s : PlainSchedule) → ReadsSchedule held (schedule_file w.schedule) pair_of_files s → is_too_large w.waves n (length s.rows) ≡ false → FreeCorresponds n a h c k → v.verdict ≡ Done → IsTold w.waves pair_of_files s (texts_in v.saves.items) v.text.items → IsWork (Replay w) held v
-  replayed_work s reads room accepts is tells = outcome_work (Replay w) held v Done is
-      (record {
-        files = files_read s reads;
-        room = same_size s reads false room;
-        accepts = accepts;
-        schedule = s;
-        is_listed = reads.is_listed;
-        outcome = tells.outcome;
-        replayed = tells.replayed;
-        masked = tells.masked;
-        says = tells.says;
-        saves = tells.saves;
-      })
-      nothing_masked
+  pub replayed_outcome : (saved : List (List ℕ)) (text : List ℕ) → is_too_large w.waves r.original (length s.rows) ≡ false → Accepts r → IsTold w.waves r s saved text → IsReplayed w held saved text
+  replayed_outcome saved text room accepts tells = record {
+    files = files_read;
+    room = same_size false room;
+    accepts = accepts;
+    schedule = s;
+    is_listed = reads.is_listed;
+    outcome = tells.outcome;
+    replayed = tells.replayed;
+    masked = tells.masked;
+    says = tells.says;
+    saves = tells.saves;
+  }
 
-  pub denied_work : (s : PlainSchedule) (rule place : ℕ) → ReadsSchedule held (schedule_file w.schedule) pair_of_files s → is_too_large w.waves n (length s.rows) ≡ false → v.verdict ≡ NotAccepted → v.text.items ≡ not_accepted_line h rule place → IsFirstFreeFailure n a h c k rule place → IsWork (Replay w) held v
-  denied_work s rule place reads room is says first = outcome_work (Replay w) held v NotAccepted is
-      (record { files = files_read s reads; room = same_size s reads false room; rule = rule; place = place; first = first; says = says })
-      nothing_masked
+  pub denied_outcome : (rule place : ℕ) → is_too_large w.waves r.original (length s.rows) ≡ false → IsFirstFreeFailure r.original r.free r.hardened r.hardened_free r.certificate rule place → IsReplayDenied w held (not_accepted_line r.hardened rule place)
+  denied_outcome rule place room first = record { files = files_read; room = same_size false room; rule = rule; place = place; first = first; says = refl }
 
-  pub large_work : (s : PlainSchedule) → ReadsSchedule held (schedule_file w.schedule) pair_of_files s → is_too_large w.waves n (length s.rows) ≡ true → v.verdict ≡ Refused → v.text.items ≡ refused_line w.schedule (codes "wave too large") → IsWork (Replay w) held v
-  large_work s reads large is says = outcome_work (Replay w) held v Refused is
-      (inr (inr (record { files = files_read s reads; large = same_size s reads true large; says = says })))
-      nothing_masked
-
-  pub schedule_work : (f : ScheduleFault) → HoldsNoSchedule held (schedule_file w.schedule) pair_of_files f → v.verdict ≡ Refused → v.text.items ≡ refused_line w.schedule (schedule_reason f) → IsWork (Replay w) held v
-  schedule_work f unread is says = outcome_work (Replay w) held v Refused is
-      (inr (inl (record { pair = pair_of_files; holds = holds; fault = f; unread = unread; says = says })))
-      nothing_masked
+  pub large_refused : (text : List ℕ) → is_too_large w.waves r.original (length s.rows) ≡ true → text ≡ refused_line w.schedule (codes "wave too large") → IsReplayRefused w held text
+  large_refused text large says = inr (inr (record { files = files_read; large = same_size true large; says = says }))
 
 -- a fault that is no want of memory is what reading gives
 pub schedule_fault : (f : ScheduleFault) (read : Result Listed ScheduleFault) → Fails f read → f ≢ fault.Memory → read ≡ Err f
@@ -252,6 +222,45 @@ module _ (held : Contents) (load : Load) (bytes : List ℕ) (n h : Net) (a c : L
       }
       go (Err f) e has = absurd has
 
-pub ruleset verdicts = (replayed_work, denied_work, large_work)
+-- the schedule of a pair, or why its file is refused
+module _ (w : Replaying) (pair : PairRead) (bytes : List ℕ) where
+  abbrev gives_schedule : Result PlainSchedule Stop → Type 0
+  gives_schedule answer = Gives (IsBeforeSchedule w pair bytes) (λ s held. ReadsSchedule held (schedule_file w.schedule) (pair_of pair) s) (λ line held. IsReplayRefused w held line) answer
 
-pub ruleset refusals = (schedule_work, schedule_fault, holds_no_schedule, reads_schedule)
+  reads_it : (s : PlainSchedule) (held : Contents) → IsReadAs (length pair.original.design.net.inputs) (sched_of pair.certificate.version bytes pair.original.design.net (counted pair.certificate pair.original.free) pair.hardened.design.net) s → IsBeforeSchedule w pair bytes held → ReadsSchedule held (schedule_file w.schedule) (pair_of pair) s
+  reads_it s held is before = reads_schedule held (schedule_file w.schedule) bytes pair.original.design.net pair.hardened.design.net pair.original.free pair.hardened.free pair.certificate before.loaded s is
+
+  pub schedule_gives : (s : PlainSchedule) (answer : Result PlainSchedule Stop) → IsReadAs (length pair.original.design.net.inputs) (sched_of pair.certificate.version bytes pair.original.design.net (counted pair.certificate pair.original.free) pair.hardened.design.net) s → IfOk answer (λ t. t ≡ s) → IfErr answer (IsTooLargeStop w.schedule (is_too_large w.waves pair.original.design.net (length s.rows))) → Gives (IsBeforeSchedule w pair bytes) (λ t held. ReadsSchedule held (schedule_file w.schedule) (pair_of pair) t) (λ line held. IsReplayRefused w held line) answer
+  schedule_gives s (Ok t) is same large = λ held before. subst (λ (x : PlainSchedule). ReadsSchedule held (schedule_file w.schedule) (pair_of pair) x) (sym same) (reads_it s held is before)
+  schedule_gives s (Err why) is same large = go why large.refuses
+    where
+      go : (why : Stop) → Refuses (refused_line w.schedule (codes "wave too large")) why → IsRefusal (IsBeforeSchedule w pair bytes) (λ line held. IsReplayRefused w held line) why
+      go (stop.Failed name) says = absurd says
+      go (stop.TooLong name) says = absurd says
+      go (stop.Refused line) says = λ held before. large_refused w held (pair_of pair) before.holds s (reads_it s held is before) line.items large.large says
+      go stop.Memory says = tt
+
+  pub schedule_refused : (f : ScheduleFault) (line : List ℕ) (held : Contents) → line ≡ refused_line w.schedule (schedule_reason f) → sched_of pair.certificate.version bytes pair.original.design.net (counted pair.certificate pair.original.free) pair.hardened.design.net ≡ Err f → IsBeforeSchedule w pair bytes held → IsReplayRefused w held line
+  schedule_refused f line held says e before = inr (inl (record {
+    pair = pair_of pair;
+    holds = before.holds;
+    fault = f;
+    unread = holds_no_schedule held (schedule_file w.schedule) bytes pair.original.design.net pair.hardened.design.net pair.original.free pair.hardened.free pair.certificate before.loaded f e;
+    says = says;
+  }))
+
+pub replayable : (waves : Option (List ℕ)) (pair : PairRead) (s : PlainSchedule) (answer : Result PlainSchedule Stop) → s.inputs ≡ length pair.original.design.net.inputs → (pair.certificate.version ≡ 1 → All (λ u. IsNodeOf pair.hardened.design.net u.net.0) s.upsets) → All (λ u. u.net.0 < net_count pair.hardened.design.net) s.upsets → IfOk answer (λ t. t ≡ s) → IfOk answer (λ t. is_too_large waves pair.original.design.net (length t.rows) ≡ false) → IfOk answer (IsReplayable waves pair)
+replayable waves pair s (Ok t) rows nodes nets same room = record {
+  rows = ap (λ (x : PlainSchedule). x.inputs) same ∙ rows;
+  nodes = λ e. subst (λ (x : PlainSchedule). All (λ u. IsNodeOf pair.hardened.design.net u.net.0) x.upsets) (sym same) (nodes e);
+  nets = subst (λ (x : PlainSchedule). All (λ u. u.net.0 < net_count pair.hardened.design.net) x.upsets) (sym same) nets;
+  room = room;
+}
+replayable waves pair s (Err why) rows nodes nets same room = tt
+
+-- what is told of a pair that is accepted
+pub told_over : (w : Replaying) (read : ReplayRead) (v : Work) → is_too_large w.waves read.pair.original.design.net (length read.schedule.rows) ≡ false → Accepts (pair_of read.pair) → IsToldWork w.waves (pair_of read.pair) read.schedule v → IsWorkOver (Replay w) (IsReplayRead w read) v
+told_over w read v room accepts is =
+    done_over (Replay w) (IsReplayRead w read) (wave_names w.waves) (save_texts v.saves.items) v.text.items v (record { done = is.done; names_are = is.names_are; texts_are = refl; says = refl }) refl (λ t e. cc)
+    (λ held all. replayed_outcome w held (pair_of read.pair) all.holds read.schedule all.schedule_read (save_texts v.saves.items) v.text.items room accepts is.told)
+    (λ held all p e. absurd cc)

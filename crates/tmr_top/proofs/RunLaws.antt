@@ -7,7 +7,7 @@ use Rattle.tmr_top.specs.declared.status.Status.TheVariants as status
 use Rattle.tmr_words.specs.Line.{Command}
 use Rattle.tmr_top.specs.Changes.{NoneFailed}
 use Rattle.tmr_texts.specs.Texts.{usage_text, memory_text}
-use Rattle.tmr_top.specs.Works.{LeavesLine}
+use Rattle.tmr_top.specs.Private.Works.{LeavesLine}
 use Rattle.tmr_top.specs.Runs.{Acts, Ends, Prints, Ran}
 use Rattle.tmr_top.proofs.ChangeLaws.{changes_none}
 

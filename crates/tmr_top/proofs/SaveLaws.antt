@@ -1,20 +1,19 @@
 -- Saves, one after the other.
 use Rattle.std.proofs.Common.{◌≡◌, ℕ, ◌<◌, ◌+◌, zero, suc, List, [], ◌∷◌, ◌++◌, length, take, drop, get_or, Option, Some, None, refl, sym, ap, subst, ◌∙◌, arith, drop-cons, add-one}
-use Rattle.std.specs.Prelude.{Vec, option_map}
+use Rattle.std.specs.Prelude.{option_map}
 use Rattle.std.specs.Borrow.{Bor}
 use Rattle.std.specs.FinMap.{insert}
-use Rattle.std.specs.declared.alloc.Global.{Global}
 use Rattle.std.proofs.lemmas.List.{take-append-drop, length-map}
 use Rattle.tmr_outside.specs.Contents.{Contents, SameElsewhere}
 use Rattle.tmr_outside.specs.Counts.{RoseOf, NoneFell, NoneRose, OthersStay}
 use Rattle.tmr_outside.specs.Seen.{FilesSeen, IsTold}
 use Rattle.tmr_top.specs.declared.saves.SaveStop.{SaveStop}
 use Rattle.tmr_top.specs.declared.saves.SaveStop.TheVariants as stop
-use Rattle.tmr_words.specs.FileWords.{read_words}
-use Rattle.tmr_top.specs.FileWords.{texts_in}
-use Rattle.tmr_top.specs.Changes.{IsNone, HeldElsewhere, ChangesOnly, SaveFailed, NoneFailed}
+use Rattle.tmr_top.specs.Changes.{IsNone, HeldElsewhere, ChangesOnly}
 use Rattle.tmr_top.specs.Saves.{with_texts}
-use Rattle.tmr_top.specs.Saved.{after_saves, Saves, StopsAt, IsSaveStop}
+use Rattle.tmr_top.specs.declared.decision.Save.{Save}
+use Rattle.tmr_top.specs.Private.Works.{save_names, save_texts}
+use Rattle.tmr_top.specs.Private.Saved.{after_saves, Saves, StopsAt, IsSaveStop}
 use Rattle.tmr_top.proofs.ChangeLaws.{none_rose, save_change, held_elsewhere, rose_since, save_failed_since, none_since, told_as_before, changes_then, changes_more, none_at, held_told}
 
 -- ---- one save
@@ -128,47 +127,47 @@ one_change names i d a b c h before one =
 
 -- ---- the loop
 
-name_at : (names : List (Bor (List ℕ))) (i : ℕ) (d : Bor (List ℕ)) → (get_or names i d).now ≡ get_or (read_words names) i d.now
+name_at : (saves : List Save) (i : ℕ) (d : Save) → (get_or saves i d).name.now ≡ get_or (save_names saves) i d.name.now
 name_at [] i d = refl
-name_at (n ∷ names) zero d = refl
-name_at (n ∷ names) (suc i) d = name_at names i d
+name_at (s ∷ saves) zero d = refl
+name_at (s ∷ saves) (suc i) d = name_at saves i d
 
-text_at : (texts : List (Vec ℕ Global)) (i : ℕ) (v : Vec ℕ Global) → (get_or texts i v).items ≡ get_or (texts_in texts) i v.items
-text_at [] i v = refl
-text_at (t ∷ texts) zero v = refl
-text_at (t ∷ texts) (suc i) v = text_at texts i v
+text_at : (saves : List Save) (i : ℕ) (d : Save) → (get_or saves i d).text.items ≡ get_or (save_texts saves) i d.text.items
+text_at [] i d = refl
+text_at (s ∷ saves) zero d = refl
+text_at (s ∷ saves) (suc i) d = text_at saves i d
 
-module _ (names : List (Bor (List ℕ))) (texts : List (Vec ℕ Global)) (i : ℕ) (d : Bor (List ℕ)) (v : Vec ℕ Global) (text : List ℕ) (a b c : FilesSeen) (within : i < length names) (many : length texts ≡ length names) (is : v ≡ get_or texts i v) (same : text ≡ v.items) (held : b.contents ≡ after_saves a.contents (take i (read_words names)) (texts_in texts)) (none : IsTold a → NoneRose a.save_count b.save_count) (before : ChangesOnly [] (read_words names) a b) where
-  in_names : i < length (read_words names)
-  in_names = let e = length-map names (λ (word : Bor (List ℕ)). word.now) in omega (arith, e, within)
+module _ (saves : List Save) (i : ℕ) (d : Save) (text : List ℕ) (a b c : FilesSeen) (within : i < length saves) (is : d ≡ get_or saves i d) (same : text ≡ d.text.items) (held : b.contents ≡ after_saves a.contents (take i (save_names saves)) (save_texts saves)) (none : IsTold a → NoneRose a.save_count b.save_count) (before : ChangesOnly [] (save_names saves) a b) where
+  in_names : i < length (save_names saves)
+  in_names = let e = length-map saves (λ (save : Save). save.name.now) in omega (arith, e, within)
 
-  in_texts : i < length (texts_in texts)
-  in_texts = let e = length-map texts (λ (text : Vec ℕ Global). text.items) in omega (arith, e, within, many)
+  in_texts : i < length (save_texts saves)
+  in_texts = let e = length-map saves (λ (save : Save). save.text.items) in omega (arith, e, within)
 
-  this_name : (get_or names i d).now ≡ get_or (read_words names) i d.now
-  this_name = name_at names i d
+  this_name : d.name.now ≡ get_or (save_names saves) i d.name.now
+  this_name = ap (λ (s : Save). s.name.now) is ∙ name_at saves i d
 
-  this_text : text ≡ get_or (texts_in texts) i v.items
-  this_text = same ∙ (ap (λ (w : Vec ℕ Global). w.items) is ∙ text_at texts i v)
+  this_text : text ≡ get_or (save_texts saves) i d.text.items
+  this_text = same ∙ (ap (λ (s : Save). s.text.items) is ∙ text_at saves i d)
 
   still : IsTold a → NoneRose a.load_count b.load_count
   still is name = before.loads_only is name tt
 
   told : IsTold a → IsTold b
-  told = held_told (read_words names) a.contents b.contents before.elsewhere
+  told = held_told (save_names saves) a.contents b.contents before.elsewhere
 
-  pub stop_in : (why : SaveStop) → IsSaveStop ((get_or names i d).now ∷ []) (text ∷ []) b c why → IsSaveStop (read_words names) (texts_in texts) a c why
-  stop_in why at = stop_later (read_words names) (texts_in texts) i d.now v.items a b c in_names in_texts held none before.saves still told why
-      (subst (λ (n : List ℕ). IsSaveStop (n ∷ []) (get_or (texts_in texts) i v.items ∷ []) b c why) this_name (subst (λ (t : List ℕ). IsSaveStop ((get_or names i d).now ∷ []) (t ∷ []) b c why) this_text at))
+  pub stop_in : (why : SaveStop) → IsSaveStop (d.name.now ∷ []) (text ∷ []) b c why → IsSaveStop (save_names saves) (save_texts saves) a c why
+  stop_in why at = stop_later (save_names saves) (save_texts saves) i d.name.now d.text.items a b c in_names in_texts held none before.saves still told why
+      (subst (λ (n : List ℕ). IsSaveStop (n ∷ []) (get_or (save_texts saves) i d.text.items ∷ []) b c why) this_name (subst (λ (t : List ℕ). IsSaveStop (d.name.now ∷ []) (t ∷ []) b c why) this_text at))
 
-  pub change_in : ChangesOnly [] ((get_or names i d).now ∷ []) b c → ChangesOnly [] (read_words names) a c
-  change_in at = one_change (read_words names) i d.now a b c in_names before (subst (λ (n : List ℕ). ChangesOnly [] (n ∷ []) b c) this_name at)
+  pub change_in : ChangesOnly [] (d.name.now ∷ []) b c → ChangesOnly [] (save_names saves) a c
+  change_in at = one_change (save_names saves) i d.name.now a b c in_names before (subst (λ (n : List ℕ). ChangesOnly [] (n ∷ []) b c) this_name at)
 
-  saves_here : Saves ((get_or names i d).now ∷ []) (text ∷ []) b c → Saves (get_or (read_words names) i d.now ∷ []) (get_or (texts_in texts) i v.items ∷ []) b c
-  saves_here at = subst (λ (n : List ℕ). Saves (n ∷ []) (get_or (texts_in texts) i v.items ∷ []) b c) this_name (subst (λ (t : List ℕ). Saves ((get_or names i d).now ∷ []) (t ∷ []) b c) this_text at)
+  saves_here : Saves (d.name.now ∷ []) (text ∷ []) b c → Saves (get_or (save_names saves) i d.name.now ∷ []) (get_or (save_texts saves) i d.text.items ∷ []) b c
+  saves_here at = subst (λ (n : List ℕ). Saves (n ∷ []) (get_or (save_texts saves) i d.text.items ∷ []) b c) this_name (subst (λ (t : List ℕ). Saves (d.name.now ∷ []) (t ∷ []) b c) this_text at)
 
-  pub held_in : Saves ((get_or names i d).now ∷ []) (text ∷ []) b c → c.contents ≡ after_saves a.contents (take (i + 1) (read_words names)) (texts_in texts)
-  held_in at = holds_more (read_words names) (texts_in texts) i d.now v.items a b c in_names in_texts held none before.saves still told (saves_here at)
+  pub held_in : Saves (d.name.now ∷ []) (text ∷ []) b c → c.contents ≡ after_saves a.contents (take (i + 1) (save_names saves)) (save_texts saves)
+  held_in at = holds_more (save_names saves) (save_texts saves) i d.name.now d.text.items a b c in_names in_texts held none before.saves still told (saves_here at)
 
-  pub none_in : Saves ((get_or names i d).now ∷ []) (text ∷ []) b c → IsTold a → NoneRose a.save_count c.save_count
-  none_in at = none_more (read_words names) (texts_in texts) i d.now v.items a b c in_names in_texts held none before.saves still told (saves_here at)
+  pub none_in : Saves (d.name.now ∷ []) (text ∷ []) b c → IsTold a → NoneRose a.save_count c.save_count
+  none_in at = none_more (save_names saves) (save_texts saves) i d.name.now d.text.items a b c in_names in_texts held none before.saves still told (saves_here at)

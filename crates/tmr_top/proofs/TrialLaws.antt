@@ -20,22 +20,15 @@ use Rattle.schedule_replay.specs.Schedule.{PlainSchedule}
 use Rattle.schedule_replay.proofs.Kept.{append_cases}
 use Rattle.schedule_replay.proofs.Quiet.{three_outputs}
 use Rattle.schedule_replay.proofs.Unharmed.{plain_unharmed}
-use Rattle.tmr_outside.specs.Contents.{Contents}
 use Rattle.tmr_trial.specs.Designs.{design_of}
 use Rattle.tmr_trial.specs.Schedules.{IsDrawnSchedule}
 use Rattle.tmr_trial.proofs.NodeLaws.{pins_few}
 use Rattle.tmr_trial.proofs.Valid.{count_is}
-use Rattle.tmr_top.specs.declared.decision.Work.{Work}
-use Rattle.tmr_top.specs.declared.decision.Verdict.TheVariants.{Done}
-use Rattle.tmr_top.specs.declared.trying.RunSums.{RunSums}
-use Rattle.tmr_top.specs.FileWords.{texts_in}
+use Rattle.tmr_top.specs.declared.commands.trial.RunSums.{RunSums}
 use Rattle.tmr_texts.specs.FormText.{form_numbers}
-use Rattle.tmr_words.specs.Line.{TryOut}
 use Rattle.tmr_words.specs.Trials.{Trial}
 use Rattle.tmr_top.specs.Tried.{AreSums, IsTried, trial_lines}
-use Rattle.tmr_top.specs.Trying.{IsRunnable, IsCalm}
-use Rattle.tmr_top.specs.Works.{IsWork}
-use Rattle.tmr_top.proofs.PairLaws.{outcome_work}
+use Rattle.tmr_top.specs.Private.Trying.{IsRunnable, IsCalm}
 
 -- ---- the design and its hardened form
 
@@ -165,10 +158,5 @@ tried_text t n h k minimal sums text drawn form is_minimal runs says = record {
   runs = subst (λ (m : Net). AreSums t.number m h k sums) drawn runs;
   says = says ∙ ap (λ (m : Net). trial_lines (form_numbers m 64 h k minimal) sums) drawn;
 }
-
-pub tried_work : (held : Contents) (t : Trial) (n h : Net) (k : PlainCert) (minimal : Bool) (sums : RunSums) (w : Work) → n ≡ design_of t.number t.nodes → HardenedForm n 64 h k → (IsTrue minimal ↔ IsMinimal n 64 (parts_of k)) → AreSums t.number n h k sums
-    → w.verdict ≡ Done → texts_in w.saves.items ≡ [] → w.text.items ≡ trial_lines (form_numbers n 64 h k minimal) sums → IsWork (TryOut t) held w
-tried_work held t n h k minimal sums w drawn form is_minimal runs done none says =
-    outcome_work (TryOut t) held w Done done (tried_text t n h k minimal sums w.text.items drawn form is_minimal runs says, none) (λ p is. cc)
 
 pub ruleset runs = (summed, form_fits)

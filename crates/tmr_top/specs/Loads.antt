@@ -1,8 +1,11 @@
 -- The files that a command loads, and those that it saves.
 use Rattle.std.specs.Prelude.{ℕ, List, [], ◌∷◌, ◌++◌, map, Option, Some, None}
-use Rattle.tmr_top.specs.declared.file_words.FileKind.{FileKind}
-use Rattle.tmr_top.specs.declared.file_words.FileKind.TheVariants.{Netlist, Bytes}
 use Rattle.tmr_words.specs.Line.{Command, Pair, Replaying, Validate, Harden, Flatten, Replay, Report, Guard, CheckGuard, WriteGraph, ReadGraph, TryOut, Help, Version}
+
+-- how a file is loaded
+pub data FileKind : Type 0 where
+  Netlist : FileKind
+  Bytes : FileKind
 
 -- a file to be loaded, and the most bytes that it may have; a netlist is read while it is loaded, and of other files the bytes are kept
 pub record Load : Type 0 where

@@ -12,7 +12,7 @@ use Rattle.tmr_trial.specs.Schedules.{IsDrawnSchedule}
 use Rattle.tmr_top.specs.declared.decision.Verdict.{Verdict}
 use Rattle.tmr_top.specs.declared.decision.Verdict.TheVariants.{Done, NotAccepted, Refused}
 use Rattle.tmr_texts.specs.declared.form_text.FormNumbers.{FormNumbers}
-use Rattle.tmr_top.specs.declared.trying.RunSums.{RunSums}
+use Rattle.tmr_top.specs.declared.commands.trial.RunSums.{RunSums}
 use Rattle.tmr_texts.specs.Texts.{joined, counted_text}
 use Rattle.tmr_texts.specs.FormText.{form_numbers, form_lines}
 use Rattle.tmr_words.specs.Trials.{Trial}

@@ -1,13 +1,10 @@
 //! What a command comes to before its text is put.
-ghost use Rattle.std.specs.Prelude.{◌≡◌, ◌≢◌, IfOk};
-ghost use Rattle.tmr_top.specs.Loaded.{IsStopped};
-ghost use Rattle.tmr_texts.specs.Texts.{refused_line};
+ghost use Rattle.std.specs.Prelude.{◌≡◌, ◌∷◌, [], IfOk};
+ghost use Rattle.tmr_top.specs.Private.Works.{IsDoneWith, IsDeniedWith};
 
 use crate::Status;
-use crate::loads::Stop;
 use std::alloc::Global;
 use tmr_base::OutOfMemory;
-use tmr_texts::{load_fault, refused};
 
 /// What a command comes to by what its files hold.
 #[derive(Clone, Copy, Debug, PartialEq, Eq, Drop)]
@@ -17,12 +14,19 @@ pub enum Verdict {
     Refused,
 }
 
-/// What the work of a command gives, where its files are loaded: the verdict, the texts to be saved
-/// where it is Done, in the order of the names, and the text to be printed.
+/// A text to be saved, and the name that it is saved under.
 #[derive(Drop)]
-pub struct Work {
+pub struct Save<'a> {
+    pub name: &'a str,
+    pub text: Vec<u8>,
+}
+
+/// What the work of a command gives, where its files are read: the verdict, the texts to be saved
+/// where it is Done, in this order, and the text to be printed.
+#[derive(Drop)]
+pub struct Work<'a> {
     pub verdict: Verdict,
-    pub saves: Vec<Vec<u8>>,
+    pub saves: Vec<Save<'a>>,
     pub text: Vec<u8>,
 }
 
@@ -33,40 +37,42 @@ pub struct Decision {
     pub text: Vec<u8>,
 }
 
-/// The decision where loads came to no end.
-pub fn stopped(alloc: Global, stop: Stop) -> Result<Decision, OutOfMemory>
-    ensures stopped { IfOk result (λ d. IsStopped stop.entry d.status d.text.items) }
-    ensures undone { IfOk result (λ d. d.status ≢ Status.Done) }
-    ensures agrees { IfOk result (λ d. d.status ≢ Status.NotAccepted) }
+/// The work that is done with this text, and saves nothing.
+pub fn telling<'a>(alloc: Global, text: Vec<u8>) -> Work<'a>
+    ensures { IsDoneWith [] [] text.items result }
 {
-    match stop {
-        Stop::Failed(name) => {
-            let text = load_fault(alloc, name)?;
-            Ok(Decision {
-                status: Status::Fault,
-                text,
-            })
-        }
-        Stop::TooLong(name) => {
-            let text = refused(alloc, name, b"too long")?;
-            Ok(Decision {
-                status: Status::Refused,
-                text,
-            })
-        }
-        Stop::Memory => Err(OutOfMemory),
+    Work {
+        verdict: Verdict::Done,
+        saves: Vec::new(alloc),
+        text,
     }
 }
 
-/// The work where a file is refused for this reason.
-pub fn refusal(alloc: Global, name: &str, reason: &[u8]) -> Result<Work, OutOfMemory>
-    ensures verdict { IfOk result (λ w. w.verdict ≡ Verdict.Refused) }
-    ensures text { IfOk result (λ w. w.text.items ≡ refused_line name.now reason.now) }
+/// The work that is done with this text, and saves these bytes under this name.
+pub fn saving<'a>(
+    alloc: Global,
+    name: &'a str,
+    bytes: Vec<u8>,
+    text: Vec<u8>,
+) -> Result<Work<'a>, OutOfMemory>
+    ensures { IfOk result (IsDoneWith (name.now ∷ []) (bytes.items ∷ []) text.items) }
 {
-    let text = refused(alloc, name, reason)?;
+    let mut saves = Vec::new(alloc);
+    saves.push(Save { name, text: bytes })?;
     Ok(Work {
-        verdict: Verdict::Refused,
-        saves: Vec::new(alloc),
+        verdict: Verdict::Done,
+        saves,
         text,
     })
+}
+
+/// The work where the files do not agree, with this text.
+pub fn denying<'a>(alloc: Global, text: Vec<u8>) -> Work<'a>
+    ensures { IsDeniedWith text.items result }
+{
+    Work {
+        verdict: Verdict::NotAccepted,
+        saves: Vec::new(alloc),
+        text,
+    }
 }

@@ -1,41 +1,21 @@
-//! Designs, read from the bytes of their files.
-ghost use Rattle.std.specs.Prelude.{◌≡◌, ◌≤◌, ◌+◌, ◌*◌, List, ℕ, IfOk, IfErr, MatchResult};
-ghost use Rattle.tmr_top.specs.FlatWithin.{IsFlatWithin};
+//! Designs, read from what was loaded of their files.
+ghost use Rattle.std.specs.Prelude.{◌≡◌, ◌≢◌, ◌≤◌, ◌∷◌, [], ℕ, IfOk, OnOk, Ok, Err};
 ghost use Rattle.flat_net.specs.Net.{IsDesign};
-ghost use Rattle.flat_net.specs.Net.{net_count, pin_total};
-ghost use Rattle.hierarchy.specs.Sizes.{row_total};
-ghost use Rattle.blif_text.specs.Reading.{reading, Reads};
-ghost use Rattle.tmr_top.specs.declared.designs.Unread.{Unread};
-ghost use Rattle.blif_writer.specs.NetOf.{IsFreeNetOf};
-ghost use Rattle.tmr_top.specs.Designs.{IsUnread};
-ghost use Rattle.tmr_top.specs.Unread.{OnRefused};
+ghost use Rattle.tmr_texts.specs.Reasons.{flat_reason as reason_of_flat};
+ghost use Rattle.tmr_texts.specs.Texts.{refused_line};
+ghost use Rattle.tmr_top.specs.Designs.{HoldsDesign};
+ghost use Rattle.tmr_top.specs.Loads.{original_file};
+ghost use Rattle.tmr_top.specs.Private.Opened.{netlist_file, HoldsText, IsRefusal, Gives, Opens};
+ghost use Rattle.tmr_top.specs.Private.Refused.{IsRefusedNetlist, IsWithin, Refuses, RefusesFor};
 
+use crate::loads::{Netlist, ORIGINAL_LIMIT, Stop, load_netlist};
 use blif_text::{Library, TextFault};
 use flat_net::{FlatNet, FreeNet};
 use hierarchy::{FlatFault, flatten_owned};
 use std::alloc::Global;
-use std::mem::replace;
 use tmr_base::OutOfMemory;
-use tmr_texts::{bad_line, flat_reason};
-
-/// Why no design was read.
-#[derive(Drop)]
-pub enum Unread {
-    /// The bytes give no design, for this reason.
-    Refused(Vec<u8>),
-    /// There was no memory.
-    Memory,
-}
-
-/// A refusal for this reason, unless there was no memory for it.
-fn refused(reason: Result<Vec<u8>, OutOfMemory>) -> Unread
-    ensures { MatchResult reason (λ text. result ≡ Unread.Refused text) (λ _. result ≡ Unread.Memory) }
-{
-    match reason {
-        Ok(text) => Unread::Refused(text),
-        Err(_) => Unread::Memory,
-    }
-}
+use tmr_outside::Files;
+use tmr_texts::{bad_line, flat_reason, refused};
 
 /// How many nodes a design has, which is a valid one.
 fn checked(n: &FlatNet) -> u32
@@ -53,51 +33,99 @@ pub fn checked_nodes(n: &FreeNet) -> u32
     checked(design)
 }
 
-/// The design of a library, where its flat text keeps the limit.
-#[tactic(auto, using(crate::proofs::DesignLaws::libraries))]
-fn design_of(alloc: Global, library: Library, limit: u64) -> Result<FreeNet, Unread>
-    requires { limit ≤ 1073741824 }
-    ensures read { (bytes : List ℕ) → reading bytes ≡ Ok library → IfOk result (λ flat. IsFreeNetOf bytes limit flat.design.net flat.free) }
-    ensures few { IfOk result (λ flat. 2 * (net_count flat.design.net + pin_total flat.design.net) ≤ limit) }
-    ensures rows { IfOk result (λ flat. row_total flat.design.net ≤ limit) }
-    ensures flat { IfOk result (λ flat. IsFlatWithin limit flat.design.net flat.free) }
-    ensures unread { (bytes : List ℕ) → reading bytes ≡ Ok library → IfErr result (OnRefused (IsUnread limit bytes)) }
+/// The refusal of a file for this reason.
+pub fn refuse<'a>(alloc: Global, name: &str, reason: &[u8]) -> Stop<'a>
+    ensures { Refuses (refused_line name.now reason.now) result }
 {
-    match flatten_owned(alloc, library, limit) {
-        Ok(flat) => Ok(flat),
-        Err(fault) => {
-            let reason = flat_reason(alloc, &fault);
-            drop(fault);
-            Err(refused(reason))
-        }
+    match refused(alloc, name, reason) {
+        Ok(line) => Stop::Refused(line),
+        Err(_) => Stop::Memory,
     }
 }
 
-/// What was read of a text, taken out of its place.
-fn taken(text: &mut Result<Library, TextFault>) -> Result<Library, TextFault>
-    ensures { result ≡ text.old }
+/// The refusal of a file for this reason, where there was memory for it.
+pub fn refuse_for<'a>(alloc: Global, name: &str, reason: Result<Vec<u8>, OutOfMemory>) -> Stop<'a>
+    ensures { RefusesFor name.now reason result }
 {
-    replace(text, Err(TextFault::Memory))
+    match reason {
+        Ok(reason) => refuse(alloc, name, &reason),
+        Err(_) => Stop::Memory,
+    }
 }
 
-/// The design that a text gives which was read so. What was read is taken out of its place, and its names become
-/// the design's.
-#[tactic(auto, using(crate::proofs::DesignLaws::texts))]
-pub fn read_design(
-    alloc: Global,
-    text: &mut Result<Library, TextFault>,
-    limit: u64,
-) -> Result<FreeNet, Unread>
-    requires { limit ≤ 1073741824 }
-    ensures read { (bytes : List ℕ) → Reads text.old (reading bytes) → IfOk result (λ flat. IsFreeNetOf bytes limit flat.design.net flat.free) }
-    ensures few { IfOk result (λ flat. 2 * (net_count flat.design.net + pin_total flat.design.net) ≤ limit) }
-    ensures rows { IfOk result (λ flat. row_total flat.design.net ≤ limit) }
-    ensures flat { IfOk result (λ flat. IsFlatWithin limit flat.design.net flat.free) }
-    ensures unread { (bytes : List ℕ) → Reads text.old (reading bytes) → IfErr result (OnRefused (IsUnread limit bytes)) }
+/// The reason of a fault, which is freed.
+fn reason_of(alloc: Global, fault: FlatFault) -> Result<Vec<u8>, OutOfMemory>
+    ensures reason { IfOk result (λ reason. reason.items ≡ reason_of_flat fault) }
+    ensures caused { OnOk result (fault ≢ FlatFault.Memory) }
 {
-    match taken(text) {
-        Ok(library) => design_of(alloc, library, limit),
-        Err(TextFault::Bad { line, kind }) => Err(refused(bad_line(alloc, line, kind))),
-        Err(TextFault::Memory) => Err(Unread::Memory),
+    let reason = flat_reason(alloc, &fault);
+    drop(fault);
+    reason
+}
+
+/// The design of a library, where its flat text keeps the limit.
+fn design_of<'a>(
+    alloc: Global,
+    name: &str,
+    library: Library,
+    limit: u64,
+) -> Result<FreeNet, Stop<'a>>
+    requires { limit ≤ 1073741824 }
+    ensures gives { Gives (λ held. HoldsText held (netlist_file name.now limit) (Ok library))
+        (λ n held. HoldsDesign held (netlist_file name.now limit) n.design.net n.free)
+        (IsRefusedNetlist (netlist_file name.now limit)) result }
+    ensures within { IfOk result (IsWithin limit) }
+{
+    match flatten_owned(alloc, library, limit) {
+        Ok(flat) => Ok(flat),
+        Err(fault) => Err(refuse_for(alloc, name, reason_of(alloc, fault))),
+    }
+}
+
+/// The refusal of a netlist that was read with this fault.
+fn refuse_text<'a>(alloc: Global, name: &str, fault: TextFault) -> Stop<'a>
+    ensures { (limit : ℕ) → IsRefusal (λ held. HoldsText held (netlist_file name.now limit) (Err fault))
+        (IsRefusedNetlist (netlist_file name.now limit)) result }
+{
+    match fault {
+        TextFault::Bad { line, kind } => refuse_for(alloc, name, bad_line(alloc, line, kind)),
+        TextFault::Memory => Stop::Memory,
+    }
+}
+
+/// The design that a netlist gives which was read so. Its names become the design's.
+pub fn read_netlist<'a>(
+    alloc: Global,
+    name: &str,
+    text: Netlist,
+    limit: u64,
+) -> Result<FreeNet, Stop<'a>>
+    requires { limit ≤ 1073741824 }
+    ensures gives { Gives (λ held. HoldsText held (netlist_file name.now limit) text)
+        (λ n held. HoldsDesign held (netlist_file name.now limit) n.design.net n.free)
+        (IsRefusedNetlist (netlist_file name.now limit)) result }
+    ensures within { IfOk result (IsWithin limit) }
+{
+    match text {
+        Ok(library) => design_of(alloc, name, library, limit),
+        Err(fault) => Err(refuse_text(alloc, name, fault)),
+    }
+}
+
+/// Loads and reads an original design.
+pub fn open_original<'a, F: Files>(
+    alloc: Global,
+    name: &'a str,
+    files: &mut F,
+) -> Result<FreeNet, Stop<'a>>
+    ensures opens { Opens (original_file name.now ∷ [])
+        (λ n held. HoldsDesign held (original_file name.now) n.design.net n.free)
+        (IsRefusedNetlist (original_file name.now))
+        (F.seen files.old) (F.seen files.new) (F.steady files.old) (F.steady files.new) result }
+    ensures within { IfOk result (IsWithin 8388608) }
+{
+    match load_netlist(alloc, name, ORIGINAL_LIMIT, files) {
+        Ok(text) => read_netlist(alloc, name, text, ORIGINAL_LIMIT),
+        Err(stop) => Err(stop),
     }
 }

@@ -1,27 +1,21 @@
 //! The runs of the program: from the words of the command line to a status and a printed text.
+//!
+//! Each command is one room under `commands`. Around the rooms stands what all share: files are loaded (`loads`), designs and pairs
+//! are opened (`designs`, `pair_files`, `pairs`), and the texts of a work are saved (`saves`, `conclusion`).
 #![tactic(auto)]
 
+mod commands;
+mod conclusion;
 mod decision;
 mod designs;
-mod duplicating;
-mod file_task;
-mod file_words;
-mod flattening;
-mod graph_reading;
-mod graphing;
-mod hardening;
-mod helping;
 mod loads;
-mod pair_task;
+mod pair_files;
+mod pairs;
 mod performing;
 mod program;
-mod replaying;
 mod saves;
 mod status;
 mod taker;
-mod trying;
-mod validation;
-mod waves;
 
 pub use program::run;
 pub use status::Status;

@@ -12,7 +12,7 @@ ghost use Rattle.tmr_top.specs.Saves.{Completes};
 ghost use Rattle.tmr_top.specs.Pairs.{Masked};
 ghost use Rattle.tmr_top.specs.HardenedFiles.{LeavesHardened, LeavesGuarded};
 ghost use Rattle.tmr_top.specs.Causes.{Where, OrMemory, SomeMissing, SomeLoadRose, SomeSaveRose, IsRefusable, Disagrees, Succeeds};
-ghost use Rattle.tmr_top.specs.Works.{LeavesLine};
+ghost use Rattle.tmr_top.specs.Private.Works.{LeavesLine};
 ghost use Rattle.tmr_top.specs.Runs.{Acts, Ends, Prints, Ran, Untouched};
 
 use crate::Status;

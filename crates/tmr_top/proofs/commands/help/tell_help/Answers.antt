@@ -1,0 +1,6 @@
+use Rattle.std.proofs.Common.{refl}
+use Rattle.tmr_top.proofs.RoomLaws.{done_over}
+use Rattle.tmr_top.proofs.commands.help.tell_help.Goals as goal
+
+pub returns : goal.returns
+returns c = done_over _ _ _ _ _ _ c.telling.ensures refl (λ t e. cc) (λ held g. (c.in_ok-text.ensures, refl)) (λ held g p e. absurd cc)

@@ -1,5 +1,0 @@
-use Rattle.tmr_top.proofs.GuardSize.{guarded_within}
-use Rattle.tmr_top.proofs.duplicating.text_keeps_limit.Goals as goal
-
-pub returns : goal.returns
-returns c = guarded_within _ _ c.checked_nodes-original.ensures.valid c.requires

@@ -1,0 +1,65 @@
+//! `guard ORIG GUARDED`: the guarded design of a design is saved.
+ghost use Rattle.std.specs.Prelude.{◌≤◌, IfOk};
+ghost use Rattle.blif_writer.specs.Length.{flat_length};
+ghost use Rattle.dwc.specs.Guard.{guard_net};
+ghost use Rattle.tmr_words.specs.Line.{Guard};
+ghost use Rattle.tmr_words.specs.FileWords.{guarding_in};
+ghost use Rattle.tmr_top.specs.Loads.{original_file};
+ghost use Rattle.tmr_top.specs.Designs.{HoldsDesign};
+ghost use Rattle.tmr_top.specs.Private.FlatWithin.{IsFlatWithin};
+ghost use Rattle.tmr_top.specs.Private.Refused.{IsWithin};
+ghost use Rattle.tmr_top.specs.Private.Rooms.{Performed};
+ghost use Rattle.tmr_top.specs.Private.Works.{IsWorkOver};
+
+use crate::conclusion::conclude;
+use crate::decision::{Decision, Work, saving};
+use crate::designs::{checked_nodes, open_original};
+use crate::loads::stopped;
+use blif_writer::write_flat;
+use dwc::guard;
+use flat_net::FreeNet;
+use std::alloc::Global;
+use tmr_base::OutOfMemory;
+use tmr_outside::Files;
+use tmr_texts::guard_made;
+use tmr_words::GuardWords;
+
+/// The flat text of the guarded design keeps the limit of its file, where that of the original keeps its own.
+fn text_keeps_limit(n: &FreeNet)
+    requires { IsFlatWithin 8388608 n.now.design.net n.now.free }
+    ensures { flat_length (guard_net n.now.design.net) ≤ 1073741824 }
+{
+    let _original = checked_nodes(n);
+}
+
+/// The text of the guarded design, and what is told of it.
+fn tell<'a>(
+    alloc: Global,
+    words: &GuardWords<'a>,
+    design: &FreeNet,
+) -> Result<Work<'a>, OutOfMemory>
+    requires { IsWithin 8388608 design.now }
+    ensures { IfOk result (IsWorkOver (Guard (guarding_in words.now))
+        (λ held. HoldsDesign held (original_file words.now.original.now) design.now.design.net design.now.free)) }
+{
+    text_keeps_limit(design);
+    let guarded = guard(alloc, design.net())?;
+    let bytes = write_flat(alloc, &guarded)?;
+    let text = guard_made(alloc, design.net(), &guarded, design.free_count())?;
+    saving(alloc, words.guarded, bytes, text)
+}
+
+/// The room of `guard`.
+pub fn perform<F: Files>(
+    alloc: Global,
+    words: &GuardWords,
+    files: &mut F,
+) -> Result<Decision, OutOfMemory>
+    ensures { Performed (Guard (guarding_in words.now)) (F.seen files.old) (F.seen files.new)
+        (F.steady files.old) (F.steady files.new) result }
+{
+    match open_original(alloc, words.original, files) {
+        Ok(design) => conclude(alloc, tell(alloc, words, &design), files),
+        Err(stop) => stopped(alloc, stop),
+    }
+}

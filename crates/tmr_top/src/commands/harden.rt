@@ -1,0 +1,117 @@
+//! `harden ORIG HARD CERT`: a hardened form of a design and its certificate are saved.
+ghost use Rattle.std.specs.Prelude.{◌≡◌, IfOk, count_by};
+ghost use Rattle.hardened_size.specs.Size.{AreShort, KeepLimits};
+ghost use Rattle.hardened_text.specs.Texts.{AreTexts};
+ghost use Rattle.tmr_texts.specs.FormText.{form_numbers, hardened_lines};
+ghost use Rattle.tmr_words.specs.Line.{Harden};
+ghost use Rattle.tmr_words.specs.FileWords.{hardening_in};
+ghost use Rattle.tmr_top.specs.Loads.{original_file};
+ghost use Rattle.tmr_top.specs.Designs.{HoldsDesign};
+ghost use Rattle.tmr_top.specs.Private.FlatWithin.{IsFlatWithin};
+ghost use Rattle.tmr_top.specs.Private.Refused.{IsWithin};
+ghost use Rattle.tmr_top.specs.Private.Rooms.{Performed};
+ghost use Rattle.tmr_top.specs.Private.Works.{IsWorkOver};
+
+use crate::conclusion::conclude;
+use crate::decision::{Decision, Save, Verdict, Work};
+use crate::designs::{checked_nodes, open_original};
+use crate::loads::stopped;
+use flat_net::FreeNet;
+use hardened_size::hardened_texts_are_short;
+use hardened_text::{HardenedTexts, harden_texts};
+use std::alloc::Global;
+use tmr_base::OutOfMemory;
+use tmr_outside::Files;
+use tmr_texts::{FormNumbers, greatest_of, hardened_lines};
+use tmr_words::HardenWords;
+
+/// What is told of a hardened form of a design.
+fn form_text(
+    alloc: Global,
+    words: &HardenWords,
+    n: &FreeNet,
+    made: &HardenedTexts,
+) -> Result<Vec<u8>, OutOfMemory>
+    ensures { (a : AreTexts words.now.form n.now words.now.size words.now.version words.now.most made.now) → IfOk result (λ text. text.items ≡ hardened_lines
+        (form_numbers n.now.design.net words.now.size a.pair.net.design.net a.pair.cert made.now.minimal)
+        a.pair.cert.version (count_by (λ bit. bit) n.now.free)) }
+{
+    let numbers = FormNumbers {
+        nodes: n.net().node_count(),
+        hardened_nodes: made.nodes,
+        partitions: made.partitions,
+        cost: made.cost,
+        plain: made.plain,
+        minimal: made.minimal,
+        voters: made.voters,
+        depth: greatest_of(&made.depths),
+    };
+    hardened_lines(alloc, &numbers, words.version, n.free_count())
+}
+
+/// Both texts of a hardened form are short beside the flat text of its original, and keep the limits of their files where that keeps
+/// its own.
+fn texts_keep_limits(words: &HardenWords, n: &FreeNet, made: &HardenedTexts)
+    requires { IsFlatWithin 8388608 n.now.design.net n.now.free }
+    ensures limits { (a : AreTexts words.now.form n.now words.now.size words.now.version words.now.most made.now) → KeepLimits n.now.design.net a.pair.net.design.net a.pair.cert }
+    ensures short { (a : AreTexts words.now.form n.now words.now.size words.now.version words.now.most made.now) → AreShort n.now.design.net a.pair.net.design.net a.pair.cert }
+{
+    hardened_texts_are_short();
+    let _original = checked_nodes(n);
+}
+
+/// The texts of a hardened form, and what is told of it.
+fn tell_form<'a>(
+    alloc: Global,
+    words: &HardenWords<'a>,
+    n: &FreeNet,
+    made: HardenedTexts,
+) -> Result<Work<'a>, OutOfMemory>
+    requires made { AreTexts words.now.form n.now words.now.size words.now.version words.now.most made }
+    requires within { IsWithin 8388608 n.now }
+    ensures { IfOk result (IsWorkOver (Harden (hardening_in words.now))
+        (λ held. HoldsDesign held (original_file words.now.original.now) n.now.design.net n.now.free)) }
+{
+    texts_keep_limits(words, n, &made);
+    let text = form_text(alloc, words, n, &made)?;
+    let mut saves = Vec::new(alloc);
+    saves.push(Save {
+        name: words.hardened,
+        text: made.design,
+    })?;
+    saves.push(Save {
+        name: words.certificate,
+        text: made.certificate,
+    })?;
+    Ok(Work {
+        verdict: Verdict::Done,
+        saves,
+        text,
+    })
+}
+
+/// A hardened form of a design.
+#[tactic(auto, using(crate::proofs::HardenLaws::versions))]
+fn tell<'a>(alloc: Global, words: &HardenWords<'a>, n: &FreeNet) -> Result<Work<'a>, OutOfMemory>
+    requires { IsWithin 8388608 n.now }
+    ensures { IfOk result (IsWorkOver (Harden (hardening_in words.now))
+        (λ held. HoldsDesign held (original_file words.now.original.now) n.now.design.net n.now.free)) }
+{
+    let made = harden_texts(alloc, n, words.form, words.size, words.version, words.most)?;
+    tell_form(alloc, words, n, made)
+}
+
+/// The room of `harden`.
+pub fn perform<F: Files>(
+    alloc: Global,
+    words: &HardenWords,
+    files: &mut F,
+) -> Result<Decision, OutOfMemory>
+    ensures { Performed (Harden (hardening_in words.now)) (F.seen files.old) (F.seen files.new)
+        (F.steady files.old) (F.steady files.new) result }
+{
+    match open_original(alloc, words.original, files) {
+        Ok(design) => conclude(alloc, tell(alloc, words, &design), files),
+        Err(stop) => stopped(alloc, stop),
+    }
+}
