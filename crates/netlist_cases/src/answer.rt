@@ -46,8 +46,6 @@ fn design_answer(alloc: Global, texts: &Texts, verb: &str, rest: &str) -> Result
             hardenings::answer(alloc, texts, verb, rest)
         }
         "cert" | "certheads" | "check" | "exposure" | "explain" | "least" | "picture" => {
-        "harden_free" | "harden_deep" | "sweep" => { hardenings::answer(alloc, texts, verb, rest) }
-        "cert" | "certheads" | "check" | "exposure" | "least" => {
             certificates::answer(alloc, texts, verb, rest)
         }
         "certify" => finding::answer(alloc, texts, rest),

@@ -19,3 +19,5 @@ pub mod OutcomeLaws
 pub mod RunClauses
 pub mod LeaveLaws
 pub mod GuardLeaves
+pub mod CertifyLaws
+pub mod CertifyLeaves

@@ -5,10 +5,18 @@ use Rattle.tmr_outside.specs.Contents.{Contents}
 use Rattle.tmr_top.specs.declared.decision.Verdict.{Verdict}
 use Rattle.tmr_top.specs.declared.decision.Verdict.TheVariants.{Done, NotAccepted, Refused}
 use Rattle.tmr_words.specs.Line.{Command, Pair, Hardening, Flattening, Replaying, Guarding, Graphing, Validate, Harden, Flatten, Replay, Report, Guard, CheckGuard, WriteGraph, ReadGraph, TryOut, Help, Version}
+use Rattle.tmr_words.specs.Line.{Certifying, Sweeping, Campaigning, Picturing, Certify, Exposure, Sweep, Explain, Campaign, Picture}
 use Rattle.tmr_top.specs.Loads.{original_file, hardened_file}
-use Rattle.tmr_top.specs.Pairs.{ReadPair, Accepts}
+use Rattle.tmr_top.specs.Pairs.{ReadPair, HoldsPair, Accepts}
 use Rattle.tmr_top.specs.Replayed.{Replayed, ReadFiles, IsReplayDenied, IsReplayRefused, is_too_large}
-use Rattle.tmr_top.specs.Validated.{Validated}
+use Rattle.tmr_top.specs.ByWords.{is_decided}
+use Rattle.tmr_top.specs.Validated.{Validated, IsOriginalUnread, IsHardenedUnread}
+use Rattle.tmr_top.specs.Certified.{Certified, certified_pair, HeldDesigns}
+use Rattle.tmr_top.specs.Exposed.{Exposed}
+use Rattle.tmr_top.specs.Swept.{SweptOver}
+use Rattle.tmr_top.specs.Explained.{Explained, IsExplained}
+use Rattle.tmr_top.specs.Campaigned.{Campaigned}
+use Rattle.tmr_top.specs.Pictured.{Pictured}
 use Rattle.tmr_top.specs.Hardened.{Hardened}
 use Rattle.tmr_top.specs.Flattened.{Flattened}
 use Rattle.tmr_top.specs.Reported.{Reported}
@@ -170,16 +178,111 @@ one_graphed g held NotAccepted w s t x y one other = absurd one
 one_graphed g held Done NotAccepted s t x y one other = absurd other
 one_graphed g held Refused NotAccepted s t x y one other = absurd other
 
-pub one_verdict : (c : Command) (held : Contents) (v w : Verdict) (s t : List (List ℕ)) (x y : List ℕ) → Outcome c held v s x → Outcome c held w t y → v ≡ w
-one_verdict (Validate p) held v w s t x y one other = one_validated p held v w s t x y one other
-one_verdict (Harden h) held v w s t x y one other = one_hardened h held v w s t x y one other
-one_verdict (Flatten f) held v w s t x y one other = one_flattened f held v w s t x y one other
-one_verdict (Replay r) held v w s t x y one other = one_replayed r held v w s t x y one other
-one_verdict (Report p) held v w s t x y one other = one_reported p held v w s t x y one other
-one_verdict (Guard g) held v w s t x y one other = one_guarded g held v w s t x y one other
-one_verdict (CheckGuard g) held v w s t x y one other = one_checked g held v w s t x y one other
-one_verdict (TryOut q) held v w s t x y one other = one_tried q v w s t x y one other
-one_verdict (Help topic) held v w s t x y one other = one_told (help_text topic) v w s t x y one other
-one_verdict Version held v w s t x y one other = one_told version_text v w s t x y one other
-one_verdict (WriteGraph g) held v w s t x y one other = one_graphed g held v w s t x y one other
-one_verdict (ReadGraph g) held v w s t x y one other = one_graph_read g held v w s t x y one other
+one_exposed : (p : Pair) (held : Contents) (v w : Verdict) (s t : List (List ℕ)) (x y : List ℕ) → Exposed p held v s x → Exposed p held w t y → v ≡ w
+one_exposed p held Done Done s t x y one other = refl
+one_exposed p held NotAccepted NotAccepted s t x y one other = refl
+one_exposed p held Refused Refused s t x y one other = refl
+one_exposed p held Done NotAccepted s t x y one other = absurd (agrees held p one.0.pair y one.0.holds one.0.accepts other)
+one_exposed p held NotAccepted Done s t x y one other = absurd (agrees held p other.0.pair x other.0.holds other.0.accepts one)
+one_exposed p held Done Refused s t x y one other = absurd (unread_pair held p y one.0.pair other one.0.holds)
+one_exposed p held Refused Done s t x y one other = absurd (unread_pair held p x other.0.pair one other.0.holds)
+one_exposed p held NotAccepted Refused s t x y one other = absurd (unread_pair held p y one.pair other one.holds)
+one_exposed p held Refused NotAccepted s t x y one other = absurd (unread_pair held p x other.pair one other.holds)
+
+one_swept : (q : Sweeping) (held : Contents) (v w : Verdict) (s t : List (List ℕ)) (x y : List ℕ) → SweptOver q held v s x → SweptOver q held w t y → v ≡ w
+one_swept q held Done Done s t x y one other = refl
+one_swept q held Refused Refused s t x y one other = refl
+one_swept q held Done Refused s t x y one other = absurd (design_or_none held (original_file q.original) one.0.design.design.net one.0.design.free other.reason one.0.holds other.unread)
+one_swept q held Refused Done s t x y one other = absurd (design_or_none held (original_file q.original) other.0.design.design.net other.0.design.free one.reason other.0.holds one.unread)
+one_swept q held NotAccepted w s t x y one other = absurd one
+one_swept q held Done NotAccepted s t x y one other = absurd other
+one_swept q held Refused NotAccepted s t x y one other = absurd other
+
+-- a pair of which the rules hold has no failures to be told
+explained_agrees : (held : Contents) (p : Pair) (r : ReadPair) (text : List ℕ) → HoldsPair held p r → Accepts r → IsExplained p held text → ⊥
+explained_agrees held p r text holds accepts differs = differs.fails (subst Accepts (one_pair held p r differs.pair holds differs.holds) accepts)
+
+one_explained : (p : Pair) (held : Contents) (v w : Verdict) (s t : List (List ℕ)) (x y : List ℕ) → Explained p held v s x → Explained p held w t y → v ≡ w
+one_explained p held Done Done s t x y one other = refl
+one_explained p held NotAccepted NotAccepted s t x y one other = refl
+one_explained p held Refused Refused s t x y one other = refl
+one_explained p held Done NotAccepted s t x y one other = absurd (explained_agrees held p one.0.pair y one.0.holds one.0.accepts other)
+one_explained p held NotAccepted Done s t x y one other = absurd (explained_agrees held p other.0.pair x other.0.holds other.0.accepts one)
+one_explained p held Done Refused s t x y one other = absurd (unread_pair held p y one.0.pair other one.0.holds)
+one_explained p held Refused Done s t x y one other = absurd (unread_pair held p x other.0.pair one other.0.holds)
+one_explained p held NotAccepted Refused s t x y one other = absurd (unread_pair held p y one.pair other one.holds)
+one_explained p held Refused NotAccepted s t x y one other = absurd (unread_pair held p x other.pair one other.holds)
+
+one_campaigned : (q : Campaigning) (held : Contents) (v w : Verdict) (s t : List (List ℕ)) (x y : List ℕ) → Campaigned q held v s x → Campaigned q held w t y → v ≡ w
+one_campaigned q held Done Done s t x y one other = refl
+one_campaigned q held NotAccepted NotAccepted s t x y one other = refl
+one_campaigned q held Refused Refused s t x y one other = refl
+one_campaigned q held Done NotAccepted s t x y one other = absurd (agrees held q.pair one.0.pair y one.0.holds one.0.accepts other)
+one_campaigned q held NotAccepted Done s t x y one other = absurd (agrees held q.pair other.0.pair x other.0.holds other.0.accepts one)
+one_campaigned q held Done Refused s t x y one other = absurd (unread_pair held q.pair y one.0.pair other one.0.holds)
+one_campaigned q held Refused Done s t x y one other = absurd (unread_pair held q.pair x other.0.pair one other.0.holds)
+one_campaigned q held NotAccepted Refused s t x y one other = absurd (unread_pair held q.pair y one.pair other one.holds)
+one_campaigned q held Refused NotAccepted s t x y one other = absurd (unread_pair held q.pair x other.pair one other.holds)
+
+one_pictured : (q : Picturing) (held : Contents) (v w : Verdict) (s t : List (List ℕ)) (x y : List ℕ) → Pictured q held v s x → Pictured q held w t y → v ≡ w
+one_pictured q held Done Done s t x y one other = refl
+one_pictured q held NotAccepted NotAccepted s t x y one other = refl
+one_pictured q held Refused Refused s t x y one other = refl
+one_pictured q held Done NotAccepted s t x y one other = absurd (agrees held q.pair one.pair y one.holds one.accepts other)
+one_pictured q held NotAccepted Done s t x y one other = absurd (agrees held q.pair other.pair x other.holds other.accepts one)
+one_pictured q held Done Refused s t x y one other = absurd (unread_pair held q.pair y one.pair other one.holds)
+one_pictured q held Refused Done s t x y one other = absurd (unread_pair held q.pair x other.pair one other.holds)
+one_pictured q held NotAccepted Refused s t x y one other = absurd (unread_pair held q.pair y one.pair other one.holds)
+one_pictured q held Refused NotAccepted s t x y one other = absurd (unread_pair held q.pair x other.pair one other.holds)
+
+-- two designs are read, or one of the two files is refused
+designs_or_refused : (q : Certifying) (held : Contents) (d : HeldDesigns q held) (y : List ℕ) → IsOriginalUnread (certified_pair q) held y ⊎ IsHardenedUnread (certified_pair q) held y → ⊥
+designs_or_refused q held d y (inl none) = design_or_none held (original_file q.original) d.original d.free none.reason d.original_read none.unread
+designs_or_refused q held d y (inr none) = design_or_none held (hardened_file q.hardened) d.hardened d.hardened_free none.reason d.hardened_read none.unread
+
+certified_or_refused : (q : Certifying) (held : Contents) (v : Verdict) (s t : List (List ℕ)) (x y : List ℕ) → Certified q held v s x → Certified q held Refused t y → v ≡ Refused
+certified_or_refused q held Done s t x y one other = absurd (designs_or_refused q held one.designs y other)
+certified_or_refused q held NotAccepted s t x y (inl one) other = absurd (designs_or_refused q held one.designs y other)
+certified_or_refused q held NotAccepted s t x y (inr one) other = absurd (designs_or_refused q held one.designs y other)
+certified_or_refused q held Refused s t x y one other = refl
+
+pub one_verdict : (c : Command) (held : Contents) (v w : Verdict) (s t : List (List ℕ)) (x y : List ℕ) → is_decided c ≡ true → Outcome c held v s x → Outcome c held w t y → v ≡ w
+one_verdict (Validate p) held v w s t x y decided one other = one_validated p held v w s t x y one other
+one_verdict (Harden h) held v w s t x y decided one other = one_hardened h held v w s t x y one other
+one_verdict (Flatten f) held v w s t x y decided one other = one_flattened f held v w s t x y one other
+one_verdict (Replay r) held v w s t x y decided one other = one_replayed r held v w s t x y one other
+one_verdict (Report p) held v w s t x y decided one other = one_reported p held v w s t x y one other
+one_verdict (Guard g) held v w s t x y decided one other = one_guarded g held v w s t x y one other
+one_verdict (CheckGuard g) held v w s t x y decided one other = one_checked g held v w s t x y one other
+one_verdict (TryOut q) held v w s t x y decided one other = one_tried q v w s t x y one other
+one_verdict (Help topic) held v w s t x y decided one other = one_told (help_text topic) v w s t x y one other
+one_verdict Version held v w s t x y decided one other = one_told version_text v w s t x y one other
+one_verdict (WriteGraph g) held v w s t x y decided one other = one_graphed g held v w s t x y one other
+one_verdict (ReadGraph g) held v w s t x y decided one other = one_graph_read g held v w s t x y one other
+one_verdict (Certify q) held v w s t x y decided one other = absurd cc
+one_verdict (Exposure p) held v w s t x y decided one other = one_exposed p held v w s t x y one other
+one_verdict (Sweep q) held v w s t x y decided one other = one_swept q held v w s t x y one other
+one_verdict (Explain p) held v w s t x y decided one other = one_explained p held v w s t x y one other
+one_verdict (Campaign q) held v w s t x y decided one other = one_campaigned q held v w s t x y one other
+one_verdict (Picture q) held v w s t x y decided one other = one_pictured q held v w s t x y one other
+
+-- a command that comes to a refusal comes to nothing else
+pub refused_or_not : (c : Command) (held : Contents) (v : Verdict) (s t : List (List ℕ)) (x y : List ℕ) → Outcome c held v s x → Outcome c held Refused t y → v ≡ Refused
+refused_or_not (Validate p) held v s t x y one other = one_verdict (Validate p) held v Refused s t x y refl one other
+refused_or_not (Harden h) held v s t x y one other = one_verdict (Harden h) held v Refused s t x y refl one other
+refused_or_not (Flatten f) held v s t x y one other = one_verdict (Flatten f) held v Refused s t x y refl one other
+refused_or_not (Replay r) held v s t x y one other = one_verdict (Replay r) held v Refused s t x y refl one other
+refused_or_not (Report p) held v s t x y one other = one_verdict (Report p) held v Refused s t x y refl one other
+refused_or_not (Guard g) held v s t x y one other = one_verdict (Guard g) held v Refused s t x y refl one other
+refused_or_not (CheckGuard g) held v s t x y one other = one_verdict (CheckGuard g) held v Refused s t x y refl one other
+refused_or_not (TryOut q) held v s t x y one other = one_verdict (TryOut q) held v Refused s t x y refl one other
+refused_or_not (Help topic) held v s t x y one other = one_verdict (Help topic) held v Refused s t x y refl one other
+refused_or_not Version held v s t x y one other = one_verdict Version held v Refused s t x y refl one other
+refused_or_not (WriteGraph g) held v s t x y one other = one_verdict (WriteGraph g) held v Refused s t x y refl one other
+refused_or_not (ReadGraph g) held v s t x y one other = one_verdict (ReadGraph g) held v Refused s t x y refl one other
+refused_or_not (Exposure p) held v s t x y one other = one_verdict (Exposure p) held v Refused s t x y refl one other
+refused_or_not (Sweep q) held v s t x y one other = one_verdict (Sweep q) held v Refused s t x y refl one other
+refused_or_not (Explain p) held v s t x y one other = one_verdict (Explain p) held v Refused s t x y refl one other
+refused_or_not (Campaign q) held v s t x y one other = one_verdict (Campaign q) held v Refused s t x y refl one other
+refused_or_not (Picture q) held v s t x y one other = one_verdict (Picture q) held v Refused s t x y refl one other
+refused_or_not (Certify q) held v s t x y one other = certified_or_refused q held v s t x y one other

@@ -1,5 +1,5 @@
 -- When each status comes, from what a run saves and prints.
-use Rattle.std.proofs.Common.{◌≡◌, ◌≢◌, ◌⊎◌, ℕ, ◌<◌, ◌≤◌, List, [], ◌∷◌, length, Option, Some, None, inl, inr, refl, sym, ap, subst, ◌∙◌, arith}
+use Rattle.std.proofs.Common.{◌≡◌, ◌≢◌, ◌⊎◌, ℕ, true, ◌<◌, ◌≤◌, List, [], ◌∷◌, length, Option, Some, None, inl, inr, refl, sym, ap, subst, ◌∙◌, arith}
 use Rattle.std.specs.Prelude.{IfSome, IsSome, IsSomeAnd, codes}
 use Rattle.std.specs.FinMap.{get}
 use Rattle.tmr_outside.specs.Contents.{Contents}
@@ -17,7 +17,8 @@ use Rattle.tmr_top.specs.Causes.{Where, OrMemory, ComesTo, IsRefusable, Succeeds
 use Rattle.tmr_top.specs.Saves.{IsDone, Completes, IsBroken}
 use Rattle.tmr_texts.specs.Texts.{load_fault_line, save_fault_line, refused_line}
 use Rattle.tmr_top.specs.Runs.{Untouched, Says, SaysTooLong, SaysLoadFault, SaysSaveFault, SaysBroken, Performs, Acts, Ran}
-use Rattle.tmr_top.proofs.OutcomeLaws.{one_verdict}
+use Rattle.tmr_top.specs.ByWords.{is_decided}
+use Rattle.tmr_top.proofs.OutcomeLaws.{one_verdict, refused_or_not}
 use Rattle.tmr_top.proofs.RunLaws.{same_status}
 
 -- ---- files that are there, too long, or missing
@@ -80,8 +81,8 @@ too_long : (c : Command) (held : Contents) (text : List ℕ) → SaysTooLong c h
 too_long c held text says = long_of held (λ load. text ≡ refused_line load.name (codes "too long")) (loads_of c) says
 
 module _ (c : Command) (held : Contents) where
-  two_comes : (v w : Verdict) → ComesTo v c held → ComesTo w c held → v ≡ w
-  two_comes v w one other = one_verdict c held v w one.saved other.saved one.text other.text one.outcome other.outcome
+  two_comes : (v w : Verdict) → is_decided c ≡ true → ComesTo v c held → ComesTo w c held → v ≡ w
+  two_comes v w decided one other = one_verdict c held v w one.saved other.saved one.text other.text decided one.outcome other.outcome
 
   comes_not_long : (v : Verdict) → ComesTo v c held → OfOne (IsLong held) (loads_of c) → ⊥
   comes_not_long v comes long = none_long held (loads_of c) comes.fine long
@@ -91,7 +92,7 @@ module _ (c : Command) (held : Contents) where
 
   not_refusable : (v : Verdict) → v ≢ verdict.Refused → ComesTo v c held → IsRefusable c held → ⊥
   not_refusable v differs comes (inl long) = comes_not_long v comes long
-  not_refusable v differs comes (inr refused) = differs (two_comes v verdict.Refused comes refused)
+  not_refusable v differs comes (inr refused) = differs (refused_or_not c held v comes.saved refused.saved comes.text refused.text comes.outcome refused.outcome)
 
   refusable : (text : List ℕ) → SaysTooLong c held text ⊎ Says c held verdict.Refused text → IsRefusable c held
   refusable text (inl long) = inl (too_long c held text long)
@@ -250,26 +251,26 @@ module _ (old new : FilesSeen) (text : List ℕ) (rose : Type 0) (answered : Sta
   must_refuse status.Usage is same none bad = absurd is
   must_refuse status.Memory is same none bad = to_memory same
 
-  pub must_disagree : (d : Status) → Performs c old new d text → Same d → ¬ (SomeLoadRose c old new) → Disagrees c held → OrMemory answered status.NotAccepted
-  must_disagree status.Done is same none bad = absurd (let e = two_comes c held verdict.Done verdict.NotAccepted (is_done is) bad in cc)
-  must_disagree status.NotAccepted is same none bad = settle status.NotAccepted (λ e. cc) same
-  must_disagree status.Refused is same none bad = absurd (not_refusable c held verdict.NotAccepted (λ e. cc) bad (refusable c held text (is_refused is)))
-  must_disagree status.Fault (inl is) same none bad = absurd (none (load_rose c old new text is.1))
-  must_disagree status.Fault (inr is) same none bad = absurd (let e = two_comes c held verdict.Done verdict.NotAccepted (is_broken is.1) bad in cc)
-  must_disagree status.Usage is same none bad = absurd is
-  must_disagree status.Memory is same none bad = to_memory same
+  pub must_disagree : is_decided c ≡ true → (d : Status) → Performs c old new d text → Same d → ¬ (SomeLoadRose c old new) → Disagrees c held → OrMemory answered status.NotAccepted
+  must_disagree decided status.Done is same none bad = absurd (let e = two_comes c held verdict.Done verdict.NotAccepted decided (is_done is) bad in cc)
+  must_disagree decided status.NotAccepted is same none bad = settle status.NotAccepted (λ e. cc) same
+  must_disagree decided status.Refused is same none bad = absurd (not_refusable c held verdict.NotAccepted (λ e. cc) bad (refusable c held text (is_refused is)))
+  must_disagree decided status.Fault (inl is) same none bad = absurd (none (load_rose c old new text is.1))
+  must_disagree decided status.Fault (inr is) same none bad = absurd (let e = two_comes c held verdict.Done verdict.NotAccepted decided (is_broken is.1) bad in cc)
+  must_disagree decided status.Usage is same none bad = absurd is
+  must_disagree decided status.Memory is same none bad = to_memory same
 
-  pub must_succeed : (d : Status) → Performs c old new d text → Same d → (answered ≡ status.Fault → d ≡ status.Fault → ⊥) → (rose → ⊥) → Succeeds c held → OrMemory answered status.Done
-  must_succeed status.Done is (inl e) failed put good = inl e
-  must_succeed status.Done is (inr (inl m)) failed put good = inr m
-  must_succeed status.Done is (inr (inr risen)) failed put good = absurd (put risen.2)
-  must_succeed status.NotAccepted is same failed put good = absurd (let e = two_comes c held verdict.Done verdict.NotAccepted good (is_not_accepted is) in cc)
-  must_succeed status.Refused is same failed put good = absurd (not_refusable c held verdict.Done (λ e. cc) good (refusable c held text (is_refused is)))
-  must_succeed status.Fault is (inl e) failed put good = absurd (failed e refl)
-  must_succeed status.Fault is (inr (inl m)) failed put good = inr m
-  must_succeed status.Fault is (inr (inr risen)) failed put good = absurd (put risen.2)
-  must_succeed status.Usage is same failed put good = absurd is
-  must_succeed status.Memory is same failed put good = to_memory same
+  pub must_succeed : is_decided c ≡ true → (d : Status) → Performs c old new d text → Same d → (answered ≡ status.Fault → d ≡ status.Fault → ⊥) → (rose → ⊥) → Succeeds c held → OrMemory answered status.Done
+  must_succeed decided status.Done is (inl e) failed put good = inl e
+  must_succeed decided status.Done is (inr (inl m)) failed put good = inr m
+  must_succeed decided status.Done is (inr (inr risen)) failed put good = absurd (put risen.2)
+  must_succeed decided status.NotAccepted is same failed put good = absurd (let e = two_comes c held verdict.Done verdict.NotAccepted decided good (is_not_accepted is) in cc)
+  must_succeed decided status.Refused is same failed put good = absurd (not_refusable c held verdict.Done (λ e. cc) good (refusable c held text (is_refused is)))
+  must_succeed decided status.Fault is (inl e) failed put good = absurd (failed e refl)
+  must_succeed decided status.Fault is (inr (inl m)) failed put good = inr m
+  must_succeed decided status.Fault is (inr (inr risen)) failed put good = absurd (put risen.2)
+  must_succeed decided status.Usage is same failed put good = absurd is
+  must_succeed decided status.Memory is same failed put good = to_memory same
 
   -- in every other case
   pub must_be_done : (d : Status) → Performs c old new d text → Same d → (d ≡ status.Fault → ⊥) → (rose → ⊥) → ¬ (IsRefusable c held) → ¬ (Disagrees c held) → OrMemory answered status.Done
@@ -311,9 +312,9 @@ module _ (line : Option Command) (old new : FilesSeen) (out put : SinkSeen) (ans
   refused_only = over_both (λ c held. ¬ (SomeLoadRose c old new) → IsRefusable c held → OrMemory answered status.Refused)
       (λ c held is told acts. must_refuse old new run.text (Rose out.put_count put.put_count) answered held c told run.decided acts run.ends.same)
 
-  pub not_accepted_only : Where line old (λ c held. ¬ (SomeLoadRose c old new) → Disagrees c held → OrMemory answered status.NotAccepted)
-  not_accepted_only = over_both (λ c held. ¬ (SomeLoadRose c old new) → Disagrees c held → OrMemory answered status.NotAccepted)
-      (λ c held is told acts. must_disagree old new run.text (Rose out.put_count put.put_count) answered held c told run.decided acts run.ends.same)
+  pub not_accepted_only : Where line old (λ c held. is_decided c ≡ true → ¬ (SomeLoadRose c old new) → Disagrees c held → OrMemory answered status.NotAccepted)
+  not_accepted_only = over_both (λ c held. is_decided c ≡ true → ¬ (SomeLoadRose c old new) → Disagrees c held → OrMemory answered status.NotAccepted)
+      (λ c held is told acts decided. must_disagree old new run.text (Rose out.put_count put.put_count) answered held c told decided run.decided acts run.ends.same)
 
   no_fault : (c : Command) → ¬ (SomeLoadRose c old new) → ¬ (SomeSaveRose c old new) → Performs c old new run.decided run.text → run.decided ≡ status.Fault → ⊥
   no_fault c loads saves acts d = go (subst (λ (s : Status). Performs c old new s run.text) d acts)
@@ -326,23 +327,23 @@ module _ (line : Option Command) (old new : FilesSeen) (out put : SinkSeen) (ans
   otherwise = over_both (λ c held. ¬ (SomeLoadRose c old new) → ¬ (SomeSaveRose c old new) → ¬ (Rose out.put_count put.put_count) → ¬ (IsRefusable c held) → ¬ (Disagrees c held) → OrMemory answered status.Done)
       (λ c held is told acts loads saves puts fine agrees. must_be_done old new run.text (Rose out.put_count put.put_count) answered held c told run.decided acts run.ends.same (no_fault c loads saves acts) puts fine agrees)
 
-  pub complete : Where line old (λ c held. ¬ (SomeLoadRose c old new) → ¬ (SomeSaveRose c old new) → ¬ (Rose out.put_count put.put_count) → Succeeds c held → OrMemory answered status.Done)
-  complete = over_both (λ c held. ¬ (SomeLoadRose c old new) → ¬ (SomeSaveRose c old new) → ¬ (Rose out.put_count put.put_count) → Succeeds c held → OrMemory answered status.Done)
-      (λ c held is told acts loads saves puts good. must_succeed old new run.text (Rose out.put_count put.put_count) answered held c told run.decided acts run.ends.same (λ e d. no_fault c loads saves acts d) puts good)
+  pub complete : Where line old (λ c held. is_decided c ≡ true → ¬ (SomeLoadRose c old new) → ¬ (SomeSaveRose c old new) → ¬ (Rose out.put_count put.put_count) → Succeeds c held → OrMemory answered status.Done)
+  complete = over_both (λ c held. is_decided c ≡ true → ¬ (SomeLoadRose c old new) → ¬ (SomeSaveRose c old new) → ¬ (Rose out.put_count put.put_count) → Succeeds c held → OrMemory answered status.Done)
+      (λ c held is told acts decided loads saves puts good. must_succeed old new run.text (Rose out.put_count put.put_count) answered held c told decided run.decided acts run.ends.same (λ e d. no_fault c loads saves acts d) puts good)
 
   -- where a fault comes only of a file that is not there
-  pub complete_steady : (answered ≡ status.Fault → Where line old SomeMissing) → Where line old (λ c held. Succeeds c held → OrMemory answered status.Done)
-  complete_steady missing = over_both (λ c held. Succeeds c held → OrMemory answered status.Done)
-      (λ c held is told acts good. settled c held is told acts good run.decided acts run.ends.same)
+  pub complete_steady : (answered ≡ status.Fault → Where line old SomeMissing) → Where line old (λ c held. is_decided c ≡ true → Succeeds c held → OrMemory answered status.Done)
+  complete_steady missing = over_both (λ c held. is_decided c ≡ true → Succeeds c held → OrMemory answered status.Done)
+      (λ c held is told acts decided good. settled c held is told decided acts good run.decided acts run.ends.same)
     where
       at_fault : (c : Command) (held : Contents) → line ≡ Some c → old.contents ≡ Some held → Succeeds c held → answered ≡ status.Fault → ⊥
       at_fault c held is told good e = comes_not_missing c held verdict.Done good
           (subst (λ (o : Option Contents). IfSome o (λ h. SomeMissing c h)) told (subst (λ (l : Option Command). Where l old SomeMissing) is (missing e)))
 
-      settled : (c : Command) (held : Contents) → line ≡ Some c → old.contents ≡ Some held → Performs c old new run.decided run.text → Succeeds c held → (d : Status) → Performs c old new d run.text → (answered ≡ d) ⊎ (answered ≡ status.Memory) ⊎ ((answered ≡ status.Fault) × (d ≡ status.Done) × Rose out.put_count put.put_count) → OrMemory answered status.Done
-      settled c held is told acts good d at (inr (inl m)) = inr m
-      settled c held is told acts good d at (inr (inr risen)) = absurd (at_fault c held is told good risen.0)
-      settled c held is told acts good d at (inl e) = must_succeed old new run.text ⊥ answered held c told d at (inl e) (λ f same. at_fault c held is told good f) (λ never. never) good
+      settled : (c : Command) (held : Contents) → line ≡ Some c → old.contents ≡ Some held → is_decided c ≡ true → Performs c old new run.decided run.text → Succeeds c held → (d : Status) → Performs c old new d run.text → (answered ≡ d) ⊎ (answered ≡ status.Memory) ⊎ ((answered ≡ status.Fault) × (d ≡ status.Done) × Rose out.put_count put.put_count) → OrMemory answered status.Done
+      settled c held is told decided acts good d at (inr (inl m)) = inr m
+      settled c held is told decided acts good d at (inr (inr risen)) = absurd (at_fault c held is told good risen.0)
+      settled c held is told decided acts good d at (inl e) = must_succeed old new run.text ⊥ answered held c told decided d at (inl e) (λ f same. at_fault c held is told good f) (λ never. never) good
 
   pub missing_only : Where line old (λ c held. SomeMissing c held → OrMemory answered status.Fault)
   missing_only = over_both (λ c held. SomeMissing c held → OrMemory answered status.Fault)

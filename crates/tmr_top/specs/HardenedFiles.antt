@@ -1,14 +1,16 @@
--- What `harden` and `guard` leave in their files.
+-- What `harden`, `guard` and `certify` leave in their files.
 use Rattle.std.specs.Prelude.{◌≢◌, Bool, List}
 use Rattle.flat_net.specs.Net.{Net}
 use Rattle.certificate.specs.Cert.{PlainCert}
 use Rattle.triplicate.specs.Form.{BoundedForm}
 use Rattle.dwc.specs.Guard.{guard_net}
 use Rattle.tmr_outside.specs.Contents.{Contents}
-use Rattle.tmr_words.specs.Line.{Pair, Hardening, Guarding, Validate, CheckGuard}
+use Rattle.certifying.specs.Certified.{IsAccepted}
+use Rattle.tmr_words.specs.Line.{Pair, Hardening, Guarding, Certifying, Validate, CheckGuard}
 use Rattle.tmr_top.specs.Loads.{original_file, hardened_file, certificate_file}
 use Rattle.tmr_top.specs.Designs.{HoldsDesign}
 use Rattle.tmr_top.specs.Pairs.{HoldsCertificate}
+use Rattle.tmr_top.specs.Certified.{certified_pair, HeldDesigns}
 use Rattle.tmr_top.specs.Causes.{Succeeds}
 
 -- the same three files
@@ -38,3 +40,12 @@ pub record LeavesGuarded (w : Guarding) (held now : Contents) : Type 0 where
   pub marks : List Bool
   pub guarded_read : HoldsDesign now (hardened_file w.guarded) (guard_net original) marks
   pub checks : w.original ≢ w.guarded → Succeeds (CheckGuard w) now
+
+-- ORIG and HARD held two designs, and CERT now holds a certificate of them that the eight rules accept; `validate` of the three files comes
+-- to Done
+pub record LeavesCertified (w : Certifying) (held now : Contents) : Type 0 where
+  pub designs : HeldDesigns w held
+  pub certificate : PlainCert
+  pub accepted : IsAccepted designs.original designs.free designs.hardened designs.hardened_free w.version certificate
+  pub certificate_read : HoldsCertificate now (certificate_file w.certificate) designs.original designs.hardened certificate
+  pub validates : Succeeds (Validate (certified_pair w)) now

@@ -21,3 +21,9 @@ pub mod HardenedFiles
 pub mod Saves
 pub mod Runs
 pub mod Private
+pub mod Certified
+pub mod Exposed
+pub mod Swept
+pub mod Explained
+pub mod Campaigned
+pub mod Pictured

@@ -1,6 +1,7 @@
 -- The files that a command loads, and those that it saves.
 use Rattle.std.specs.Prelude.{ℕ, List, [], ◌∷◌, ◌++◌, map, Option, Some, None}
 use Rattle.tmr_words.specs.Line.{Command, Pair, Replaying, Validate, Harden, Flatten, Replay, Report, Guard, CheckGuard, WriteGraph, ReadGraph, TryOut, Help, Version}
+use Rattle.tmr_words.specs.Line.{Certify, Exposure, Sweep, Explain, Campaign, Picture}
 
 -- how a file is loaded
 pub data FileKind : Type 0 where
@@ -58,6 +59,12 @@ loads_of (CheckGuard w) = original_file w.original ∷ hardened_file w.guarded �
 loads_of (WriteGraph w) = original_file w.original ∷ []
 loads_of (ReadGraph w) = graph_file w.graph ∷ []
 loads_of (TryOut t) = []
+loads_of (Certify w) = original_file w.original ∷ hardened_file w.hardened ∷ []
+loads_of (Exposure p) = pair_files p
+loads_of (Sweep w) = original_file w.original ∷ []
+loads_of (Explain p) = pair_files p
+loads_of (Campaign w) = pair_files w.pair
+loads_of (Picture w) = pair_files w.pair
 loads_of (Help topic) = []
 loads_of Version = []
 
@@ -73,6 +80,12 @@ saves_of (CheckGuard w) = []
 saves_of (WriteGraph w) = w.graph ∷ []
 saves_of (ReadGraph w) = w.flat ∷ []
 saves_of (TryOut t) = []
+saves_of (Certify w) = w.certificate ∷ []
+saves_of (Exposure p) = []
+saves_of (Sweep w) = []
+saves_of (Explain p) = []
+saves_of (Campaign w) = []
+saves_of (Picture w) = w.picture ∷ []
 saves_of (Help topic) = []
 saves_of Version = []
 

@@ -3,6 +3,7 @@ use Rattle.std.specs.Prelude.{ℕ, List}
 use Rattle.tmr_outside.specs.Contents.{Contents}
 use Rattle.tmr_top.specs.declared.decision.Verdict.{Verdict}
 use Rattle.tmr_words.specs.Line.{Command, Validate, Harden, Flatten, Replay, Report, Guard, CheckGuard, WriteGraph, ReadGraph, TryOut, Help, Version}
+use Rattle.tmr_words.specs.Line.{Certify, Exposure, Sweep, Explain, Campaign, Picture}
 use Rattle.tmr_top.specs.Validated.{Validated}
 use Rattle.tmr_top.specs.Hardened.{Hardened}
 use Rattle.tmr_top.specs.Flattened.{Flattened}
@@ -12,6 +13,12 @@ use Rattle.tmr_top.specs.Guarded.{Guarded, GuardChecked}
 use Rattle.tmr_top.specs.Graphed.{Graphed}
 use Rattle.tmr_top.specs.GraphRead.{GraphRead}
 use Rattle.tmr_top.specs.Tried.{Tried}
+use Rattle.tmr_top.specs.Certified.{Certified}
+use Rattle.tmr_top.specs.Exposed.{Exposed}
+use Rattle.tmr_top.specs.Swept.{SweptOver}
+use Rattle.tmr_top.specs.Explained.{Explained}
+use Rattle.tmr_top.specs.Campaigned.{Campaigned}
+use Rattle.tmr_top.specs.Pictured.{Pictured}
 use Rattle.tmr_top.specs.Told.{IsHelped, IsVersion}
 
 -- The contents at entry, where every file to be loaded is there and is not too long, the status that is decided before the put, the
@@ -27,5 +34,11 @@ Outcome (CheckGuard w) held verdict saved text = GuardChecked w held verdict sav
 Outcome (WriteGraph w) held verdict saved text = Graphed w held verdict saved text
 Outcome (ReadGraph w) held verdict saved text = GraphRead w held verdict saved text
 Outcome (TryOut t) held verdict saved text = Tried t verdict saved text
+Outcome (Certify w) held verdict saved text = Certified w held verdict saved text
+Outcome (Exposure p) held verdict saved text = Exposed p held verdict saved text
+Outcome (Sweep w) held verdict saved text = SweptOver w held verdict saved text
+Outcome (Explain p) held verdict saved text = Explained p held verdict saved text
+Outcome (Campaign w) held verdict saved text = Campaigned w held verdict saved text
+Outcome (Picture w) held verdict saved text = Pictured w held verdict saved text
 Outcome (Help topic) held verdict saved text = IsHelped topic verdict saved text
 Outcome Version held verdict saved text = IsVersion verdict saved text

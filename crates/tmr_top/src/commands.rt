@@ -2,14 +2,20 @@
 //! `performing` matches the command once and calls its room. A room knows no other room, and what two rooms share stands beside
 //! `commands`: how files are opened (`designs`, `pairs`), and how texts are saved and the status is decided (`conclusion`).
 
+pub mod campaign;
+pub mod certify;
+pub mod explain;
+pub mod exposure;
 pub mod flatten;
 pub mod from_aag;
 pub mod guard;
 pub mod guarded;
 pub mod harden;
 pub mod help;
+pub mod picture;
 pub mod replay;
 pub mod report;
+pub mod sweep;
 pub mod to_aag;
 pub mod trial;
 pub mod validate;

@@ -1,6 +1,6 @@
 //! Pairs of designs: loaded, read in the order of the words, and checked.
-ghost use Rattle.std.specs.Prelude.{◌≡◌, ◌≤◌, ◌∷◌, [], length, IfOk, IfErr};
-ghost use Rattle.tmr_texts.specs.Texts.{not_accepted_line};
+ghost use Rattle.std.specs.Prelude.{◌≡◌, ◌≤◌, ◌∷◌, [], length, count_by, IfOk, IfErr};
+ghost use Rattle.tmr_texts.specs.Texts.{accepted_line, not_accepted_line};
 ghost use Rattle.tmr_words.specs.FileWords.{pair_in};
 ghost use Rattle.validator.specs.Place.{IsPlace};
 ghost use Rattle.certificate.specs.Cert.{Fits};
@@ -23,7 +23,7 @@ use certificate::{Certificate, read_cert};
 use std::alloc::Global;
 use tmr_base::OutOfMemory;
 use tmr_outside::Files;
-use tmr_texts::{cert_reason, not_accepted};
+use tmr_texts::{accepted, cert_reason, not_accepted};
 use tmr_words::PairWords;
 use validator::{Refusal, check_free};
 
@@ -204,6 +204,19 @@ pub fn check_pair(pair: &PairRead) -> Result<(), Refusal>
         Ok(()) => Ok(()),
         Err(refusal) => Err(refusal),
     }
+}
+
+/// What is told of a pair that is accepted.
+pub fn accepted_text(alloc: Global, pair: &PairRead) -> Result<Vec<u8>, OutOfMemory>
+    ensures { IfOk result (λ text. text.items ≡ accepted_line pair.now.certificate
+        (count_by (λ bit. bit) pair.now.original.free) (count_by (λ bit. bit) pair.now.hardened.free)) }
+{
+    accepted(
+        alloc,
+        &pair.certificate,
+        pair.original.free_count(),
+        pair.hardened.free_count(),
+    )
 }
 
 /// The work where a pair is not accepted.

@@ -1,16 +1,16 @@
 //! One run of the program.
-ghost use Rattle.std.specs.Prelude.{◌≡◌, ◌≢◌, ◌≤◌, ◌⊎◌, false, Some, None, IfOk, IfSome, IsSomeAnd, MatchResult};
+ghost use Rattle.std.specs.Prelude.{◌≡◌, ◌≢◌, ◌≤◌, ◌⊎◌, true, false, Some, None, IfOk, IfSome, IsSomeAnd, MatchResult};
 ghost use Rattle.tmr_outside.specs.Counts.{Rose, NoneRose};
 ghost use Rattle.tmr_outside.specs.Seen.{IsTold};
-ghost use Rattle.tmr_words.specs.Line.{Command, Pair, Hardening, Guarding, Validate, Harden, Guard, TryOut, meaning};
+ghost use Rattle.tmr_words.specs.Line.{Command, Pair, Hardening, Guarding, Certifying, Validate, Harden, Guard, Certify, TryOut, meaning};
 ghost use Rattle.tmr_words.specs.Trials.{Trial};
 ghost use Rattle.tmr_top.specs.Tried.{IsTried};
-ghost use Rattle.tmr_top.specs.ByWords.{compares};
+ghost use Rattle.tmr_top.specs.ByWords.{compares, is_decided};
 ghost use Rattle.tmr_top.specs.Loads.{loaded_names, saved_names};
 ghost use Rattle.tmr_top.specs.Changes.{ChangesOnly, NoneFailed};
 ghost use Rattle.tmr_top.specs.Saves.{Completes};
 ghost use Rattle.tmr_top.specs.Pairs.{Masked};
-ghost use Rattle.tmr_top.specs.HardenedFiles.{LeavesHardened, LeavesGuarded};
+ghost use Rattle.tmr_top.specs.HardenedFiles.{LeavesHardened, LeavesGuarded, LeavesCertified};
 ghost use Rattle.tmr_top.specs.Causes.{Where, OrMemory, SomeMissing, SomeLoadRose, SomeSaveRose, IsRefusable, Disagrees, Succeeds};
 ghost use Rattle.tmr_top.specs.Private.Works.{LeavesLine};
 ghost use Rattle.tmr_top.specs.Runs.{Acts, Ends, Prints, Ran, Untouched};
@@ -52,7 +52,7 @@ fn decide<F: Files>(alloc: Global, words: &[String], files: &mut F) -> Result<De
     match read_line(alloc, words) {
         Ok(Some(command)) => perform(alloc, &command, files),
         Ok(None) => {
-            let text = usage().as_bytes().to_vec(alloc)?;
+            let text = usage(alloc)?;
             Ok(Decision {
                 status: Status::Usage,
                 text,
@@ -122,11 +122,9 @@ fn decide_and_put<F: Files, S: Sink>(
 /// Runs the program once: reads the words (without the program's own name), loads the files, does
 /// the command, saves its texts, and puts its text.
 ///
-/// Seven commands save nothing: `validate ORIG HARD CERT`, `report ORIG HARD CERT`,
-/// `replay ORIG HARD CERT SCHED`, `guarded ORIG GUARDED`, `trial NUMBER NODES`, `help [COMMAND]` and
-/// `version`. The others save what they make: `harden ORIG HARD CERT` saves HARD and CERT, `flatten ORIG FLAT` saves FLAT,
-/// `guard ORIG GUARDED` saves GUARDED, `to-aag ORIG AAG` saves AAG, `from-aag AAG FLAT` saves FLAT,
-/// and `wave ORIG HARD CERT SCHED VCD` saves VCD.
+/// Most commands save nothing. These save what they make: `harden ORIG HARD CERT` saves HARD and CERT, `flatten ORIG FLAT`
+/// saves FLAT, `guard ORIG GUARDED` saves GUARDED, `to-aag ORIG AAG` saves AAG, `from-aag AAG FLAT` saves FLAT,
+/// `wave ORIG HARD CERT SCHED VCD` saves VCD, `certify ORIG HARD CERT` saves CERT, and `picture ORIG HARD CERT DOT` saves DOT.
 /// Where memory is short, the answer may be `Memory` in place of any other.
 pub fn run<F: Files, S: Sink>(alloc: Global, words: &[String], files: &mut F, out: &mut S) -> Status
     // The headline. Where contents are told and the words are `validate ORIG HARD CERT`, the answer
@@ -149,6 +147,13 @@ pub fn run<F: Files, S: Sink>(alloc: Global, words: &[String], files: &mut F, ou
     ensures guards { (w : Guarding) → meaning words.now ≡ Some (Guard w)
         → result ≡ Status.Done → IfSome (F.seen files.old).contents (λ held.
         IsSomeAnd (F.seen files.new).contents (LeavesGuarded w held)) }
+
+    // What `certify` leaves. Where contents are told, the answer Done says that CERT holds a certificate of the
+    // designs that ORIG and HARD hold, which the eight rules accept, and that `validate` of the three files
+    // comes to Done.
+    ensures certifies { (w : Certifying) → meaning words.now ≡ Some (Certify w)
+        → result ≡ Status.Done → IfSome (F.seen files.old).contents (λ held.
+        IsSomeAnd (F.seen files.new).contents (LeavesCertified w held)) }
 
     // What rests on the words alone, whatever the files tell. What `trial` prints is what it promises,
     // and only a command that compares files can find that they do not agree.
@@ -180,7 +185,7 @@ pub fn run<F: Files, S: Sink>(alloc: Global, words: &[String], files: &mut F, ou
         SomeMissing c held → OrMemory result Status.Fault) }
 
     // Where contents are told and no load failed, the three other answers come exactly by what the
-    // files hold.
+    // files hold. Of `certify` it is not promised which of Done and NotAccepted comes.
     ensures refused { result ≡ Status.Refused
         → Where (meaning words.now) (F.seen files.old) IsRefusable }
     ensures refused_only { Where (meaning words.now) (F.seen files.old) (λ c held.
@@ -189,12 +194,12 @@ pub fn run<F: Files, S: Sink>(alloc: Global, words: &[String], files: &mut F, ou
     ensures not_accepted { result ≡ Status.NotAccepted
         → Where (meaning words.now) (F.seen files.old) Disagrees }
     ensures not_accepted_only { Where (meaning words.now) (F.seen files.old) (λ c held.
-        ¬ (SomeLoadRose c (F.seen files.old) (F.seen files.new))
+        is_decided c ≡ true → ¬ (SomeLoadRose c (F.seen files.old) (F.seen files.new))
         → Disagrees c held → OrMemory result Status.NotAccepted) }
     ensures done { result ≡ Status.Done → Where (meaning words.now) (F.seen files.old)
         (λ c held. Completes c held (F.seen files.new).contents) }
     ensures complete { Where (meaning words.now) (F.seen files.old) (λ c held.
-        ¬ (SomeLoadRose c (F.seen files.old) (F.seen files.new))
+        is_decided c ≡ true → ¬ (SomeLoadRose c (F.seen files.old) (F.seen files.new))
         → ¬ (SomeSaveRose c (F.seen files.old) (F.seen files.new))
         → ¬ (Rose (S.seen out.old).put_count (S.seen out.new).put_count)
         → Succeeds c held → OrMemory result Status.Done) }
@@ -205,7 +210,7 @@ pub fn run<F: Files, S: Sink>(alloc: Global, words: &[String], files: &mut F, ou
         → ¬ (IsRefusable c held) → ¬ (Disagrees c held) → OrMemory result Status.Done) }
     ensures complete_steady { F.steady files.old → S.steady out.old
         → Where (meaning words.now) (F.seen files.old) (λ c held.
-        Succeeds c held → OrMemory result Status.Done) }
+        is_decided c ≡ true → Succeeds c held → OrMemory result Status.Done) }
 
     // What changes.
     ensures untouched { (result ≡ Status.Usage) ⊎ (result ≡ Status.Refused)

@@ -17,7 +17,7 @@ use tmr_words::Topic;
 fn help_bytes(alloc: Global, topic: Option<Topic>) -> Result<Vec<u8>, OutOfMemory>
     ensures { IfOk result (λ text. text.items ≡ text_of_help topic) }
 {
-    let text = help_text(topic).as_bytes().to_vec(alloc)?;
+    let text = help_text(alloc, topic)?;
     Ok(text)
 }
 

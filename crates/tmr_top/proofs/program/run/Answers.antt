@@ -1,8 +1,9 @@
 use Rattle.tmr_top.proofs.RunClauses.{usage, usage_only, fault, refused, refused_only, not_accepted, not_accepted_only, done, otherwise, complete, complete_steady, missing_only, untouched, load_failed}
 use Rattle.tmr_words.specs.Words.{texts}
-use Rattle.tmr_words.proofs.LineLaws.{two_names}
+use Rattle.tmr_words.proofs.LineLaws.{two_names, name_apart}
 use Rattle.tmr_top.proofs.LeaveLaws.{leaves}
 use Rattle.tmr_top.proofs.GuardLeaves.{guards}
+use Rattle.tmr_top.proofs.CertifyLeaves.{certifies}
 use Rattle.tmr_top.proofs.program.run.Goals as goal
 
 pub returns-clause-usage : goal.returns-clause-usage
@@ -52,3 +53,6 @@ returns-clause-hardens g c = λ w is e. leaves _ w (g.F.Files.seen c.args.files.
 
 pub returns-clause-guards : goal.returns-clause-guards
 returns-clause-guards g c = λ w is e. guards _ w (g.F.Files.seen c.args.files.now) (g.F.Files.seen c.decide_and_put.new.files) is (done _ _ _ _ _ _ c.decide_and_put.ensures.ran e)
+
+pub returns-clause-certifies : goal.returns-clause-certifies
+returns-clause-certifies g c = λ w is e. certifies _ w (g.F.Files.seen c.args.files.now) (g.F.Files.seen c.decide_and_put.new.files) is (name_apart (texts c.args.words.now) w is) (done _ _ _ _ _ _ c.decide_and_put.ensures.ran e)
