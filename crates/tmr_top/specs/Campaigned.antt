@@ -1,5 +1,5 @@
--- `campaign ORIG HARD CERT NUMBER CYCLES [near]`: what it comes to. It saves nothing.
-use Rattle.std.specs.Prelude.{◌≡◌, ℕ, Bool, true, false, List, []}
+-- `campaign ORIG HARD CERT NUMBER CYCLES`: what it comes to. It saves nothing.
+use Rattle.std.specs.Prelude.{◌≡◌, ℕ, List, []}
 use Rattle.campaigns.specs.Campaign.{IsCampaignText}
 use Rattle.tmr_outside.specs.Contents.{Contents}
 use Rattle.tmr_top.specs.declared.decision.Verdict.{Verdict}

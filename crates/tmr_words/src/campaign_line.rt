@@ -1,5 +1,5 @@
 //! What the words behind `campaign` mean.
-ghost use Rattle.std.specs.Prelude.{◌≡◌, ◌≤◌, ◌<◌, Bool, IfSome};
+ghost use Rattle.std.specs.Prelude.{◌≡◌, ◌≤◌, ◌<◌, IfSome};
 ghost use Rattle.std.specs.Option.{option_map};
 ghost use Rattle.tmr_words.specs.Campaigns.{cycles_number};
 ghost use Rattle.tmr_words.specs.Line.{campaign_over, campaigning_of};
@@ -34,10 +34,9 @@ fn campaign_over<'a>(
     pair: Option<PairWords<'a>>,
     number: &str,
     cycles: &str,
-    near: bool,
 ) -> Option<CampaignWords<'a>>
     ensures { option_map campaigning_in result
-        ≡ campaign_over (option_map pair_in pair.entry) number.now cycles.now near }
+        ≡ campaign_over (option_map pair_in pair.entry) number.now cycles.now }
 {
     match pair {
         None => None,
@@ -49,14 +48,13 @@ fn campaign_over<'a>(
                     pair,
                     number,
                     cycles,
-                    near,
                 }),
             },
         },
     }
 }
 
-/// The words of `campaign`, where there are five, or six of which the last is `near`, and they can be read.
+/// The words of `campaign`, where there are five and they can be read.
 #[tactic(auto, unfolding(crate::specs::Line::campaigning_of))]
 pub fn read_campaigning<'a>(plain: &[&'a str]) -> Option<CampaignWords<'a>>
     ensures { option_map campaigning_in result ≡ campaigning_of (read_texts plain.now) }
@@ -64,14 +62,7 @@ pub fn read_campaigning<'a>(plain: &[&'a str]) -> Option<CampaignWords<'a>>
     match plain {
         [original, hardened, certificate, number, cycles] => {
             let pair = pair_with(*original, *hardened, *certificate);
-            campaign_over(pair, *number, *cycles, false)
-        }
-        [original, hardened, certificate, number, cycles, near] => {
-            if *near != "near" {
-                return None;
-            }
-            let pair = pair_with(*original, *hardened, *certificate);
-            campaign_over(pair, *number, *cycles, true)
+            campaign_over(pair, *number, *cycles)
         }
         _ => None,
     }
