@@ -20,14 +20,6 @@ use flat_net::{FlatNet, nodes_of};
 use std::alloc::Global;
 use tmr_base::{CopyNo, NetId, OutOfMemory, PartId};
 
-/// The partition of a node that reads hardened node i, if there is one.
-fn reader_part(numbers: &[u32], readers: &[Option<u32>], i: usize) -> Option<u32> {
-    match readers.get(i) {
-        Some(Some(y)) => numbers.get(*y as usize).copied(),
-        _ => None,
-    }
-}
-
 /// The role of hardened node i with the number of its partition; none for a voter that is read by no copy.
 fn renumbered(numbers: &[u32], readers: &[Option<u32>], i: usize, role: Role) -> Option<Role>
     ensures { IfSome result (IsRenumbered numbers.now readers.now i role) }
