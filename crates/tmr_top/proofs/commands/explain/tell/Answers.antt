@@ -13,5 +13,5 @@ returns-in_ok-text-in-Err c = denied_over _ _ _ _ c.denying.ensures refl (λ t e
       pair = _;
       holds = holds;
       fails = λ accepts. c.in-Err.ensures.denies.fails (accepts _ _);
-      says = c.in_ok-text-in-Err.ensures;
+      says = c.in_ok-text-in-Err.ensures.explained;
     })
