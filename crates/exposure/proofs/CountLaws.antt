@@ -1,5 +1,5 @@
 -- Counts that grow node by node.
-use Rattle.std.proofs.Common.{◌≡◌, ◌≢◌, ℕ, ◌+◌, ◌-◌, ◌<◌, ◌≤◌, ◌⊎◌, inl, inr, Bool, true, false, cond, ◌&&◌, List, length, take, get_or, slice_get, slice_index, slice_set, Option, Some, refl, sym, ◌∙◌, ap, arith}
+use Rattle.std.proofs.Common.{◌≡◌, ◌≢◌, ℕ, ◌+◌, ◌-◌, ◌<◌, ◌≤◌, ◌⊎◌, inl, inr, Bool, true, false, cond, ◌&&◌, List, length, take, get_or, slice_get, slice_index, slice_set, Option, Some, sym, ◌∙◌, ap, arith}
 use Rattle.std.specs.Prelude.{◌==◌, count_by, replicate}
 use Rattle.std.proofs.lemmas.Bool.{cases_eq, eq-eqb, ne_eqb}
 use Rattle.std.proofs.lemmas.List.{get_or-set_same, get_or-set_other, get_or-replicate, length-set, length-replicate, length-take-le, take_all}
@@ -10,7 +10,7 @@ use Rattle.tmr_base.specs.Copies.{copy_number}
 use Rattle.flat_net.proofs.Slots.{slot_at}
 use Rattle.certificate.specs.declared.role.Role.{Role}
 use Rattle.certificate.specs.Cert.{PlainCert, role_of}
-use Rattle.exposure.specs.Counts.{role_part, role_copy, is_same_part, is_of, copy_count}
+use Rattle.exposure.specs.Counts.{role_part, role_copy, is_same_part, is_of}
 use Rattle.exposure.specs.Private.Left.{AreCountsOf}
 
 abbrev pub one_of : Bool → ℕ

@@ -1,6 +1,6 @@
 -- Allowed schedules, and nets that are counted.
-use Rattle.std.proofs.Common.{◌≡◌, ◌≢◌, ℕ, ◌+◌, ◌*◌, ◌<◌, ◌≤◌, ◌⊎◌, inl, inr, Bool, true, false, ◌&&◌, List, Option, Some, None, refl, sym, ap, ◌∙◌, subst, arith}
-use Rattle.std.specs.Prelude.{◌==◌, ◌↔◌, IsTrue, Contains}
+use Rattle.std.proofs.Common.{◌≡◌, ℕ, ◌+◌, ◌*◌, ◌<◌, ◌≤◌, ◌⊎◌, inl, inr, true, List, Option, Some, None, refl, sym, ap, ◌∙◌, subst, arith}
+use Rattle.std.specs.Prelude.{◌==◌, ◌↔◌, IsTrue}
 use Rattle.std.proofs.lemmas.Bool.{cases_lt, eqb-true, eq-eqb, and_parts, and_from}
 use Rattle.tmr_base.specs.declared.copies.CopyNo.{CopyNo}
 use Rattle.tmr_base.specs.declared.copies.CopyNo.TheVariants.{First, Second, Third}
@@ -8,11 +8,11 @@ use Rattle.tmr_base.specs.declared.ids.Upset.{Upset}
 use Rattle.tmr_base.specs.Copies.{copy_number}
 use Rattle.certificate.specs.declared.role.Role.{Role}
 use Rattle.certificate.specs.declared.role.Role.TheVariants.{Copy, Voter}
-use Rattle.certificate.specs.Cert.{PlainCert, IsCert, role_of, part_of, part_depth}
+use Rattle.certificate.specs.Cert.{PlainCert, IsCert, role_of, part_depth}
 use Rattle.flat_net.proofs.Slots.{slot_there, slot_below}
 use Rattle.certificate.specs.Schedules.{RoleIsIn, IsIn, Allowed}
 use Rattle.exposure.specs.Counts.{role_part, role_copy, is_same_part, is_of}
-use Rattle.exposure.specs.TooNear.{AreTooNear, NoneTooNear}
+use Rattle.exposure.specs.TooNear.{NoneTooNear}
 
 module _ (s : List Upset) (k : PlainCert) where
   pub none_where_allowed : Allowed s k → NoneTooNear s k

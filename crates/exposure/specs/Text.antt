@@ -5,7 +5,7 @@ use Rattle.std.specs.Fmt.{decimal}
 use Rattle.tmr_base.specs.declared.copies.CopyNo.TheVariants.{First, Second, Third}
 use Rattle.certificate.specs.Cert.{PlainCert, depth_of}
 use Rattle.certificate.specs.Text.{line_text}
-use Rattle.exposure.specs.Counts.{copy_count, near_of, near_in, near_inputs, near_total}
+use Rattle.exposure.specs.Counts.{copy_count, near_of, near_total}
 
 -- `copies N0 N1 N2 depth D near X`
 abbrev pub count_words : ℕ → ℕ → ℕ → ℕ → List (List ℕ)

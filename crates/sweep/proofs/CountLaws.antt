@@ -1,8 +1,8 @@
 -- Nets of a partition, counted block by block.
-use Rattle.std.proofs.Common.{◌≡◌, ◌≢◌, ℕ, zero, suc, ◌+◌, ◌*◌, ◌-◌, ◌<◌, ◌≤◌, ◌⊎◌, inl, inr, Bool, true, false, cond, eqb, ◌&&◌, List, [], ◌∷◌, ◌++◌, length, take, get_or, Option, Some, None, refl, sym, ap, ◌∙◌, arith, All}
+use Rattle.std.proofs.Common.{◌≡◌, ◌≢◌, ℕ, zero, suc, ◌+◌, ◌-◌, ◌<◌, ◌≤◌, ◌⊎◌, inl, inr, Bool, true, false, cond, eqb, ◌&&◌, List, [], ◌∷◌, ◌++◌, length, take, get_or, Option, Some, refl, sym, ap, ◌∙◌, arith, All}
 use Rattle.std.specs.Prelude.{◌==◌, count_by, slice_index, slice_set, replicate}
-use Rattle.std.specs.List.{flat_map, range_with_len, filter}
-use Rattle.std.proofs.lemmas.Bool.{cases_eq, cases_lt, eq-eqb, ne_eqb}
+use Rattle.std.specs.List.{flat_map, range_with_len}
+use Rattle.std.proofs.lemmas.Bool.{cases_eq, eq-eqb, ne_eqb}
 use Rattle.std.proofs.lemmas.List.{get_or-set_same, get_or-set_other, get_or-replicate, length-set, length-replicate}
 use Rattle.std.proofs.lemmas.List.Concat.{flat_map-append}
 use Rattle.std.proofs.lemmas.List.Elements.{All-filter}
@@ -11,10 +11,9 @@ use Rattle.std.proofs.lemmas.List.Sums.{sum_by-append, sum_by_more, count_by-le-
 use Rattle.tmr_base.specs.declared.copies.CopyNo.{CopyNo}
 use Rattle.tmr_base.specs.declared.copies.CopyNo.TheVariants.{First, Second, Third}
 use Rattle.tmr_base.specs.Copies.{copy_number}
-use Rattle.tmr_base.specs.Parts.{PlainParts}
 use Rattle.flat_net.specs.Net.{Net, net_count}
 use Rattle.certificate.specs.declared.role.Role.{Role}
-use Rattle.certificate.specs.declared.role.Role.TheVariants.{Copy, Voter}
+use Rattle.certificate.specs.declared.role.Role.TheVariants.{Copy}
 use Rattle.certificate.specs.Cert.{PlainCert, part_of}
 use Rattle.partitioner.specs.Below.{one_if}
 use Rattle.triplicate.specs.Blocks.{threefold, copies_of, voters_for, block, hardened_roles}

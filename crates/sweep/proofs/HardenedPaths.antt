@@ -1,9 +1,8 @@
 -- The paths of the hardened design are those of its original, where a voted pin counts one table more.
-use Rattle.std.proofs.Common.{◌≡◌, ℕ, ◌+◌, ◌-◌, ◌*◌, ◌<◌, ◌≤◌, ◌⊎◌, inl, inr, Bool, true, false, List, [], ◌∷◌, length, map, get_or, Option, Some, None, refl, sym, ap, ◌∙◌, subst, arith}
-use Rattle.std.specs.Prelude.{slice_index, slice_get, Contains, if◌then◌else◌}
-use Rattle.std.specs.List.{flat_map, range_with_len}
+use Rattle.std.proofs.Common.{◌≡◌, ℕ, ◌+◌, ◌-◌, ◌*◌, ◌<◌, ◌≤◌, ◌⊎◌, inl, inr, Bool, true, false, List, length, get_or, Option, Some, None, refl, sym, ap, ◌∙◌, subst, arith}
+use Rattle.std.specs.Prelude.{slice_index, Contains, if◌then◌else◌}
+use Rattle.std.specs.List.{flat_map}
 use Rattle.std.proofs.lemmas.Bool.{cases_lt}
-use Rattle.std.proofs.lemmas.List.{get_or_default}
 use Rattle.std.proofs.lemmas.Option.{get_or_from_slice_get, slice_get_within}
 use Rattle.tmr_base.specs.declared.copies.CopyNo.{CopyNo}
 use Rattle.tmr_base.specs.declared.copies.CopyNo.TheVariants.{First}
@@ -20,12 +19,12 @@ use Rattle.triplicate.specs.Blocks.{threefold}
 use Rattle.triplicate.specs.Voting.{ReadsNet}
 use Rattle.triplicate.specs.Private.Labels.{Labeling}
 use Rattle.triplicate.specs.Private.Numbers.{copy_net, voter_net}
-use Rattle.triplicate.specs.Private.Construction.{pin_net, node_copy, role_node, hardened_net, hardened_cert}
+use Rattle.triplicate.specs.Private.Construction.{pin_net, node_copy, hardened_net, hardened_cert}
 use Rattle.triplicate.specs.Private.Given.{IsGiven}
-use Rattle.triplicate.proofs.Lists.{copy_number_few, copy_numbered, threefold_at, length-threes, threes_at, InThrees, in_threes}
+use Rattle.triplicate.proofs.Lists.{copy_numbered, threefold_at, length-threes, threes_at, in_threes}
 use Rattle.triplicate.proofs.Numbering.{copy_net_input}
 use Rattle.triplicate.proofs.Tripled.{length-hardened_inputs, node_of_role, number_of, role_of_copy, role_of_input_copy}
-use Rattle.triplicate.proofs.Reading.{read_in_range, voted_role, unvoted_role, input_role}
+use Rattle.triplicate.proofs.Reading.{read_in_range, voted_role}
 use Rattle.triplicate.proofs.Formed.{copy_pin}
 use Rattle.triplicate.proofs.Named.{role_there}
 use Rattle.triplicate.proofs.Valid.{copy_below}

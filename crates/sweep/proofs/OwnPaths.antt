@@ -1,12 +1,12 @@
 -- Paths where no pin is voted are those of the design itself.
-use Rattle.std.proofs.Common.{◌≡◌, ℕ, ◌+◌, ◌-◌, ◌<◌, ◌≤◌, ◌⊎◌, inl, inr, Bool, false, List, [], ◌∷◌, length, get_or, Option, Some, None, refl, sym, ap, ◌∙◌, subst, arith}
-use Rattle.std.specs.Prelude.{slice_index, slice_get, Contains}
+use Rattle.std.proofs.Common.{◌≡◌, ℕ, ◌+◌, ◌-◌, ◌<◌, ◌≤◌, ◌⊎◌, inl, inr, false, List, [], ◌∷◌, length, get_or, Option, Some, None, refl, sym, ap, ◌∙◌, subst, arith}
+use Rattle.std.specs.Prelude.{slice_index, Contains}
 use Rattle.std.proofs.lemmas.List.{get_or_default}
-use Rattle.flat_net.specs.Net.{Net, Node, Table, Register, net_count, node_of, pins_at, table_pins, IsTable, IsRegister}
+use Rattle.flat_net.specs.Net.{Net, Node, Table, Register, node_of, pins_at, table_pins, IsTable, IsRegister}
 use Rattle.flat_net.proofs.Slots.{slot_within}
 use Rattle.feedback_cut.specs.Inner.{node_pins}
 use Rattle.partitioner.specs.Below.{one_if}
-use Rattle.sweep.specs.Levels.{register_pins, IsStart, Path, begins as path_begins, goes_on as path_goes_on, IsEnd, HasPath, AreLevels}
+use Rattle.sweep.specs.Levels.{register_pins, Path, begins as path_begins, goes_on as path_goes_on, IsEnd, HasPath, AreLevels}
 use Rattle.sweep.specs.Private.Reaching.{VotedPath, begins, goes_on, VotedEnd, at_output, at_register, AreVotedLevels}
 
 -- a net that a table reads

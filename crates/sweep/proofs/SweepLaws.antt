@@ -1,22 +1,22 @@
 -- What is told of one size, all sizes, and the lines.
-use Rattle.std.proofs.Common.{◌≡◌, ℕ, zero, suc, ◌+◌, ◌*◌, ◌-◌, ◌^◌, ◌<◌, ◌≤◌, ◌⊎◌, inl, inr, Bool, true, false, List, [], ◌∷◌, ◌++◌, length, map, drop, get_or, slice_get, Option, Some, None, refl, sym, ap, ◌∙◌, subst, append_assoc, add-one, drop-cons, arith, All}
+use Rattle.std.proofs.Common.{◌≡◌, ℕ, zero, suc, ◌+◌, ◌*◌, ◌-◌, ◌^◌, ◌<◌, ◌≤◌, ◌⊎◌, inl, inr, Bool, true, false, List, [], ◌∷◌, ◌++◌, length, map, drop, get_or, slice_get, Some, refl, sym, ap, ◌∙◌, subst, append_assoc, add-one, drop-cons, arith, All}
 use Rattle.std.specs.Prelude.{◌==◌, nat_eq, slice_index, if◌then◌else◌}
-use Rattle.std.specs.List.{flat_map, range_with_len, sum_by}
+use Rattle.std.specs.List.{flat_map}
 use Rattle.std.proofs.lemmas.Bool.{cases_lt}
 use Rattle.std.proofs.lemmas.List.{length-append}
 use Rattle.std.proofs.lemmas.Option.{get_or_from_slice_get, slice_get_within}
 use Rattle.std.proofs.Math.Nat.{pow-suc}
 use Rattle.tmr_base.specs.declared.copies.CopyNo.TheVariants.{First, Second, Third}
-use Rattle.flat_net.specs.Net.{Net, Design, IsValid, IsDesign}
-use Rattle.flat_net.specs.Free.{FreeDesign, AreMarks}
-use Rattle.certificate.specs.Cert.{PlainCert, IsCert, depth_of}
+use Rattle.flat_net.specs.Net.{Net, Design, IsDesign}
+use Rattle.flat_net.specs.Free.{FreeDesign}
+use Rattle.certificate.specs.Cert.{IsCert, depth_of}
 use Rattle.certificate.specs.Text.{line_text}
 use Rattle.triplicate.specs.declared.form.Form.{Form}
 use Rattle.triplicate.specs.Blocks.{hardened_roles}
 use Rattle.triplicate.specs.Form.{version_of}
 use Rattle.triplicate.specs.declared.planning.Plan.{Plan}
 use Rattle.triplicate.specs.Planned.{IsPlan, voted_in, cert_in, pair_in}
-use Rattle.triplicate.specs.Private.Construction.{hardened_net, hardened_cert, hardened_order}
+use Rattle.triplicate.specs.Private.Construction.{hardened_cert, hardened_order}
 use Rattle.triplicate.specs.Private.Labels.{labeling}
 use Rattle.triplicate.proofs.Lists.{get_before, get_after}
 use Rattle.triplicate.proofs.Certified.{cert_fits, is_cert}

@@ -1,13 +1,12 @@
 -- Only private functions cite this: how many nets one copy of each partition has in the hardened design, net by net of the original.
-use Rattle.std.specs.Prelude.{◌≡◌, ℕ, ◌+◌, ◌<◌, Bool, List, length, count_by, sum_by, slice_index}
+use Rattle.std.specs.Prelude.{◌≡◌, ℕ, ◌<◌, List, length, count_by, slice_index}
 use Rattle.std.specs.List.{flat_map, range_with_len}
 use Rattle.tmr_base.specs.declared.copies.CopyNo.{CopyNo}
 use Rattle.flat_net.specs.Net.{Net}
-use Rattle.certificate.specs.Cert.{depth_of}
 use Rattle.triplicate.specs.declared.planning.Plan.{Plan}
 use Rattle.triplicate.specs.Blocks.{block}
 use Rattle.triplicate.specs.Planned.{voted_in, cert_in}
-use Rattle.exposure.specs.Counts.{is_of, copy_count, near_of}
+use Rattle.exposure.specs.Counts.{is_of, copy_count}
 
 -- how many of what stands for the first count nets belong to partition p and copy c
 abbrev pub count_so_far : Net → Plan → ℕ → CopyNo → ℕ → ℕ

@@ -1,5 +1,5 @@
 -- Only private functions cite this: sizes that were swept, and lines that are still to be written.
-use Rattle.std.specs.Prelude.{◌≡◌, ℕ, ◌+◌, ◌-◌, ◌*◌, ◌^◌, ◌<◌, ◌≤◌, List, map, drop, length, Some, slice_get}
+use Rattle.std.specs.Prelude.{◌≡◌, ℕ, ◌+◌, ◌-◌, ◌*◌, ◌^◌, ◌<◌, List, map, drop, length, Some, slice_get}
 use Rattle.std.specs.List.{flat_map}
 use Rattle.flat_net.specs.Net.{Net}
 use Rattle.flat_net.specs.Free.{FreeDesign}

@@ -1,4 +1,4 @@
-use Rattle.std.proofs.Common.{◌∙◌, sym, arith}
+use Rattle.std.proofs.Common.{◌∙◌, arith}
 use Rattle.std.proofs.lemmas.List.{get_or_default}
 use Rattle.exposure.proofs.LineLaws.{counts_put}
 use Rattle.exposure.proofs.lines.put_part.Goals as goal

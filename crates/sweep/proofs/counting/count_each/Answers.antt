@@ -1,5 +1,4 @@
-use Rattle.std.proofs.Common.{◌∙◌, arith}
-use Rattle.sweep.proofs.CountLaws.{none_counted, part_counted, few_counted}
+use Rattle.sweep.proofs.CountLaws.{none_counted}
 use Rattle.sweep.proofs.counting.count_each.Goals as goal
 
 pub loop-p-init : goal.loop-p-init

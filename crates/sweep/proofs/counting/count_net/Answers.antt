@@ -1,7 +1,5 @@
-use Rattle.std.proofs.Common.{◌≡◌, ◌<◌, ℕ, List, length, sym, ◌∙◌, subst, arith, All}
+use Rattle.std.proofs.Common.{◌<◌, ℕ, length, sym, ◌∙◌, subst, arith, All}
 use Rattle.tmr_base.specs.declared.copies.CopyNo.TheVariants.{First}
-use Rattle.triplicate.specs.Planned.{voted_in}
-use Rattle.triplicate.specs.Voting.{voting_parts}
 use Rattle.sweep.proofs.CountLaws.{room, room_behind, row_within, net_counted}
 use Rattle.sweep.proofs.counting.count_net.Goals as goal
 
