@@ -105,13 +105,16 @@ edge_line parts e =
 -- the first lines, with the model's name, and how many inputs and outputs there are
 unfoldable pub head_text : Net → List ℕ
 head_text n =
-    concat (codes "digraph partitions {\n  label=\"" ∷ quoted n.model ∷ codes "\";\n  node [shape=box];\n  inputs [label=\"inputs\\n" ∷ decimal (length n.inputs)
-    ∷ codes "\", shape=ellipse];\n  outputs [label=\"outputs\\n" ∷ decimal (length n.outputs) ∷ codes "\", shape=ellipse];\n" ∷ [])
+    concat (codes "digraph partitions {\n  label=\"" ∷ quoted n.model ∷ codes "\";\n  node [shape=box];\n  inputs [label=\"inputs\\n"
+    ∷ decimal (length n.inputs) ∷ codes "\", shape=ellipse];\n  outputs [label=\"outputs\\n" ∷ decimal (length n.outputs) ∷ codes "\", shape=ellipse];\n"
+    ∷ [])
 
 -- the whole text
 abbrev pub picture_text : Net → PlainCert → List (List ℕ) → BTreeMap (ℕ × ℕ) ℕ → List ℕ
 picture_text n k groups edges =
-    head_text n ++ (flat_map (part_line n k groups) (range_with_len 0 (length k.depth)) ++ (others_line n k ++ (flat_map (edge_line (length k.depth)) edges.entries ++ codes "}\n")))
+    head_text n
+    ++ (flat_map (part_line n k groups) (range_with_len 0 (length k.depth))
+    ++ (others_line n k ++ (flat_map (edge_line (length k.depth)) edges.entries ++ codes "}\n")))
 
 -- the text of the picture of a hardened design's partitions
 pub record IsPicture (n : Net) (k : PlainCert) (text : List ℕ) : Type 0 where

@@ -12,7 +12,11 @@ use validator::check_free;
 fn in_one_line(alloc: Global, text: &[u8]) -> Result<String, AllocError> {
     let mut line = String::new(alloc);
     for byte in text {
-        line.push(if *byte == b'\n' { '/' } else { char::from(*byte) })?;
+        line.push(if *byte == b'\n' {
+            '/'
+        } else {
+            char::from(*byte)
+        })?;
     }
     Ok(line)
 }
