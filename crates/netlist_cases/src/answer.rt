@@ -42,9 +42,7 @@ fn design_answer(alloc: Global, texts: &Texts, verb: &str, rest: &str) -> Result
         ),
         "partition" => partitions::answer(alloc, texts, rest),
         "clusters" => partitions::cluster_answer(alloc, texts, rest),
-        "harden_free" | "harden_deep" | "sweep" => {
-            hardenings::answer(alloc, texts, verb, rest)
-        }
+        "harden_free" | "harden_deep" | "sweep" => { hardenings::answer(alloc, texts, verb, rest) }
         "cert" | "certheads" | "check" | "exposure" | "explain" | "least" | "picture" => {
             certificates::answer(alloc, texts, verb, rest)
         }
