@@ -5,7 +5,7 @@
 pub mod campaign;
 pub mod certify;
 pub mod explain;
-pub mod exposure;
+pub mod exposing;
 pub mod flatten;
 pub mod from_aag;
 pub mod guard;
@@ -15,7 +15,7 @@ pub mod help;
 pub mod picture;
 pub mod replay;
 pub mod report;
-pub mod sweep;
+pub mod sweeping;
 pub mod to_aag;
 pub mod trial;
 pub mod validate;

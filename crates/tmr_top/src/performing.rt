@@ -3,8 +3,8 @@ ghost use Rattle.tmr_words.specs.FileWords.{command_in};
 ghost use Rattle.tmr_top.specs.Private.Rooms.{Performed};
 
 use crate::commands::{
-    campaign, certify, explain, exposure, flatten, from_aag, guard, guarded, harden, help, picture,
-    replay, report, sweep, to_aag, trial, validate,
+    campaign, certify, explain, exposing, flatten, from_aag, guard, guarded, harden, help, picture,
+    replay, report, sweeping, to_aag, trial, validate,
 };
 use crate::decision::Decision;
 use std::alloc::Global;
@@ -34,8 +34,8 @@ pub fn perform<F: Files>(
         CommandWords::ReadGraph(words) => from_aag::perform(alloc, words, files),
         CommandWords::Trial(words) => trial::perform(alloc, words, files),
         CommandWords::Certify(words) => certify::perform(alloc, words, files),
-        CommandWords::Exposure(pair) => exposure::perform(alloc, pair, files),
-        CommandWords::Sweep(words) => sweep::perform(alloc, words, files),
+        CommandWords::Exposure(pair) => exposing::perform(alloc, pair, files),
+        CommandWords::Sweep(words) => sweeping::perform(alloc, words, files),
         CommandWords::Explain(pair) => explain::perform(alloc, pair, files),
         CommandWords::Campaign(words) => campaign::perform(alloc, words, files),
         CommandWords::Picture(words) => picture::perform(alloc, words, files),

@@ -1,5 +1,5 @@
 use Rattle.tmr_top.proofs.RoomLaws.{opened_room, stopped_room}
-use Rattle.tmr_top.proofs.commands.exposure.perform.Goals as goal
+use Rattle.tmr_top.proofs.commands.exposing.perform.Goals as goal
 
 pub returns-in-Ok : goal.returns-in-Ok
 returns-in-Ok g c = opened_room _ _ _ _ _ _ _ _ _ _ _ _ c.in-Ok.ensures.opens c.tell.ensures c.conclude.ensures

@@ -1,6 +1,6 @@
 use Rattle.std.proofs.Common.{refl}
 use Rattle.tmr_top.proofs.RoomLaws.{done_over}
-use Rattle.tmr_top.proofs.commands.sweep.tell.Goals as goal
+use Rattle.tmr_top.proofs.commands.sweeping.tell.Goals as goal
 
 pub returns : goal.returns
 returns c = done_over _ _ _ _ _ _ c.telling.ensures refl (λ t e. cc)

@@ -1,6 +1,6 @@
 use Rattle.std.proofs.Common.{refl}
 use Rattle.tmr_top.proofs.RoomLaws.{if_ok, done_over, denied_over}
-use Rattle.tmr_top.proofs.commands.exposure.tell.Goals as goal
+use Rattle.tmr_top.proofs.commands.exposing.tell.Goals as goal
 
 pub returns-in_ok-text-in-Ok : goal.returns-in_ok-text-in-Ok
 returns-in_ok-text-in-Ok c = done_over _ _ _ _ _ _ c.telling.ensures refl (λ t e. cc)
