@@ -1,7 +1,8 @@
 use Rattle.std.proofs.Common.{ap, ◌∙◌}
 use Rattle.std.specs.Prelude.{string_bytes}
-use Rattle.tmr_words.specs.Words.{Words, texts, words_from}
-use Rattle.tmr_words.specs.WordsRead.{words_in, item_in}
+use Rattle.tmr_words.specs.Words.{Words, texts}
+use Rattle.tmr_words.specs.Private.WordByWord.{words_from}
+use Rattle.tmr_words.specs.Private.WordsRead.{words_in, item_in}
 use Rattle.std.proofs.Common.{drop, ◌+◌}
 use Rattle.tmr_words.proofs.WordLaws.{behind, at_none, after_word, no_more_words}
 use Rattle.tmr_words.proofs.words.read_words.Goals as goal

@@ -1,10 +1,11 @@
--- The words that are read, without where they lie. Private functions alone speak of these.
+-- The words that are read, without where they lie.
 use Rattle.tmr_words.specs.declared.words.ReadWords.{ReadWords}
 use Rattle.tmr_words.specs.declared.words.Item.{Item}
 use Rattle.tmr_words.specs.declared.words.Item.TheVariants as item
 use Rattle.tmr_words.specs.declared.words.TakenWord.{TakenWord}
 use Rattle.tmr_words.specs.FileWords.{read_words}
-use Rattle.tmr_words.specs.Words.{Words, Taken, no_words, plain_word, given_value}
+use Rattle.tmr_words.specs.Words.{Words, no_words, plain_word, given_value}
+use Rattle.tmr_words.specs.Private.WordByWord.{Taken}
 
 abbrev pub words_in : ReadWords → Words
 words_in words = record {
