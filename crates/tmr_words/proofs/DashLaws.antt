@@ -1,5 +1,5 @@
 -- Words read one after the other are those that the first `--` divides.
-use Rattle.std.proofs.Common.{◌≡◌, ℕ, Bool, true, false, cond, ◌&&◌, List, [], ◌∷◌, ◌++◌, length, drop, Option, Some, None, refl, sym, ap, subst, ◌∙◌, append_assoc}
+use Rattle.std.proofs.Common.{◌≡◌, ℕ, Bool, true, false, cond, List, [], ◌∷◌, length, drop, Option, Some, None, refl, sym, ap, subst, ◌∙◌}
 use Rattle.std.specs.Prelude.{codes}
 use Rattle.std.specs.Option.{option_map, option_and_then}
 use Rattle.std.specs.Str.{bytes_eq}
@@ -10,7 +10,7 @@ use Rattle.tmr_words.specs.declared.words.Mode.{Mode}
 use Rattle.tmr_words.specs.declared.words.Mode.TheVariants.{Options, Value, Plain}
 use Rattle.tmr_words.specs.Words.{Words, no_words, plain_word, given_value, both, setting_text, equals_text, begins_with, has_dash, is_option}
 use Rattle.tmr_words.specs.Words.{Kind, Awaits, Adds, Unknown, as_option, kind, value_in, joined, last_word, first_words, mixed_words, is_dashes, before_dashes, behind_dashes, plain_words, words_of}
-use Rattle.tmr_words.specs.Private.WordByWord.{Taken, take_setting, take_option, take_word, at_end, words_from}
+use Rattle.tmr_words.specs.Private.WordByWord.{Taken, take_setting, take_option, take_word, words_from}
 use Rattle.tmr_words.proofs.WordLaws.{both_assoc, both_none, step, at_last}
 
 -- what a word of this kind adds, and how the next one is read
@@ -71,7 +71,7 @@ all_plain (word ∷ words) = reads_on Plain word words _ (plain_taken word) ∙ 
 
 -- ---- before it
 
-none_both : (o : Option Words) → option_map (both no_words) o ≡ o
+pub none_both : (o : Option Words) → option_map (both no_words) o ≡ o
 none_both None = refl
 none_both (Some words) = refl
 
@@ -133,7 +133,7 @@ dashes_dash : (word : List ℕ) → has_dash word ≡ false → is_dashes word �
 dashes_dash word e = go (is_dashes word) refl where
   go : (b : Bool) → is_dashes word ≡ b → b ≡ false
   go false h = refl
-  go true h = sym (subst (λ (w : List ℕ). has_dash w ≡ false) ((bytes_eq-Decides word (codes "--")).0 h) e)
+  go true h = subst (λ (w : List ℕ). has_dash w ≡ false) ((bytes_eq-Decides word (codes "--")).0 h) e
 
 module _ (word : List ℕ) (rest : List (List ℕ)) (mixed : is_dashes word ≡ false) where
   adds : (these : Words) → kind word ≡ Adds these → words_from Options rest ≡ words_of rest → words_from Options (word ∷ rest) ≡ words_of (word ∷ rest)

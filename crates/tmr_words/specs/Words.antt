@@ -1,7 +1,7 @@
 -- How the words behind a command word are read.
 use Rattle.std.specs.Prelude.{ℕ, ◌==◌, ◌&&◌, nat_lt, Bool, List, [], ◌∷◌, ◌++◌, map, length, take, drop, Option}
 use Rattle.std.specs.Prelude.{Some, None, codes, slice_index, string_bytes, String, if◌then◌else◌}
-use Rattle.std.specs.Option.{option_map, option_and_then}
+use Rattle.std.specs.Option.{option_map}
 use Rattle.std.specs.Str.{bytes_eq}
 use Rattle.std.specs.declared.alloc.Global.{Global}
 use Rattle.tmr_words.specs.declared.words.Setting.{Setting}
