@@ -1,6 +1,6 @@
 use Rattle.std.proofs.Common.{◌∙◌, Bool, not, cond, ap, arith}
 use Rattle.net_simulator.proofs.Literals.{fitting_word}
-use Rattle.net_simulator.proofs.tables.table_word.Goals as goal
+use Rattle.net_simulator.proofs.tables.rows_word.Goals as goal
 
 pub returns : goal.returns
 returns c = λ j l.
