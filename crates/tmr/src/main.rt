@@ -43,7 +43,7 @@ fn exit_code(status: Status) -> ExitCode
 fn main(rt: HostRuntime) -> ExitCode {
     let status = match words(&rt) {
         Ok(words) => {
-            let mut files = DiskFiles::new(&rt);
+            let mut files = DiskFiles::new(rt.alloc(), &rt);
             let mut out = StdSink::new(&rt);
             run(rt.alloc(), words.as_slice(), &mut files, &mut out)
         }

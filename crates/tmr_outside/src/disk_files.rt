@@ -5,9 +5,9 @@ ghost use Rattle.tmr_outside.specs.Pieces.{TakesFile};
 use crate::fault_count::FaultCount;
 use crate::gathered::Gathered;
 use crate::reading::{hand_out_within, load_fault};
+use crate::saving::save_file;
 use crate::{Files, LoadFault, SaveFault, Taker};
 use std::alloc::Global;
-use std::io::{ErrorKind, Write};
 use std::marker::Model;
 use std::{fs, rt};
 
@@ -17,6 +17,7 @@ use std::{fs, rt};
 #[derive(Drop)]
 pub struct DiskFiles<'a, R: rt::Files> {
     rt: &'a R,
+    alloc: Global,
     faults: FaultCount,
 }
 
@@ -30,11 +31,12 @@ impl<'a, R: rt::Files> Model for DiskFiles<'a, R> {
 
 impl<'a, R: rt::Files> DiskFiles<'a, R> {
     /// The files of this runtime, without faults.
-    pub fn new(rt: &'a R) -> Self
+    pub fn new(alloc: Global, rt: &'a R) -> Self
         ensures { result ≡ 0 }
     {
         DiskFiles {
             rt,
+            alloc,
             faults: FaultCount::new(),
         }
     }
@@ -74,25 +76,6 @@ fn gather_file<R: rt::Files>(
     }
 }
 
-/// Writes a file anew. A refusal for want of memory comes only where the file was not yet opened, so that
-/// it is as before.
-fn write_anew<R: rt::Files>(rt: &R, name: &str, bytes: &[u8]) -> Result<(), SaveFault> {
-    let mut file = match fs::create(rt, name) {
-        Ok(file) => file,
-        Err(e) => {
-            return Err(if e.kind() == ErrorKind::OutOfMemory {
-                SaveFault::Memory
-            } else {
-                SaveFault::Failed
-            });
-        }
-    };
-    match file.write_all(bytes) {
-        Ok(()) => Ok(()),
-        Err(_) => Err(SaveFault::Failed),
-    }
-}
-
 impl<R: rt::Files> Files for DiskFiles<'_, R> {
     ghost use Rattle.std.specs.Prelude.{None};
 
@@ -125,7 +108,7 @@ impl<R: rt::Files> Files for DiskFiles<'_, R> {
     }
 
     fn save(&mut self, name: &str, bytes: &[u8]) -> Result<(), SaveFault> {
-        let outcome = write_anew(self.rt, name, bytes);
+        let outcome = save_file(self.rt, self.alloc, name, bytes);
         self.faults.raise_if(outcome.is_err());
         outcome
     }
