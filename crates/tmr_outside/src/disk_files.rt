@@ -4,8 +4,9 @@ ghost use Rattle.tmr_outside.specs.Pieces.{TakesFile};
 
 use crate::fault_count::FaultCount;
 use crate::gathered::Gathered;
-use crate::reading::{hand_out_within, load_fault};
+use crate::reading::hand_out_within;
 use crate::saving::save_file;
+use crate::source::{Counted, load_fault};
 use crate::{Files, LoadFault, SaveFault, Taker};
 use std::alloc::Global;
 use std::marker::Model;
@@ -14,6 +15,9 @@ use std::{fs, rt};
 /// Real files, as the runtime has them. They tell nothing of what they hold, and are never steady. One
 /// count serves the loads and the saves of all names, and each refusal raises it. They are seen as this
 /// count.
+///
+/// A save replaces the whole file at once, where that can be done: what is saved is written beside it, synced and renamed. Elsewhere
+/// the file is written where it stands. No clause says so.
 #[derive(Drop)]
 pub struct DiskFiles<'a, R: rt::Files> {
     rt: &'a R,
@@ -53,7 +57,7 @@ fn read_file<R: rt::Files, T: Taker>(
     ensures { TakesFile (T.stands to.old) (T.stands to.new) (T.room to.old) (T.room to.new) limit None name.now (IsOk result) }
 {
     match fs::open(rt, name) {
-        Ok(mut file) => hand_out_within(&mut file, limit, to),
+        Ok(file) => hand_out_within(&mut Counted::new(file), limit, to),
         Err(e) => Err(load_fault(&e)),
     }
 }
