@@ -1,5 +1,5 @@
 -- Names of files that are made beside others.
-use Rattle.std.specs.Prelude.{ℕ, List, [], ◌∷◌, ◌++◌}
+use Rattle.std.specs.Prelude.{ℕ, List, ◌∷◌, ◌++◌}
 use Rattle.std.specs.Fmt.{decimal}
 
 -- `.FILE.tmr-NUMBER`, the number in decimal
