@@ -42,7 +42,7 @@ fn exit_code(status: Status) -> ExitCode
 
 /// Runs the program over real files and standard output, and hands on nothing of what it promises.
 fn run_words(rt: &HostRuntime, words: &[String]) -> Status {
-    let mut files = DiskFiles::new(rt);
+    let mut files = DiskFiles::new(rt.alloc(), rt);
     let mut out = StdSink::new(rt);
     run(rt.alloc(), words, &mut files, &mut out)
 }
