@@ -58,11 +58,7 @@ impl<F: Read + Drop> Counted<F> {
 }
 
 /// Counts a read that failed, and tells how: this is done only with what the runtime answered.
-fn count_failure(
-    failed: &mut FaultCount,
-    starved: &mut FaultCount,
-    error: &io::Error,
-) -> LoadFault
+fn count_failure(failed: &mut FaultCount, starved: &mut FaultCount, error: &io::Error) -> LoadFault
     ensures memory { error_kind error.now ≡ ErrorKind.OutOfMemory → result ≡ LoadFault.Memory }
     ensures other { error_kind error.now ≢ ErrorKind.OutOfMemory → result ≡ LoadFault.Failed }
     ensures kinds { result ≢ LoadFault.TooLong }
