@@ -52,8 +52,8 @@ close_at d t begins near far (inr low) = inl (omega (arith, low), (omega arith, 
 count_close : (d : ℕ) → Counts (AreClose d) (2 * d + 1)
 count_close d = count_same (λ (t : ℕ × ℕ). IsEarly d t ⊎ IsLate d t) (AreClose d) (1 * (d + 1) + d * 1) (2 * d + 1) (omega arith) (close_from d) (λ t h. close_at d t h.0 h.1 h.2 (cases_lt 0 t.0))
     (count_either (IsEarly d) (IsLate d) (1 * (d + 1)) (d * 1) (early_or_late d)
-        (count_both (λ (x : ℕ). x ≡ 0) (λ (x : ℕ). (0 ≤ x) × (x < 0 + (d + 1))) 1 (d + 1) one_zero (count_range 0 (d + 1)))
-        (count_both (λ (x : ℕ). (1 ≤ x) × (x < 1 + d)) (λ (x : ℕ). x ≡ 0) d 1 (count_range 1 d) one_zero))
+    (count_both (λ (x : ℕ). x ≡ 0) (λ (x : ℕ). (0 ≤ x) × (x < 0 + (d + 1))) 1 (d + 1) one_zero (count_range 0 (d + 1)))
+    (count_both (λ (x : ℕ). (1 ≤ x) × (x < 1 + d)) (λ (x : ℕ). x ≡ 0) d 1 (count_range 1 d) one_zero))
 
 -- ---- where a net belongs
 
@@ -120,8 +120,8 @@ count_strike : (k : PlainCert) (p : Option ℕ) (c d : CopyNo) (m n : ℕ) → H
 count_strike k p c d m n one other =
     count_as (λ (t : Parts). (IsIn k t.0.0 p c × IsIn k t.0.1 p d) × AreClose (part_depth k p) t.1) (m * n * (2 * part_depth k p + 1)) joined parted (λ t. refl) (λ s. refl)
     (count_both (λ (t : ℕ × ℕ). IsIn k t.0 p c × IsIn k t.1 p d) (AreClose (part_depth k p)) (m * n) (2 * part_depth k p + 1)
-        (count_both (λ (h : ℕ). IsIn k h p c) (λ (h : ℕ). IsIn k h p d) m n (count_nets k p c m one) (count_nets k p d n other))
-        (count_close (part_depth k p)))
+    (count_both (λ (h : ℕ). IsIn k h p c) (λ (h : ℕ). IsIn k h p d) m n (count_nets k p c m one) (count_nets k p d n other))
+    (count_close (part_depth k p)))
 
 -- ---- all pairs of strikes of a partition
 
@@ -153,8 +153,8 @@ module _ (k : PlainCert) (p : Option ℕ) (a b c t : ℕ) where
   three_pairs one two three =
       count_same (Strikes3 k p) (Strikes3 k p) (a * b * t + a * c * t + b * c * t) ((a * b + a * c + b * c) * t) (sums a b c t) (λ s h. h) (λ s h. h)
       (count_either (λ (s : Strikes). Strike k p First Second s ⊎ Strike k p First Third s) (Strike k p Second Third) (a * b * t + a * c * t) (b * c * t) (not_last k p)
-          (count_either (Strike k p First Second) (Strike k p First Third) (a * b * t) (a * c * t) (not_both k p) one two)
-          three)
+      (count_either (Strike k p First Second) (Strike k p First Third) (a * b * t) (a * c * t) (not_both k p) one two)
+      three)
 
 count_part : (k : PlainCert) (p : Option ℕ) (a b c : ℕ) → HasNets k p First a → HasNets k p Second b → HasNets k p Third c → Counts (Strikes3 k p) (near_of a b c (part_depth k p))
 count_part k p a b c one two three =
@@ -262,8 +262,8 @@ module _ (k : PlainCert) (is : IsCert k) (three : k.hardened_inputs ≡ 3 * k.or
       let all = near_of k.original_inputs k.original_inputs k.original_inputs 0 + sum_by (near_in k) (range_with_len 0 (length k.depth)) in
       count_same (λ (s : Strikes). Strikes3 k None s ⊎ OfNodes k s) (AreNear k) all all refl (either_near v) (λ s n. near_either s n.near.part (strikes_near k s n))
       (count_either (Strikes3 k None) (OfNodes k) (near_of k.original_inputs k.original_inputs k.original_inputs 0) (sum_by (near_in k) (range_with_len 0 (length k.depth))) apart
-          (count_part k None k.original_inputs k.original_inputs k.original_inputs (inputs_counted k First is three) (inputs_counted k Second is three) (inputs_counted k Third is three))
-          (count_nodes k))
+      (count_part k None k.original_inputs k.original_inputs k.original_inputs (inputs_counted k First is three) (inputs_counted k Second is three) (inputs_counted k Third is three))
+      (count_nodes k))
 
   -- so many as the text tells
   by_version : (b : Bool) → (k.version == 1) ≡ b → Counts (AreNear k) (cond b 0 (near_of k.original_inputs k.original_inputs k.original_inputs 0) + sum_by (near_in k) (range_with_len 0 (length k.depth)))
