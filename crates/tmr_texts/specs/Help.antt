@@ -253,6 +253,7 @@ explain_help = joined (
     ∷ codes "prints    rule R at PLACE: WHY for each of the first 100 places\n"
     ∷ codes "          and N more, where there are more\n"
     ∷ codes "          or, where all rules hold, what validate prints\n"
+    ∷ codes "          behind a refusal that names a line of a file: that line\n"
     ∷ codes "statuses  0 done, 1 not accepted, 2 usage, 3 fault, 4 refused, 5 want of memory\n"
     ∷ codes "example   tmr explain and.blif and.hard.blif and.cert\n"
     ∷ [])

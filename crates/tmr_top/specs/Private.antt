@@ -10,3 +10,4 @@ pub mod Replaying
 pub mod GraphCounted
 pub mod Trying
 pub mod Certifying
+pub mod Shown
