@@ -5,8 +5,8 @@ use Rattle.std.specs.Str.{bytes_eq}
 use Rattle.indexmap.specs.IndexMap.{IndexMap, get}
 use Rattle.blif_text.specs.Models.{PlainElement, Table, Register, Instance, PlainModel}
 use Rattle.hierarchy.specs.declared.walking.links.Link.{Link}
-use Rattle.hierarchy.specs.Graph.{number_named}
-use Rattle.hierarchy.specs.Flat.{Level, actual_of}
+use Rattle.library_faults.specs.Graph.{number_named}
+use Rattle.library_faults.specs.Flat.{Level, actual_of}
 use Rattle.hierarchy.specs.Private.Texts.{elements_with, elements_to}
 use Rattle.hierarchy.specs.declared.walking.links.Row.{Row}
 

@@ -2,9 +2,9 @@
 ghost use Rattle.std.specs.Prelude.{◌≡◌, ◌<◌, ℕ, true, false, length, map, IfOk, slice_index_or};
 ghost use Rattle.std.specs.List.{list_all};
 ghost use Rattle.blif_text.specs.Views.{plain_model, plain_element};
-ghost use Rattle.hierarchy.specs.Graph.{names_of};
+ghost use Rattle.library_faults.specs.Graph.{names_of};
 ghost use Rattle.hierarchy.specs.Private.Links.{IsBare, is_bare_element};
-ghost use Rattle.hierarchy.specs.Private.Walk.{model_at};
+ghost use Rattle.library_faults.specs.Private.Models.{model_at};
 
 use crate::walking::links::filled_target;
 use blif_text::{BlifModel, Element};

@@ -11,21 +11,20 @@ ghost use Rattle.std.specs.Str.{bytes_eq};
 ghost use Rattle.indexmap.specs.IndexMap.{get};
 ghost use Rattle.blif_text.specs.Kind.{is_among};
 ghost use Rattle.blif_text.specs.Views.{plain_model, plain_element};
-ghost use Rattle.hierarchy.specs.Graph.{names_of, graph};
-ghost use Rattle.hierarchy.specs.Found.{IsOrder};
-ghost use Rattle.hierarchy.specs.Flat.{actual_of};
-ghost use Rattle.hierarchy.specs.Private.Counts.{ArePlaces, AreCounts, used};
-ghost use Rattle.hierarchy.specs.Private.Entries.{entry_at as entry_at_number, entry_named};
+ghost use Rattle.library_faults.specs.Graph.{names_of, graph};
+ghost use Rattle.library_faults.specs.Found.{IsOrder};
+ghost use Rattle.library_faults.specs.Flat.{actual_of};
+ghost use Rattle.library_faults.specs.Private.Counts.{ArePlaces, AreCounts, used};
+ghost use Rattle.library_faults.specs.Private.Entries.{entry_at as entry_at_number, entry_named};
 ghost use Rattle.hierarchy.specs.Private.Links.{IsBare};
-ghost use Rattle.hierarchy.specs.Private.Walk.{model_at};
+ghost use Rattle.library_faults.specs.Private.Models.{model_at};
 ghost use Rattle.hierarchy.specs.Private.Chains.{IsHandedOn, IsHandedWay, IsEndWay, IsOnly, IsWay, AreWays};
 
 use crate::cutting::bare::is_bare;
-use crate::lengths::count::{Count, times_used};
-use crate::lengths::entries::{entry_at, entry_of};
 use crate::walking::links::bind_actuals;
 use blif_text::{BlifModel, Element};
 use indexmap::{IndexMap, IndexSet};
+use library_faults::{Count, entry_at, entry_of, times_used};
 use std::alloc::Global;
 use tmr_base::{Name, OutOfMemory};
 

@@ -2,10 +2,9 @@
 //! speaks of it.
 
 use crate::cutting::chains::{Way, only_filled};
-use crate::lengths::count::Count;
-use crate::lengths::entries::{entry_at, entry_of};
 use blif_text::{BlifModel, Element};
 use indexmap::IndexSet;
+use library_faults::{Count, entry_at, entry_of};
 use std::alloc::{AllocError, Global};
 use tmr_base::Name;
 

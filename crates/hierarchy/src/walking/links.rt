@@ -4,14 +4,13 @@ ghost use Rattle.std.specs.Str.{bytes_eq};
 ghost use Rattle.std.specs.Option.{option_or};
 ghost use Rattle.indexmap.specs.IndexMap.{get};
 ghost use Rattle.blif_text.specs.Views.{plain_model, plain_element};
-ghost use Rattle.hierarchy.specs.Graph.{number_named};
-ghost use Rattle.hierarchy.specs.Flat.{actual_of};
+ghost use Rattle.library_faults.specs.Graph.{number_named};
+ghost use Rattle.library_faults.specs.Flat.{actual_of};
 ghost use Rattle.hierarchy.specs.Private.Links.{filled, bindings_of, Binds, IsLink, AreLinks, AreRows};
 
-use crate::lengths::count::{Count, times_used};
-use crate::lengths::entries::entry_of;
 use blif_text::{BlifModel, Element};
 use indexmap::{IndexMap, IndexSet};
+use library_faults::{Count, entry_of, times_used};
 use std::alloc::{AllocError, Global};
 use tmr_base::{Name, OutOfMemory};
 
@@ -82,7 +81,7 @@ fn many_actuals(
 }
 
 /// What the first binding of the formal binds it to.
-#[tactic(auto, unfolding(crate::specs::Flat::actual_of))]
+#[tactic(auto, unfolding(library_faults::specs::Flat::actual_of))]
 fn first_actual<'a>(bindings: &'a [(Name, Name)], name: &Name) -> Option<&'a Name>
     ensures { option_copied result ≡ actual_of bindings.now name.now }
 {
@@ -95,7 +94,7 @@ fn first_actual<'a>(bindings: &'a [(Name, Name)], name: &Name) -> Option<&'a Nam
 }
 
 /// What the element with this link binds the formal to.
-#[tactic(auto, unfolding(crate::specs::Flat::actual_of))]
+#[tactic(auto, unfolding(library_faults::specs::Flat::actual_of))]
 pub(crate) fn actual_at<'a>(link: &'a Link, element: &'a Element, name: &Name) -> Option<&'a Name>
     requires { Binds link.now.actuals (bindings_of (plain_element element.now)) }
     ensures { option_copied result ≡ actual_of (bindings_of (plain_element element.now)) name.now }
@@ -110,7 +109,7 @@ pub(crate) fn actual_at<'a>(link: &'a Link, element: &'a Element, name: &Name) -
 }
 
 /// The model of this name, where an element stands in it.
-#[tactic(auto, unfolding(crate::specs::Graph::number_named))]
+#[tactic(auto, unfolding(library_faults::specs::Graph::number_named))]
 pub(crate) fn filled_target(names: &IndexSet<Name>, holds: &[bool], model: &Name) -> Option<usize>
     ensures { result ≡ filled holds.now (number_named names.now.keys model.now) }
 {

@@ -2,7 +2,7 @@
 ghost use Rattle.std.specs.Prelude.{◌≡◌, ◌≤◌, ◌++◌, ◌∷◌, [], List, false, length, map, take, IfOk, OnOk, IfErr};
 ghost use Rattle.std.specs.Str.{bytes_eq};
 ghost use Rattle.indexmap.specs.IndexMap.{get};
-ghost use Rattle.hierarchy.specs.Flat.{PlacedNet, resolved_control, resolve as resolve_name};
+ghost use Rattle.library_faults.specs.Flat.{PlacedNet, resolved_control, resolve as resolve_name};
 ghost use Rattle.hierarchy.specs.Private.Texts.{net_text, named_control};
 ghost use Rattle.hierarchy.specs.Clash.{control_nets};
 ghost use Rattle.hierarchy.specs.Private.Texts.{is_taken};

@@ -2,7 +2,7 @@ use Rattle.std.proofs.Common.{◌≡◌, ℕ, true, false, map, length}
 use Rattle.std.specs.Prelude.{slice_index_or}
 use Rattle.blif_text.specs.Views.{plain_model}
 use Rattle.hierarchy.specs.Private.Links.{IsBare}
-use Rattle.hierarchy.specs.Private.Walk.{model_at}
+use Rattle.library_faults.specs.Private.Models.{model_at}
 use Rattle.hierarchy.proofs.cutting.bare.filled_models.Given as goal
 
 abbrev pub invariant-loop-x : goal.invariant-loop-x

@@ -1,7 +1,7 @@
 use Rattle.std.proofs.Common.{ap}
 use Rattle.std.specs.Str.{bytes_eq}
 use Rattle.std.specs.Map.{lookup}
-use Rattle.hierarchy.specs.Flat.{actual_of}
+use Rattle.library_faults.specs.Flat.{actual_of}
 use Rattle.hierarchy.proofs.Binding.{bind_more}
 use Rattle.hierarchy.proofs.walking.links.bind_actuals.Goals as goal
 

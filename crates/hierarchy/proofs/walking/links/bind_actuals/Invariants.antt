@@ -1,7 +1,7 @@
 use Rattle.std.proofs.Common.{◌≡◌, ℕ, List, take}
 use Rattle.std.specs.Str.{bytes_eq}
 use Rattle.indexmap.specs.IndexMap.{get}
-use Rattle.hierarchy.specs.Flat.{actual_of}
+use Rattle.library_faults.specs.Flat.{actual_of}
 use Rattle.hierarchy.proofs.walking.links.bind_actuals.Given as goal
 
 abbrev pub invariant-loop-formal : goal.invariant-loop-formal

@@ -1,5 +1,5 @@
 use Rattle.std.proofs.Common.{◌≡◌, drop}
-use Rattle.hierarchy.specs.Flat.{actual_of}
+use Rattle.library_faults.specs.Flat.{actual_of}
 use Rattle.hierarchy.proofs.walking.links.first_actual.Given as goal
 
 abbrev pub invariant-loop-formal : goal.invariant-loop-formal
