@@ -8,7 +8,7 @@ use Rattle.std.proofs.lemmas.List.{get_or-set_other, get_or-replicate, get_or_pa
 use Rattle.blif_text.specs.Models.{PlainElement, Table, Register, Instance, PlainModel}
 use Rattle.library_faults.specs.Graph.{names_of}
 use Rattle.hierarchy.specs.Private.Texts.{elements_with, elements_to}
-use Rattle.hierarchy.specs.Private.Links.{IsBare, target_of, is_bare_element}
+use Rattle.hierarchy.specs.Private.Bindings.{IsBare, target_of, is_bare_element}
 use Rattle.library_faults.specs.Private.Models.{IsInstance, model_at}
 use Rattle.blif_text.specs.declared.library.BlifModel.{BlifModel}
 use Rattle.blif_text.specs.Views.{plain_model, plain_element}

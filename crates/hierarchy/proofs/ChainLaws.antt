@@ -18,7 +18,7 @@ use Rattle.library_faults.specs.Found.{IsOrder}
 use Rattle.library_faults.specs.Flat.{Level, no_model, step, path_of, actual_of, resolve, resolved_control}
 use Rattle.hierarchy.specs.Private.Texts.{elements_with, elements_to}
 use Rattle.library_faults.specs.Private.Counts.{control_names, element_names, ArePlaces}
-use Rattle.hierarchy.specs.Private.Links.{IsBare, is_bare_element}
+use Rattle.hierarchy.specs.Private.Bindings.{IsBare, is_bare_element}
 use Rattle.hierarchy.specs.Private.Walk.{placed_element}
 use Rattle.library_faults.specs.Private.Models.{model_at, no_element}
 use Rattle.hierarchy.specs.Private.Chains.{nets_in, placed_all, bound_at, IsOnly, IsHandedOn, IsHandedWay, IsWay, AreWays}

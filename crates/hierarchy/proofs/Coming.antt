@@ -11,7 +11,7 @@ use Rattle.hierarchy.specs.declared.walking.walk.Walk.{Walk}
 use Rattle.library_faults.specs.Graph.{names_of, number_named, model_named}
 use Rattle.library_faults.specs.Flat.{Level, NetElement, no_model, step, path_of, actual_of, resolve}
 use Rattle.hierarchy.specs.Private.Texts.{elements_with, elements_to}
-use Rattle.hierarchy.specs.Private.Links.{filled, target_of, bindings_of, IsBare}
+use Rattle.hierarchy.specs.Private.Bindings.{filled, target_of, bindings_of, IsBare}
 use Rattle.hierarchy.specs.Private.Walk.{bound_by, level_of, rest_of, coming_from, known_net, AreFrames, AreKnown, placed_element, moves_with, moves_to, moves_from}
 use Rattle.library_faults.specs.Private.Models.{IsInstance, model_at, no_element, element_at}
 use Rattle.library_faults.proofs.GraphLaws.{number_within}

@@ -10,11 +10,11 @@ use Rattle.library_faults.specs.Flat.{no_model, Level, step, resolve, actual_of}
 use Rattle.library_faults.specs.Private.Models.{no_element, IsInstance, model_at, element_at}
 use Rattle.hierarchy.specs.declared.walking.walk.Frame.{Frame}
 use Rattle.hierarchy.specs.declared.walking.walk.Walk.{Walk}
-use Rattle.hierarchy.specs.declared.walking.links.Row.{Row}
-use Rattle.hierarchy.specs.declared.walking.links.Link.{Link}
+use Rattle.hierarchy.specs.declared.walking.bindings.Row.{Row}
+use Rattle.hierarchy.specs.declared.walking.bindings.Link.{Link}
 use Rattle.library_faults.specs.Graph.{names_of, model_named}
 use Rattle.hierarchy.specs.Private.Texts.{elements_to}
-use Rattle.hierarchy.specs.Private.Links.{target_of, bindings_of, Binds, IsBare}
+use Rattle.hierarchy.specs.Private.Bindings.{target_of, bindings_of, Binds, IsBare}
 use Rattle.indexmap.specs.IndexMap.{get}
 use mathlib.Core.Path.{fun_ext}
 use Rattle.std.specs.Prelude.{option_and_then}

@@ -7,7 +7,7 @@ use Rattle.std.proofs.lemmas.List.{get_or-map}
 use Rattle.blif_text.specs.Models.{PlainElement}
 use Rattle.blif_text.specs.declared.library.Element.{Element}
 use Rattle.blif_text.specs.Views.{plain_element}
-use Rattle.hierarchy.specs.Private.Links.{is_bare_element}
+use Rattle.hierarchy.specs.Private.Bindings.{is_bare_element}
 use Rattle.library_faults.specs.Private.Models.{no_element}
 use Rattle.hierarchy.specs.Private.Chains.{IsOnly}
 

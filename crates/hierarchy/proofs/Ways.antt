@@ -19,7 +19,7 @@ use Rattle.library_faults.specs.Found.{IsOrder}
 use Rattle.library_faults.specs.Flat.{no_model}
 use Rattle.library_faults.specs.declared.lengths.count.Count.{Count}
 use Rattle.library_faults.specs.Private.Counts.{ArePlaces, AreCounts}
-use Rattle.hierarchy.specs.Private.Links.{IsBare}
+use Rattle.hierarchy.specs.Private.Bindings.{IsBare}
 use Rattle.library_faults.specs.Private.Models.{model_at, no_element}
 use Rattle.hierarchy.specs.Private.Chains.{IsOnly, IsHandedWay, IsEndWay, IsWay, AreWays, IsOfWay, IsShort}
 use Rattle.library_faults.specs.Private.Entries.{entry_at, entry_named}

@@ -2,7 +2,7 @@
 pub mod Texts
 pub mod Room
 pub mod Alone
-pub mod Links
+pub mod Bindings
 pub mod Walk
 pub mod Naming
 pub mod Chains

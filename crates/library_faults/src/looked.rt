@@ -67,29 +67,23 @@ fn sound_order(alloc: Global, models: &[BlifModel]) -> Result<Ordered, LibraryFa
 fn counted_within(
     alloc: Global,
     models: &[BlifModel],
-    found: &Ordered,
+    names: &IndexSet<Name>,
+    order: &[usize],
     limit: u64,
 ) -> Result<Counted, LibraryFault>
     requires library { IsLibrary (map plain_model models.now) }
-    requires names { found.now.names.keys ≡ names_of (map plain_model models.now) }
+    requires names { names.now.keys ≡ names_of (map plain_model models.now) }
     requires placeable { IsPlaceable (map plain_model models.now) }
-    requires ordered { IsOrder (graph (map plain_model models.now)) found.now.order.items }
+    requires ordered { IsOrder (graph (map plain_model models.now)) order.now }
     requires limit { limit ≤ 1073741824 }
-    ensures places { IfOk result (λ counted. ArePlaces found.now.order.items counted.positions.items) }
-    ensures counts { IfOk result (λ counted. AreCounts (map plain_model models.now) found.now.order.items counted.counts.items) }
+    ensures places { IfOk result (λ counted. ArePlaces order.now counted.positions.items) }
+    ensures counts { IfOk result (λ counted. AreCounts (map plain_model models.now) order.now counted.counts.items) }
     ensures fits { OnOk result (Fits (map plain_model models.now) limit) }
     ensures fault { IfErr result (λ fault. IsLengthFault (map plain_model models.now) limit fault) }
 {
-    let positions = places_of(alloc, &found.order, models.len())?;
-    let counts = count_models(
-        alloc,
-        models,
-        &found.names,
-        &found.order,
-        &positions,
-        limit,
-    )?;
-    if !fits(models, &found.order, &positions, &counts, limit) {
+    let positions = places_of(alloc, order, models.len())?;
+    let counts = count_models(alloc, models, names, order, &positions, limit)?;
+    if !fits(models, order, &positions, &counts, limit) {
         return Err(LibraryFault::TooLarge);
     }
     Ok(Counted { positions, counts })
@@ -102,11 +96,12 @@ fn counted_within(
 pub fn look(alloc: Global, models: &[BlifModel], limit: u64) -> Result<Looked, LibraryFault>
     requires library { IsLibrary (map plain_model models.now) }
     requires limit { limit ≤ 1073741824 }
-    ensures ok { IfOk result (λ looked. IsLooked (map plain_model models.now) limit looked) }
+    ensures ok { IfOk result (λ looked. IsLooked (map plain_model models.now) looked) }
+    ensures fits { OnOk result (Fits (map plain_model models.now) limit) }
     ensures fault { IfErr result (λ fault. IsLibraryFault (map plain_model models.now) limit fault) }
 {
     let found = sound_order(alloc, models)?;
-    let counted = counted_within(alloc, models, &found, limit)?;
+    let counted = counted_within(alloc, models, &found.names, &found.order, limit)?;
     Ok(Looked {
         names: found.names,
         order: found.order,

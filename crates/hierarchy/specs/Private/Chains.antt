@@ -11,7 +11,7 @@ use Rattle.hierarchy.specs.Private.Texts.{elements_with, elements_to, flat_model
 use Rattle.hierarchy.specs.Private.Texts.{name_clash}
 use Rattle.library_faults.specs.declared.lengths.count.Count.{Count}
 use Rattle.library_faults.specs.Private.Counts.{element_names, used}
-use Rattle.hierarchy.specs.Private.Links.{is_bare_element}
+use Rattle.hierarchy.specs.Private.Bindings.{is_bare_element}
 use Rattle.library_faults.specs.Private.Entries.{entry_at}
 use Rattle.hierarchy.specs.Private.Walk.{placed_element}
 use Rattle.library_faults.specs.Private.Models.{model_at, no_element}

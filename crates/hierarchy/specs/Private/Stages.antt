@@ -5,7 +5,7 @@ use Rattle.blif_text.specs.Models.{PlainModel}
 use Rattle.library_faults.specs.declared.fault.PlacingFault.{PlacingFault}
 use Rattle.library_faults.specs.declared.fault.PlacingFault.TheVariants as placing
 use Rattle.library_faults.specs.declared.fault.LibraryFault.{LibraryFault}
-use Rattle.library_faults.specs.declared.fault.LibraryFault.TheVariants as library
+use Rattle.library_faults.specs.declared.fault.LibraryFault.TheVariants as own
 use Rattle.library_faults.specs.Flat.{flat_model}
 use Rattle.library_faults.specs.Sound.{IsSound, Fits}
 use Rattle.hierarchy.specs.declared.flat_fault.FlatFault.{FlatFault}
@@ -20,10 +20,10 @@ flat_fault_of (placing.DuplicateFormal name) = DuplicateFormal name
 flat_fault_of (placing.BothWays name) = BothWays name
 
 abbrev pub library_fault_of : LibraryFault → FlatFault
-library_fault_of (library.Misplaced fault) = flat_fault_of fault
-library_fault_of (library.Recursive names) = Recursive names
-library_fault_of library.TooLarge = TooLarge
-library_fault_of library.Memory = Memory
+library_fault_of (own.Misplaced fault) = flat_fault_of fault
+library_fault_of (own.Recursive names) = Recursive names
+library_fault_of own.TooLarge = TooLarge
+library_fault_of own.Memory = Memory
 
 -- a library without faults of its own or of its flat text, and its flat model.
 pub record IsFlatModel (library : List PlainModel) (limit : ℕ) (m : PlainModel) : Type 0 where

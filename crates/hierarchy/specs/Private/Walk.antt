@@ -12,8 +12,8 @@ use Rattle.library_faults.specs.Graph.{names_of, model_named}
 use Rattle.library_faults.specs.Flat.{Level, actual_of, NetElement, NetTable, NetRegister, resolve, resolved_control}
 use Rattle.library_faults.specs.Private.Models.{model_at, element_at, IsInstance}
 use Rattle.hierarchy.specs.Private.Texts.{elements_with, elements_to}
-use Rattle.hierarchy.specs.declared.walking.links.Row.{Row}
-use Rattle.hierarchy.specs.Private.Links.{bindings_of, AreRows, IsBare}
+use Rattle.hierarchy.specs.declared.walking.bindings.Row.{Row}
+use Rattle.hierarchy.specs.Private.Bindings.{bindings_of, AreRows, IsBare}
 
 -- what the statement that places the model binds
 abbrev pub bound_by : List PlainModel → Option (ℕ × ℕ) → List (List ℕ × List ℕ)

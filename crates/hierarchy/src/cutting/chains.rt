@@ -16,12 +16,12 @@ ghost use Rattle.library_faults.specs.Found.{IsOrder};
 ghost use Rattle.library_faults.specs.Flat.{actual_of};
 ghost use Rattle.library_faults.specs.Private.Counts.{ArePlaces, AreCounts, used};
 ghost use Rattle.library_faults.specs.Private.Entries.{entry_at as entry_at_number, entry_named};
-ghost use Rattle.hierarchy.specs.Private.Links.{IsBare};
+ghost use Rattle.hierarchy.specs.Private.Bindings.{IsBare};
 ghost use Rattle.library_faults.specs.Private.Models.{model_at};
 ghost use Rattle.hierarchy.specs.Private.Chains.{IsHandedOn, IsHandedWay, IsEndWay, IsOnly, IsWay, AreWays};
 
-use crate::cutting::bare::is_bare;
-use crate::walking::links::bind_actuals;
+use crate::cutting::empty_models::is_bare;
+use crate::walking::bindings::bind_actuals;
 use blif_text::{BlifModel, Element};
 use indexmap::{IndexMap, IndexSet};
 use library_faults::{Count, entry_at, entry_of, times_used};

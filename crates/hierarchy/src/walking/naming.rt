@@ -11,7 +11,7 @@ ghost use Rattle.hierarchy.specs.Private.Walk.{IsPathText, IsReady, IsWalking, l
 ghost use Rattle.blif_text.specs.Views.{plain_model};
 ghost use Rattle.hierarchy.specs.declared.walking.naming.NamingFault.TheVariants.{Memory};
 
-use crate::walking::links::Row;
+use crate::walking::bindings::Row;
 use crate::walking::resolve::resolve;
 use crate::walking::walk::Walk;
 use blif_text::BlifModel;

@@ -4,12 +4,12 @@ ghost use Rattle.indexmap.specs.IndexMap.{get};
 ghost use Rattle.std.specs.Prelude.{ℕ, List, option_and_then, ◌≡◌, ◌<◌, ◌≤◌, ◌∷◌, ◌++◌, [], map, length, take, IfOk, OnOk, IfSome, IsNone, Some, None, true, false, slice_get};
 ghost use Rattle.library_faults.specs.Flat.{step};
 ghost use Rattle.hierarchy.specs.Private.Alone.{is_placing};
-ghost use Rattle.hierarchy.specs.declared.walking.links.Row.{Row};
+ghost use Rattle.hierarchy.specs.declared.walking.bindings.Row.{Row};
 ghost use Rattle.hierarchy.specs.Private.Walk.{innermost_first, known_net, AreFrames, AreKnown, IsReady, IsMoved, IsNext, IsWalking};
 ghost use Rattle.library_faults.specs.Private.Models.{IsInstance, element_at, model_at};
 ghost use Rattle.blif_text.specs.Views.{plain_model, plain_element};
 
-use crate::walking::links::{Link, Row};
+use crate::walking::bindings::{Link, Row};
 use crate::walking::resolve::nets_within;
 use blif_text::{BlifModel, Element};
 use indexmap::IndexMap;

@@ -3,10 +3,10 @@ ghost use Rattle.std.specs.Prelude.{◌≡◌, ◌<◌, ℕ, true, false, length
 ghost use Rattle.std.specs.List.{list_all};
 ghost use Rattle.blif_text.specs.Views.{plain_model, plain_element};
 ghost use Rattle.library_faults.specs.Graph.{names_of};
-ghost use Rattle.hierarchy.specs.Private.Links.{IsBare, is_bare_element};
+ghost use Rattle.hierarchy.specs.Private.Bindings.{IsBare, is_bare_element};
 ghost use Rattle.library_faults.specs.Private.Models.{model_at};
 
-use crate::walking::links::filled_target;
+use crate::walking::bindings::filled_target;
 use blif_text::{BlifModel, Element};
 use indexmap::IndexSet;
 use std::alloc::{AllocError, Global};

@@ -1,9 +1,9 @@
 use Rattle.std.proofs.Common.{◌≡◌, ℕ, true, false, map, length}
 use Rattle.std.specs.Prelude.{slice_index_or}
 use Rattle.blif_text.specs.Views.{plain_model}
-use Rattle.hierarchy.specs.Private.Links.{IsBare}
+use Rattle.hierarchy.specs.Private.Bindings.{IsBare}
 use Rattle.library_faults.specs.Private.Models.{model_at}
-use Rattle.hierarchy.proofs.cutting.bare.filled_models.Given as goal
+use Rattle.hierarchy.proofs.cutting.empty_models.filled_models.Given as goal
 
 abbrev pub invariant-loop-x : goal.invariant-loop-x
 invariant-loop-x l = record {

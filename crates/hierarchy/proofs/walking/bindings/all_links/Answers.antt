@@ -1,8 +1,8 @@
 use Rattle.std.proofs.Common.{rules, ◌+◌, sym, subst, take, map}
 use Rattle.blif_text.specs.Views.{plain_model, plain_element}
-use Rattle.hierarchy.specs.Private.Links.{AreLinks, AreRows}
+use Rattle.hierarchy.specs.Private.Bindings.{AreLinks, AreRows}
 use Rattle.hierarchy.proofs.Linking.{row_more}
-use Rattle.hierarchy.proofs.walking.links.all_links.Goals as goal
+use Rattle.hierarchy.proofs.walking.bindings.all_links.Goals as goal
 
 pub loop-model-preserved : goal.loop-model-preserved
 loop-model-preserved c =

@@ -2,7 +2,7 @@ use Rattle.std.proofs.Common.{◌∙◌, ap, sym, cond, Some}
 use Rattle.std.specs.Str.{bytes_eq}
 use Rattle.indexmap.specs.IndexMap.{get}
 use Rattle.hierarchy.proofs.Binding.{bound_before, bound_now}
-use Rattle.hierarchy.proofs.walking.links.bind_one.Goals as goal
+use Rattle.hierarchy.proofs.walking.bindings.bind_one.Goals as goal
 
 pub returns-then-contains_key : goal.returns-then-contains_key
 returns-then-contains_key c = λ q. bound_before (get bytes_eq c.args.actuals.now) c.args.formal.now c.args.actual.now q (sym c.contains_key.ensures ∙ c.if-contains_key.true)

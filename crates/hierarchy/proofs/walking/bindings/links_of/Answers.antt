@@ -1,8 +1,8 @@
 use Rattle.std.proofs.Common.{◌+◌, sym, subst, take, map}
 use Rattle.blif_text.specs.Views.{plain_element}
-use Rattle.hierarchy.specs.Private.Links.{AreLinks}
+use Rattle.hierarchy.specs.Private.Bindings.{AreLinks}
 use Rattle.hierarchy.proofs.Linking.{link_more}
-use Rattle.hierarchy.proofs.walking.links.links_of.Goals as goal
+use Rattle.hierarchy.proofs.walking.bindings.links_of.Goals as goal
 
 pub loop-element-preserved : goal.loop-element-preserved
 loop-element-preserved c =

@@ -4,11 +4,11 @@ use Rattle.std.specs.Option.{is_none}
 use Rattle.std.specs.Str.{bytes_eq}
 use Rattle.indexmap.specs.IndexMap.{IndexMap, get}
 use Rattle.blif_text.specs.Models.{PlainElement, Table, Register, Instance, PlainModel}
-use Rattle.hierarchy.specs.declared.walking.links.Link.{Link}
+use Rattle.hierarchy.specs.declared.walking.bindings.Link.{Link}
 use Rattle.library_faults.specs.Graph.{number_named}
 use Rattle.library_faults.specs.Flat.{Level, actual_of}
 use Rattle.hierarchy.specs.Private.Texts.{elements_with, elements_to}
-use Rattle.hierarchy.specs.declared.walking.links.Row.{Row}
+use Rattle.hierarchy.specs.declared.walking.bindings.Row.{Row}
 
 -- no element stands in or below the model, wherever it is placed
 abbrev pub IsBare : List PlainModel → List PlainElement → Type 0

@@ -3,7 +3,7 @@ use Rattle.std.specs.Str.{bytes_eq}
 use Rattle.std.specs.Map.{lookup}
 use Rattle.library_faults.specs.Flat.{actual_of}
 use Rattle.hierarchy.proofs.Binding.{bind_more}
-use Rattle.hierarchy.proofs.walking.links.bind_actuals.Goals as goal
+use Rattle.hierarchy.proofs.walking.bindings.bind_actuals.Goals as goal
 
 pub loop-formal-init : goal.loop-formal-init
 unfolding actual_of

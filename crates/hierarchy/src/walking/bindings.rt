@@ -6,7 +6,7 @@ ghost use Rattle.indexmap.specs.IndexMap.{get};
 ghost use Rattle.blif_text.specs.Views.{plain_model, plain_element};
 ghost use Rattle.library_faults.specs.Graph.{number_named};
 ghost use Rattle.library_faults.specs.Flat.{actual_of};
-ghost use Rattle.hierarchy.specs.Private.Links.{filled, bindings_of, Binds, IsLink, AreLinks, AreRows};
+ghost use Rattle.hierarchy.specs.Private.Bindings.{filled, bindings_of, Binds, IsLink, AreLinks, AreRows};
 
 use blif_text::{BlifModel, Element};
 use indexmap::{IndexMap, IndexSet};
