@@ -41,4 +41,3 @@ module _ (names : List (List ℕ)) (holds : List Bool) (es : List PlainElement) 
 
 pub is_only : (names : List (List ℕ)) (holds : List Bool) (es : List PlainElement) (n i : ℕ) → length es ≤ n → n ≤ length es → IsOnlyBefore names holds es n (Some i) → IsOnly names holds es i
 is_only names holds es n i low high before = record { within = (let b = before.0 in omega arith); others = λ k below ne. before.1 k (omega arith) ne }
-

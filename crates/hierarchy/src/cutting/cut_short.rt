@@ -11,8 +11,8 @@ ghost use Rattle.library_faults.specs.Private.Models.{model_at};
 ghost use Rattle.hierarchy.specs.Private.Chains.{AreWays, IsOfWay, IsShort, IsSameFlat};
 ghost use Rattle.blif_text.specs.Library.{IsLibrary};
 
-use crate::cutting::empty_models::filled_models;
 use crate::cutting::chains::{Way, all_ways};
+use crate::cutting::empty_models::filled_models;
 use crate::cutting::long_chains::{end_models, head_models};
 use crate::design::copies::copy_bindings;
 use blif_text::{BlifModel, Element};

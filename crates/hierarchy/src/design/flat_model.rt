@@ -15,8 +15,8 @@ ghost use Rattle.hierarchy.specs.Private.Walk.{IsReady};
 ghost use Rattle.hierarchy.specs.Private.Naming.{IsClash};
 ghost use Rattle.hierarchy.specs.Private.Stages.{IsFlatModel};
 
-use crate::cutting::empty_models::{branching_models, filled_models};
 use crate::cutting::cut_short::cut_short;
+use crate::cutting::empty_models::{branching_models, filled_models};
 use crate::flat_fault::FlatFault;
 use crate::walking::bindings::{Row, all_links};
 use crate::walking::named_model::named_model;

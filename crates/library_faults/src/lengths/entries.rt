@@ -6,11 +6,7 @@ use indexmap::IndexSet;
 use tmr_base::Name;
 
 /// What is kept of the model of this number.
-pub fn entry_at<'a, T>(
-    positions: &[usize],
-    entries: &'a [Option<T>],
-    x: usize,
-) -> Option<&'a T>
+pub fn entry_at<'a, T>(positions: &[usize], entries: &'a [Option<T>], x: usize) -> Option<&'a T>
     ensures { option_copied result ≡ entry_at positions.now entries.now x }
 {
     let place = positions.get(x)?;
