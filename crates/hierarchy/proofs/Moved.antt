@@ -6,7 +6,7 @@ use Rattle.blif_text.specs.Models.{PlainElement, PlainModel}
 use Rattle.blif_text.specs.declared.library.BlifModel.{BlifModel}
 use Rattle.blif_text.specs.declared.library.Element.{Element}
 use Rattle.blif_text.specs.Views.{plain_model, plain_element}
-use Rattle.library_faults.specs.Flat.{no_model, Level, step, resolve, actual_of}
+use Rattle.library_faults.specs.Flat.{Level, step, resolve, actual_of}
 use Rattle.library_faults.specs.Private.Models.{no_element, IsInstance, model_at, element_at}
 use Rattle.hierarchy.specs.declared.walking.walk.Frame.{Frame}
 use Rattle.hierarchy.specs.declared.walking.walk.Walk.{Walk}

@@ -1,12 +1,10 @@
 -- One element among others that are bare.
-use Rattle.std.proofs.Common.{◌≡◌, ◌≢◌, ℕ, ◌+◌, ◌<◌, ◌≤◌, ◌⊎◌, Bool, true, false, List, length, map, get_or, sym, ap, ◌∙◌, subst, inl, inr, arith, Option, Some, None}
+use Rattle.std.proofs.Common.{◌≡◌, ◌≢◌, ℕ, ◌+◌, ◌<◌, ◌≤◌, ◌⊎◌, Bool, true, false, List, length, subst, inl, inr, arith, Option, Some, None}
 use Rattle.std.specs.Prelude.{slice_index_or}
 use Rattle.std.specs.Option.{is_some}
 use Rattle.std.proofs.lemmas.Bool.{cases_lt}
-use Rattle.std.proofs.lemmas.List.{get_or-map}
 use Rattle.blif_text.specs.Models.{PlainElement}
 use Rattle.blif_text.specs.declared.library.Element.{Element}
-use Rattle.blif_text.specs.Views.{plain_element}
 use Rattle.hierarchy.specs.Private.Bindings.{is_bare_element}
 use Rattle.library_faults.specs.Private.Models.{no_element}
 use Rattle.hierarchy.specs.Private.Chains.{IsOnly}

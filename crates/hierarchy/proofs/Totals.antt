@@ -1,5 +1,5 @@
 -- What is still to come before the first element of a walk.
-use Rattle.std.proofs.Common.{◌≡◌, ◌-◌, List, [], ◌∷◌, length, refl, ap, ◌∙◌, arith, append-nil, None}
+use Rattle.std.proofs.Common.{◌≡◌, ◌-◌, List, [], ◌∷◌, length, ap, ◌∙◌, arith, append-nil, None}
 use Rattle.blif_text.specs.Models.{PlainModel}
 use Rattle.hierarchy.specs.declared.walking.walk.Walk.{Walk}
 use Rattle.hierarchy.specs.declared.walking.walk.Frame.{Frame}
@@ -7,7 +7,6 @@ use Rattle.library_faults.specs.Flat.{main_of, main_level}
 use Rattle.hierarchy.specs.Private.Texts.{elements_with, elements_to, flat_elements}
 use Rattle.library_faults.proofs.Models.{first_model}
 use Rattle.hierarchy.specs.Private.Walk.{coming, coming_from, innermost_first}
-use Rattle.library_faults.specs.Private.Models.{model_at}
 
 -- before the first element all elements are still to come
 root : Frame

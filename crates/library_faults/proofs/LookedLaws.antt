@@ -1,12 +1,12 @@
 -- Faults of the order and of the length, in the words of the whole.
-use Rattle.std.proofs.Common.{◌≡◌, ◌<◌, ℕ, List}
+use Rattle.std.proofs.Common.{ℕ, List}
 use Rattle.blif_text.specs.Models.{PlainModel}
 use Rattle.library_faults.specs.declared.fault.LibraryFault.{LibraryFault}
 use Rattle.library_faults.specs.declared.fault.LibraryFault.TheVariants.{Misplaced, Recursive, TooLarge, Memory}
 use Rattle.library_faults.specs.Graph.{graph}
 use Rattle.library_faults.specs.Library.{IsPlaceable}
 use Rattle.library_faults.specs.Found.{IsOrder}
-use Rattle.library_faults.specs.Sound.{IsSound, IsLibraryFault}
+use Rattle.library_faults.specs.Sound.{IsLibraryFault}
 use Rattle.library_faults.specs.Private.Survey.{IsOrderFault, IsLengthFault}
 
 pub order_fault : (library : List PlainModel) (limit : ℕ) (fault : LibraryFault) → IsOrderFault library fault → IsLibraryFault library limit fault
