@@ -7,8 +7,8 @@ use Rattle.blif_text.specs.Models.{PlainModel}
 use Rattle.blif_text.specs.Kind.{Bad}
 use Rattle.blif_text.specs.Reading.{reading}
 use Rattle.hierarchy.specs.Drafted.{draft_of, assumed, open_marks}
-use Rattle.hierarchy.specs.Flat.{flat_model}
-use Rattle.hierarchy.specs.FlatText.{text_length}
+use Rattle.library_faults.specs.Flat.{flat_model}
+use Rattle.library_faults.specs.FlatText.{text_length}
 use Rattle.hierarchy.specs.Flatten.{IsFlat, IsFreeFlat}
 use Rattle.hierarchy.proofs.Marks.{free_flat}
 use Rattle.blif_writer.specs.Text.{with_marks, flat_text, free_text}

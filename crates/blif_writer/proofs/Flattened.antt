@@ -4,16 +4,16 @@ use Rattle.std.specs.Prelude.{Contains}
 use Rattle.tmr_base.specs.declared.ids.Edge.{Edge}
 use Rattle.flat_net.specs.Net.{Net, Node, Table, Register, name_of}
 use Rattle.blif_text.specs.Models.{PlainElement, PlainModel}
-use Rattle.hierarchy.specs.Flat.{PlacedNet, net_text, Level, main_level, resolve, actual_of, NetElement, NetTable, NetRegister, resolved_control, elements_with, elements_to, flat_elements, named, named_control, flat_model}
+use Rattle.library_faults.specs.Flat.{PlacedNet, net_text, Level, main_level, resolve, actual_of, NetElement, NetTable, NetRegister, resolved_control, elements_with, elements_to, flat_elements, named, named_control, flat_model}
 use Rattle.hierarchy.specs.Clash.{main_net, name_clash}
 use Rattle.hierarchy.specs.Private.Alone.{places_nothing}
 use Rattle.hierarchy.proofs.Alone.{alone_clear}
-use Rattle.hierarchy.specs.Graph.{names_of, placed_in, graph, row, Reached, main, placed}
-use Rattle.hierarchy.specs.Ports.{PlainPorts, ports_of}
-use Rattle.hierarchy.specs.Faults.{elements_fault, model_fault}
-use Rattle.hierarchy.specs.Found.{IsOrder}
-use Rattle.hierarchy.specs.Library.{IsPlaceable}
-use Rattle.hierarchy.specs.Flatten.{IsSound}
+use Rattle.library_faults.specs.Graph.{names_of, placed_in, graph, row, Reached, main, placed}
+use Rattle.library_faults.specs.Ports.{PlainPorts, ports_of}
+use Rattle.library_faults.specs.Faults.{elements_fault, model_fault}
+use Rattle.library_faults.specs.Found.{IsOrder}
+use Rattle.library_faults.specs.Library.{IsPlaceable}
+use Rattle.library_faults.specs.Sound.{IsSound}
 use Rattle.blif_writer.specs.Text.{start_of, with_marks, net_words}
 use Rattle.blif_writer.specs.Model.{element_of, free_model}
 

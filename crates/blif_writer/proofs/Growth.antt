@@ -10,7 +10,7 @@ use Rattle.tmr_base.specs.Copies.{copy_number}
 use Rattle.tmr_base.specs.Names.{copy_text, voter_text, clock_text}
 use Rattle.table_cover.specs.Cover.{PlainCover}
 use Rattle.flat_net.specs.Net.{Net, Node, Table, Register, name_of}
-use Rattle.hierarchy.specs.FlatText.{spaced, row_length, rows_length, control_length}
+use Rattle.library_faults.specs.FlatText.{spaced, row_length, rows_length, control_length}
 use Rattle.blif_writer.specs.Length.{nets_length, node_length}
 
 pub few_digits : (p : ℕ) → p < 4294967296 → length (decimal p) ≤ 10

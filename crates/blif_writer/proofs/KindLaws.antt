@@ -20,7 +20,7 @@ use Rattle.blif_text.specs.Views.{bit as output, marked}
 use Rattle.blif_text.specs.Kind.{name_kind, names_kind, model_kind, port_kind, ports_kind, table_kind, type_kind, init_kind, ends_kind, control_kind, latch_kind, row_of, row_kind, Shape, kind_here, kind_at, is_model, first_bad as first_bad_of_text}
 use Rattle.blif_text.specs.Private.Latest.{open_model, table_before, here_of, here, lists, first_bad}
 use Rattle.blif_text.proofs.InOrder.{bad_same}
-use Rattle.hierarchy.proofs.NameSets.{none_before}
+use Rattle.library_faults.proofs.NameSets.{none_before}
 use Rattle.blif_text.specs.declared.library.Init.{Init}
 use Rattle.blif_text.specs.declared.library.Init.TheVariants.{Zero, One, Free, Unknown}
 use Rattle.blif_writer.specs.Text.{bit, init_word, start_of, with_marks, edge_word, row_line, row_lines, net_words, clock_words, control_words, node_lines, free_lines}

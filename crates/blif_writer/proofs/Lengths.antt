@@ -9,7 +9,7 @@ use Rattle.std.proofs.lemmas.List.Concat.{flat_map-append}
 use Rattle.tmr_base.specs.declared.ids.Edge.{Edge}
 use Rattle.tmr_base.specs.declared.ids.Edge.TheVariants.{Rising, Falling}
 use Rattle.flat_net.specs.Net.{Net, Node, Table, Register, IsValid, IsWired, net_count, name_of}
-use Rattle.hierarchy.specs.FlatText.{spaced as spaced_length, all_spaced, row_length, rows_length, control_length, element_length, text_length}
+use Rattle.library_faults.specs.FlatText.{spaced as spaced_length, all_spaced, row_length, rows_length, control_length, element_length, text_length}
 use Rattle.blif_writer.specs.Text.{bit, edge_word, row_line, row_lines, line_text, lines_text, net_words, clock_words, control_words, init_word, start_of, with_marks, node_lines, free_lines, free_text}
 use Rattle.blif_text.specs.declared.library.Init.{Init}
 use Rattle.blif_text.specs.declared.library.Init.TheVariants.{Zero, One, Free, Unknown}

@@ -19,7 +19,7 @@ use Rattle.hierarchy.specs.Drafted.{starts_with, drafted, draft_of, is_open, ope
 use Rattle.hierarchy.proofs.Marks.{marks_counted}
 use Rattle.flat_net.specs.Free.{node_bit}
 use Rattle.flat_net.proofs.Slots.{slot_at}
-use Rattle.hierarchy.proofs.NameSets.{none_before}
+use Rattle.library_faults.proofs.NameSets.{none_before}
 use Rattle.blif_writer.specs.Text.{start_of, with_marks, net_words, clock_words}
 use Rattle.blif_writer.specs.Model.{element_of, free_model}
 use Rattle.blif_writer.proofs.NodeLines.{input_name, bit_of, bit_is}

@@ -16,7 +16,7 @@ use Rattle.blif_text.specs.Kind.{Marks, row_of, tokens_of, first_bad}
 use Rattle.blif_text.specs.Models.{PlainElement, PlainModel, Table as TableElement, Register as LatchElement, edge, init, register, row_then, rows, table, elements, listed, is_port_in, is_port_out, appearing, model, own_then, own, model_then, models}
 use Rattle.blif_text.specs.Reading.{reading_of, reading}
 use Rattle.blif_text.proofs.Tables.{table_is}
-use Rattle.hierarchy.proofs.NameSets.{none_before}
+use Rattle.library_faults.proofs.NameSets.{none_before}
 use Rattle.blif_writer.specs.Text.{edge_word, row_line, row_lines, init_word, start_of, with_marks, net_words, clock_words, node_lines, free_lines, free_text}
 use Rattle.blif_text.specs.declared.library.Init.{Init}
 use Rattle.blif_text.specs.declared.library.Init.TheVariants.{Zero, One, Free, Unknown}

@@ -1,7 +1,7 @@
 -- How many bytes a flat text has.
 use Rattle.std.specs.Prelude.{ℕ, ◌+◌, List, sum_by}
 use Rattle.flat_net.specs.Net.{Net, Node, Table, Register, name_of}
-use Rattle.hierarchy.specs.FlatText.{spaced, all_spaced, rows_length, control_length}
+use Rattle.library_faults.specs.FlatText.{spaced, all_spaced, rows_length, control_length}
 use Rattle.blif_writer.specs.Text.{clock_words}
 
 -- the names of nets, a blank before each

@@ -2,7 +2,7 @@
 ghost use Rattle.std.specs.Prelude.{◌≡◌, ◌≤◌, ◌++◌, ◌∷◌, [], ℕ, Bool, List, IfOk, OnOk, Ok, codes, length};
 ghost use Rattle.blif_text.specs.Reading.{reading};
 ghost use Rattle.flat_net.specs.Net.{Net};
-ghost use Rattle.hierarchy.specs.FlatText.{text_length};
+ghost use Rattle.library_faults.specs.FlatText.{text_length};
 ghost use Rattle.blif_writer.specs.Left.{spaced_line};
 ghost use Rattle.blif_writer.specs.Text.{flat_text, free_text, net_words, clock_words};
 ghost use Rattle.blif_writer.specs.Length.{flat_length};

@@ -8,7 +8,7 @@ use Rattle.tmr_base.specs.declared.copies.CopyNo.TheVariants.{First, Second, Thi
 use Rattle.tmr_base.specs.Copies.{of_copy}
 use Rattle.flat_net.specs.Net.{Net, Node, Table, Register, net_count, name_of, node_name, all_pins, IsValid}
 use Rattle.flat_net.proofs.Slots.{slot_within}
-use Rattle.hierarchy.specs.FlatText.{spaced}
+use Rattle.library_faults.specs.FlatText.{spaced}
 use Rattle.certificate.specs.declared.role.Role.{Role}
 use Rattle.certificate.specs.declared.role.Role.TheVariants.{Copy, Voter}
 use Rattle.certificate.specs.Cert.{PlainCert, IsCert, role_of, label_of}

@@ -9,7 +9,7 @@ use Rattle.certificate.specs.declared.role.Role.TheVariants.{Copy, Voter}
 use Rattle.certificate.specs.Cert.{PlainCert, IsCert, role_of}
 use Rattle.certificate.specs.Rules.{AllHold}
 use Rattle.certificate.proofs.Lefts.{role_there}
-use Rattle.hierarchy.specs.FlatText.{spaced}
+use Rattle.library_faults.specs.FlatText.{spaced}
 use Rattle.blif_writer.specs.Length.{nets_length, node_length, flat_length}
 use Rattle.triplicate.specs.Form.{IsTripled, parts_of, is_voted}
 use Rattle.hardened_size.proofs.Sums.{sum_times, sum_of_lists, sum_by_number, sum_by_place}

@@ -10,7 +10,7 @@ use Rattle.flat_net.proofs.Slots.{slot_there}
 use Rattle.certificate.specs.declared.role.Role.TheVariants.{Copy, Voter}
 use Rattle.certificate.specs.Cert.{PlainCert, IsCert, role_of, copy_of}
 use Rattle.certificate.specs.Rules.{AllHold, CopiesTable, CopiesRegister, Votes}
-use Rattle.hierarchy.specs.FlatText.{spaced}
+use Rattle.library_faults.specs.FlatText.{spaced}
 use Rattle.blif_writer.specs.Length.{node_length}
 use Rattle.blif_writer.proofs.Growth.{IsGrown, ClockGrown, NodeGrown, PinsGrown, copy_lines, voter_lines}
 use Rattle.blif_writer.proofs.NodeLines.{name_is}

@@ -14,7 +14,7 @@ use Rattle.flat_net.specs.Faults.{net_of_draft, node_of_element, draft_names, dr
 use Rattle.flat_net.proofs.Firsts.{none_at}
 use Rattle.flat_net.proofs.Names.{eq_from}
 use Rattle.flat_net.proofs.Sound.{among_number, names_of_draft}
-use Rattle.hierarchy.specs.FlatText.{spaced, all_spaced, control_length, element_length, text_length}
+use Rattle.library_faults.specs.FlatText.{spaced, all_spaced, control_length, element_length, text_length}
 use Rattle.hierarchy.specs.Drafted.{drafted, draft_of, starts_with}
 use Rattle.hierarchy.specs.Flatten.{IsFlat}
 use Rattle.blif_writer.specs.Text.{clock_words}

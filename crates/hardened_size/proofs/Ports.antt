@@ -11,7 +11,7 @@ use Rattle.tmr_base.specs.Copies.{copy_number}
 use Rattle.tmr_base.specs.Names.{copy_text, clock_text}
 use Rattle.flat_net.specs.Net.{Net, net_count, name_of, IsValid}
 use Rattle.certificate.specs.Cert.{PlainCert, IsCert, copy_of}
-use Rattle.hierarchy.specs.FlatText.{spaced, all_spaced}
+use Rattle.library_faults.specs.FlatText.{spaced, all_spaced}
 use Rattle.blif_writer.specs.Text.{clock_words}
 use Rattle.blif_writer.specs.Length.{nets_length}
 use Rattle.triplicate.specs.Blocks.{threefold, hardened_clock}

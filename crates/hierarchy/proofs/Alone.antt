@@ -5,7 +5,7 @@ use Rattle.std.specs.Str.{bytes_eq}
 use Rattle.std.proofs.lemmas.Slice.Eq.{bytes_eq-Decides}
 use Rattle.tmr_base.specs.declared.ids.Edge.{Edge}
 use Rattle.blif_text.specs.Models.{PlainElement, Table, Register, Instance, PlainModel}
-use Rattle.hierarchy.specs.Flat.{Level, PlacedNet, NetElement, named, named_control, resolved_control, path_text, net_text, resolve, main_level, main_of, elements_with, elements_to, flat_elements, flat_model}
+use Rattle.library_faults.specs.Flat.{Level, PlacedNet, NetElement, named, named_control, resolved_control, path_text, net_text, resolve, main_level, main_of, elements_with, elements_to, flat_elements, flat_model}
 use Rattle.hierarchy.specs.Clash.{nets_of, main_net, walked, clash_after, is_taken, clashes, same_net, name_clash, control_nets}
 use Rattle.hierarchy.specs.Private.Alone.{places_nothing}
 use Rattle.hierarchy.proofs.WholeModel.{main_resolved, main_nets}

@@ -6,13 +6,13 @@ use Rattle.std.specs.Option.{is_none}
 use Rattle.std.proofs.lemmas.Bool.{cases_eq, cases_lt}
 use Rattle.std.proofs.lemmas.List.{get_or-set_other, get_or-replicate, get_or_past, length-replicate}
 use Rattle.blif_text.specs.Models.{PlainElement, Table, Register, Instance, PlainModel}
-use Rattle.hierarchy.specs.Graph.{names_of}
+use Rattle.library_faults.specs.Graph.{names_of}
 use Rattle.hierarchy.specs.Private.Texts.{elements_with, elements_to}
-use Rattle.hierarchy.specs.Private.Links.{IsBare, target_of, is_bare_element}
-use Rattle.hierarchy.specs.Private.Walk.{model_at, IsInstance}
+use Rattle.hierarchy.specs.Private.Bindings.{IsBare, target_of, is_bare_element}
+use Rattle.library_faults.specs.Private.Models.{IsInstance, model_at}
 use Rattle.blif_text.specs.declared.library.BlifModel.{BlifModel}
 use Rattle.blif_text.specs.Views.{plain_model, plain_element}
-use Rattle.hierarchy.proofs.Moved.{at_model}
+use Rattle.library_faults.proofs.Models.{at_model}
 use Rattle.hierarchy.proofs.Coming.{no_target, instance_first}
 
 both : (a b : Bool) → (a && b) ≡ true → (a ≡ true) × (b ≡ true)

@@ -4,7 +4,7 @@ use Rattle.std.specs.Str.{bytes_eq}
 use Rattle.std.specs.Option.{option_or, is_some}
 use Rattle.std.proofs.lemmas.List.{take_more}
 use Rattle.std.proofs.lemmas.Slice.Eq.{bytes_eq-Decides}
-use Rattle.hierarchy.specs.Flat.{actual_of}
+use Rattle.library_faults.specs.Flat.{actual_of}
 
 bytes_swap : (a b : List ℕ) (v : Bool) → bytes_eq a b ≡ v → bytes_eq b a ≡ v
 bytes_swap a b true e = (bytes_eq-Decides b a).1 (sym ((bytes_eq-Decides a b).0 e))

@@ -13,20 +13,21 @@ use Rattle.blif_text.specs.Models.{PlainElement, Table, Register, Instance, Plai
 use Rattle.blif_text.specs.Library.{name_of}
 use Rattle.tmr_base.specs.declared.ids.Edge.{Edge}
 use Rattle.hierarchy.specs.declared.cutting.chains.Way.{Way}
-use Rattle.hierarchy.specs.Graph.{graph, names_of, number_named, placed_of, row}
-use Rattle.hierarchy.specs.Found.{IsOrder}
-use Rattle.hierarchy.specs.Flat.{Level, no_model, step, path_of, actual_of, resolve, resolved_control}
+use Rattle.library_faults.specs.Graph.{graph, names_of, number_named, placed_of, row}
+use Rattle.library_faults.specs.Found.{IsOrder}
+use Rattle.library_faults.specs.Flat.{Level, no_model, step, path_of, actual_of, resolve, resolved_control}
 use Rattle.hierarchy.specs.Private.Texts.{elements_with, elements_to}
-use Rattle.hierarchy.specs.Private.Counts.{control_names, element_names, ArePlaces}
-use Rattle.hierarchy.specs.Private.Links.{IsBare, is_bare_element}
-use Rattle.hierarchy.specs.Private.Walk.{model_at, no_element, placed_element}
+use Rattle.library_faults.specs.Private.Counts.{control_names, element_names, ArePlaces}
+use Rattle.hierarchy.specs.Private.Bindings.{IsBare, is_bare_element}
+use Rattle.hierarchy.specs.Private.Walk.{placed_element}
+use Rattle.library_faults.specs.Private.Models.{model_at, no_element}
 use Rattle.hierarchy.specs.Private.Chains.{nets_in, placed_all, bound_at, IsOnly, IsHandedOn, IsHandedWay, IsWay, AreWays}
-use Rattle.hierarchy.specs.Private.Entries.{entry_at, entry_named}
+use Rattle.library_faults.specs.Private.Entries.{entry_at, entry_named}
 use Rattle.hierarchy.proofs.Substitutes.{StandFor}
-use Rattle.hierarchy.proofs.AllCounts.{placed_there, row_at}
+use Rattle.library_faults.proofs.AllCounts.{placed_there, row_at}
 use Rattle.hierarchy.proofs.BareLaws.{bare_target}
 use Rattle.hierarchy.proofs.Coming.{no_target, instance_first}
-use Rattle.hierarchy.proofs.GraphLaws.{number_within}
+use Rattle.library_faults.proofs.GraphLaws.{number_within}
 
 -- ---- names among names
 

@@ -8,12 +8,13 @@ use Rattle.blif_text.specs.Models.{PlainElement, Table, Register, Instance, Plai
 use Rattle.blif_text.specs.Library.{name_of}
 use Rattle.hierarchy.specs.declared.walking.walk.Frame.{Frame}
 use Rattle.hierarchy.specs.declared.walking.walk.Walk.{Walk}
-use Rattle.hierarchy.specs.Graph.{names_of, number_named, model_named}
-use Rattle.hierarchy.specs.Flat.{Level, NetElement, no_model, step, path_of, actual_of, resolve}
+use Rattle.library_faults.specs.Graph.{names_of, number_named, model_named}
+use Rattle.library_faults.specs.Flat.{Level, NetElement, no_model, step, path_of, actual_of, resolve}
 use Rattle.hierarchy.specs.Private.Texts.{elements_with, elements_to}
-use Rattle.hierarchy.specs.Private.Links.{filled, target_of, bindings_of, IsBare}
-use Rattle.hierarchy.specs.Private.Walk.{model_at, no_element, element_at, bound_by, level_of, rest_of, coming_from, known_net, AreFrames, AreKnown, IsInstance, placed_element, moves_with, moves_to, moves_from}
-use Rattle.hierarchy.proofs.GraphLaws.{number_within}
+use Rattle.hierarchy.specs.Private.Bindings.{filled, target_of, bindings_of, IsBare}
+use Rattle.hierarchy.specs.Private.Walk.{bound_by, level_of, rest_of, coming_from, known_net, AreFrames, AreKnown, placed_element, moves_with, moves_to, moves_from}
+use Rattle.library_faults.specs.Private.Models.{IsInstance, model_at, no_element, element_at}
+use Rattle.library_faults.proofs.GraphLaws.{number_within}
 
 -- ---- paths that begin alike
 

@@ -7,14 +7,14 @@ use Rattle.std.proofs.lemmas.List.{length-map}
 use Rattle.std.proofs.lemmas.Option.{slice_get-get_or}
 use Rattle.blif_text.specs.Models.{PlainElement, Table, Register, Instance, PlainModel}
 use Rattle.blif_text.specs.Library.{name_of}
-use Rattle.hierarchy.specs.Graph.{graph, names_of, number_named, main}
-use Rattle.hierarchy.specs.Found.{IsOrder}
-use Rattle.hierarchy.specs.Flat.{Level, NetTable, NetRegister, no_model, path_of, resolve, resolved_control, main_of, main_level, elements_with, elements_to, flat_elements}
-use Rattle.hierarchy.specs.Private.Walk.{model_at, no_element}
+use Rattle.library_faults.specs.Graph.{graph, names_of, number_named, main}
+use Rattle.library_faults.specs.Found.{IsOrder}
+use Rattle.library_faults.specs.Flat.{Level, NetTable, NetRegister, no_model, path_of, resolve, resolved_control, main_of, main_level, elements_with, elements_to, flat_elements}
+use Rattle.library_faults.specs.Private.Models.{model_at, no_element}
 use Rattle.hierarchy.specs.Laws.{DepthSuffices}
-use Rattle.hierarchy.proofs.GraphLaws.{number_within}
-use Rattle.hierarchy.proofs.Totals.{first_model}
-use Rattle.hierarchy.proofs.MainCosts.{few_placed}
+use Rattle.library_faults.proofs.GraphLaws.{number_within}
+use Rattle.library_faults.proofs.Models.{first_model}
+use Rattle.library_faults.proofs.MainCosts.{few_placed}
 use Rattle.hierarchy.proofs.ChainLaws.{placed_before, order_within}
 
 module _ (library : List PlainModel) where

@@ -12,14 +12,10 @@ use Rattle.blif_text.specs.Models.{PlainElement, Table, Register, Instance, Plai
 use Rattle.blif_text.specs.Library.{FitsPins, IsModel, IsLibrary, Differ}
 use Rattle.flat_net.specs.Draft.{AreDistinct, reads_of}
 use Rattle.flat_net.specs.Faults.{draft_reads}
-use Rattle.hierarchy.specs.Graph.{names_of, number_named, model_named}
-use Rattle.hierarchy.specs.Flat.{Level, NetElement, NetTable, NetRegister, net_text, resolve, named, main_of, main_level, no_model, elements_with, elements_to, flat_elements, flat_model}
-use Rattle.hierarchy.specs.FlatText.{spaced, all_spaced, element_length, text_length}
+use Rattle.library_faults.specs.Graph.{names_of, number_named, model_named}
+use Rattle.library_faults.specs.Flat.{Level, NetElement, NetTable, NetRegister, net_text, resolve, named, main_of, main_level, no_model, elements_with, elements_to, flat_elements, flat_model}
+use Rattle.library_faults.specs.FlatText.{spaced, all_spaced, element_length, text_length}
 use Rattle.hierarchy.specs.Drafted.{drafted, draft_of}
-use Rattle.hierarchy.specs.declared.flat_fault.FlatFault.{FlatFault}
-use Rattle.hierarchy.specs.declared.flat_fault.FlatFault.TheVariants.{UnknownModel, UnboundInput, UnknownFormal, DuplicateFormal, BothWays, Recursive, TooLarge, NameClash, Net, Memory}
-use Rattle.hierarchy.specs.Flatten.{IsSound, IsFlatFault}
-use Rattle.hierarchy.specs.Private.Stages.{IsSoundFault, IsTextFault}
 
 as_many : (levels : List Level) (pins : List (List ℕ)) → length (map net_text (map (resolve levels) pins)) ≡ length pins
 as_many levels pins = length-map (map (resolve levels) pins) net_text ∙ length-map pins (resolve levels)
@@ -113,29 +109,3 @@ unfolding draft_of
 draft_outputs m d = distinct m.outputs d
 
 pub ruleset draft_laws = (few_nets, few_reads, draft_inputs, draft_outputs)
-
--- ---- faults, in the words of the whole
-
-pub sound_fault : (library : List PlainModel) (limit : ℕ) (fault : FlatFault) → IsSoundFault library fault → IsFlatFault library limit fault
-sound_fault library limit (UnknownModel name) f = f
-sound_fault library limit (UnboundInput name) f = f
-sound_fault library limit (UnknownFormal name) f = f
-sound_fault library limit (DuplicateFormal name) f = f
-sound_fault library limit (BothWays name) f = f
-sound_fault library limit (Recursive names) f = f
-sound_fault library limit TooLarge f = absurd f
-sound_fault library limit (NameClash name) f = absurd f
-sound_fault library limit (Net fault) f = absurd f
-sound_fault library limit Memory f = tt
-
-pub text_fault : (library : List PlainModel) (limit : ℕ) (fault : FlatFault) → IsSound library → IsTextFault library limit fault → IsFlatFault library limit fault
-text_fault library limit (UnknownModel name) s f = absurd f
-text_fault library limit (UnboundInput name) s f = absurd f
-text_fault library limit (UnknownFormal name) s f = absurd f
-text_fault library limit (DuplicateFormal name) s f = absurd f
-text_fault library limit (BothWays name) s f = absurd f
-text_fault library limit (Recursive names) s f = absurd f
-text_fault library limit TooLarge s f = (s, f)
-text_fault library limit (NameClash name) s f = (s, f.0, f.1)
-text_fault library limit (Net fault) s f = absurd f
-text_fault library limit Memory s f = tt

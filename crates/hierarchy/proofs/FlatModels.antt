@@ -9,13 +9,23 @@ use Rattle.flat_net.specs.Net.{Net}
 use Rattle.flat_net.specs.Faults.{net_of_draft, IsFaultless, IsFaultOf}
 use Rattle.flat_net.specs.declared.fault.NetFault.{NetFault}
 use Rattle.flat_net.specs.declared.fault.NetFault.TheVariants as net
+use Rattle.hierarchy.specs.declared.flat_fault.FlatFault.{FlatFault}
 use Rattle.hierarchy.specs.declared.flat_fault.FlatFault.TheVariants.{Net as NetOf}
-use Rattle.hierarchy.specs.Flat.{main_of, flat_model}
-use Rattle.hierarchy.specs.FlatText.{text_length}
+use Rattle.library_faults.specs.declared.fault.PlacingFault.{PlacingFault}
+use Rattle.library_faults.specs.declared.fault.PlacingFault.TheVariants as placing
+use Rattle.library_faults.specs.declared.fault.LibraryFault.{LibraryFault}
+use Rattle.library_faults.specs.declared.fault.LibraryFault.TheVariants as of
+use Rattle.library_faults.specs.declared.looked.Looked.{Looked}
+use Rattle.library_faults.specs.Library.{IsFirstFault}
+use Rattle.library_faults.specs.Sound.{IsLibraryFault}
+use Rattle.library_faults.specs.Private.Looked.{IsLooked}
+use Rattle.library_faults.specs.Flat.{main_of, flat_model}
+use Rattle.library_faults.specs.FlatText.{text_length}
 use Rattle.hierarchy.specs.Clash.{name_clash}
 use Rattle.hierarchy.specs.Drafted.{draft_of, open_marks}
-use Rattle.hierarchy.specs.Flatten.{IsSound, Fits, IsFlatFault, IsFreeFlat}
-use Rattle.hierarchy.specs.Private.Stages.{IsFlatModel}
+use Rattle.hierarchy.specs.Flatten.{IsFlatFault, IsFreeFlat}
+use Rattle.library_faults.specs.Sound.{IsSound, Fits}
+use Rattle.hierarchy.specs.Private.Stages.{IsFlatModel, flat_fault_of, library_fault_of}
 use Rattle.hierarchy.proofs.FlatKeeps.{flat_fits, flat_inputs, flat_outputs}
 use Rattle.hierarchy.proofs.Marks.{free_flat}
 
@@ -28,6 +38,29 @@ pub same_flat_model : (library : List PlainModel) (limit : ℕ) (m main : PlainM
 same_flat_model library limit m main same flat = subst (IsFlatModel library limit) (sym same) flat
 
 pub ruleset flat_models = (is_flat_model, same_flat_model)
+
+-- ---- a fault of the library itself
+
+placing_fault : (library : List PlainModel) (limit : ℕ) (fault : PlacingFault) → IsFirstFault library fault → IsFlatFault library limit (flat_fault_of fault)
+placing_fault library limit (placing.UnknownModel name) f = f
+placing_fault library limit (placing.UnboundInput name) f = f
+placing_fault library limit (placing.UnknownFormal name) f = f
+placing_fault library limit (placing.DuplicateFormal name) f = f
+placing_fault library limit (placing.BothWays name) f = f
+
+own_fault : (library : List PlainModel) (limit : ℕ) (fault : LibraryFault) → IsLibraryFault library limit fault → IsFlatFault library limit (library_fault_of fault)
+own_fault library limit (of.Misplaced fault) f = placing_fault library limit fault f
+own_fault library limit (of.Recursive names) f = f
+own_fault library limit of.TooLarge f = f
+own_fault library limit of.Memory f = tt
+
+pub library_fault : (library : List PlainModel) (limit : ℕ) (fault : LibraryFault) (made : FlatFault) → made ≡ library_fault_of fault → IsLibraryFault library limit fault → IsFlatFault library limit made
+library_fault library limit fault made is f = subst (IsFlatFault library limit) (sym is) (own_fault library limit fault f)
+
+pub looked_sound : (library : List PlainModel) (looked : Looked) → IsLooked library looked → IsSound library
+looked_sound library looked is = record { placeable = is.placeable; order = looked.order.items; ordered = is.ordered }
+
+pub ruleset library_laws = (library_fault, looked_sound)
 
 -- ---- what it keeps
 

@@ -8,10 +8,10 @@ use Rattle.std.proofs.lemmas.List.Folds.{list_any-append, list_any_at}
 use Rattle.std.proofs.lemmas.List.Quantifiers.{position-Some}
 use Rattle.std.proofs.lemmas.Slice.Eq.{bytes_eq-Decides}
 use Rattle.blif_text.specs.Kind.{is_among}
-use Rattle.hierarchy.specs.declared.lengths.count.Count.{Count}
-use Rattle.hierarchy.specs.Graph.{number_named}
-use Rattle.hierarchy.specs.Private.Counts.{used}
-use Rattle.hierarchy.specs.Flat.{actual_of}
+use Rattle.library_faults.specs.declared.lengths.count.Count.{Count}
+use Rattle.library_faults.specs.Graph.{number_named}
+use Rattle.library_faults.specs.Private.Counts.{used}
+use Rattle.library_faults.specs.Flat.{actual_of}
 use Rattle.hierarchy.specs.Private.Chains.{IsHandedOn}
 use Rattle.hierarchy.proofs.Binding.{one_more}
 

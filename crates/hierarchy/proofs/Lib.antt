@@ -1,11 +1,3 @@
-pub mod NameSets
-pub mod Items
-pub mod GraphLaws
-pub mod Reaching
-pub mod ModelOrders
-pub mod FirstFaults
-pub mod Loops
-pub mod Capped
 pub mod Binding
 pub mod Linking
 pub mod Stacks
@@ -24,15 +16,6 @@ pub mod SameTexts
 pub mod PathsApart
 pub mod SameClash
 pub mod FlatKeeps
-pub mod Sums
-pub mod Additions
-pub mod PlacedCounts
-pub mod ElementCounts
-pub mod ModelCounts
-pub mod SoundStatements
-pub mod AllCounts
-pub mod FlatCosts
-pub mod MainCosts
 pub mod Substitutes
 pub mod ChainLaws
 pub mod Lifted

@@ -12,13 +12,14 @@ use Rattle.tmr_base.specs.declared.ids.Edge.{Edge}
 use Rattle.blif_text.specs.Kind.{is_among}
 use Rattle.blif_text.specs.Models.{PlainElement, Table, Register, Instance, PlainModel}
 use Rattle.hierarchy.specs.declared.cutting.chains.Way.{Way}
-use Rattle.hierarchy.specs.declared.lengths.count.Count.{Count}
-use Rattle.hierarchy.specs.Graph.{graph, names_of, number_named}
-use Rattle.hierarchy.specs.Found.{IsOrder}
-use Rattle.hierarchy.specs.Flat.{Level, NetTable, NetRegister, step, path_of, actual_of, resolve, resolved_control}
+use Rattle.library_faults.specs.declared.lengths.count.Count.{Count}
+use Rattle.library_faults.specs.Graph.{graph, names_of, number_named}
+use Rattle.library_faults.specs.Found.{IsOrder}
+use Rattle.library_faults.specs.Flat.{Level, NetTable, NetRegister, step, path_of, actual_of, resolve, resolved_control}
 use Rattle.hierarchy.specs.Private.Texts.{elements_with, elements_to}
-use Rattle.hierarchy.specs.Private.Counts.{Use, Formal, Own, use_of, placed_use, control_names, element_names, uses_with, uses_to, uses_in, is_formal, own_one, by_formal, used, IsCount, AreCounts}
-use Rattle.hierarchy.specs.Private.Walk.{model_at, no_element, placed_element}
+use Rattle.library_faults.specs.Private.Counts.{Use, Formal, Own, use_of, placed_use, control_names, element_names, uses_with, uses_to, uses_in, is_formal, own_one, by_formal, used, IsCount, AreCounts}
+use Rattle.hierarchy.specs.Private.Walk.{placed_element}
+use Rattle.library_faults.specs.Private.Models.{model_at, no_element}
 use Rattle.hierarchy.specs.Private.Chains.{nets_in, placed_all, bound_at, IsEndWay, IsWay}
 use Rattle.hierarchy.proofs.ChainLaws.{into_model, nets_same, itself, placed_before}
 

@@ -2,11 +2,11 @@
 use Rattle.std.proofs.Common.{◌≡◌, ℕ, zero, suc, ◌<◌, Bool, List, [], ◌∷◌, length, refl, ap, subst, arith, Option, Some, None}
 use Rattle.std.specs.Prelude.{slice_get, slice_index_or}
 use Rattle.blif_text.specs.Models.{PlainElement, PlainModel}
-use Rattle.hierarchy.specs.declared.walking.links.Link.{Link}
-use Rattle.hierarchy.specs.declared.walking.links.Row.{Row}
-use Rattle.hierarchy.specs.Flat.{no_model}
-use Rattle.hierarchy.specs.Private.Links.{IsLink, AreLinks, AreRows}
-use Rattle.hierarchy.specs.Private.Walk.{model_at, no_element, element_at}
+use Rattle.hierarchy.specs.declared.walking.bindings.Link.{Link}
+use Rattle.hierarchy.specs.declared.walking.bindings.Row.{Row}
+use Rattle.library_faults.specs.Flat.{no_model}
+use Rattle.hierarchy.specs.Private.Bindings.{IsLink, AreLinks, AreRows}
+use Rattle.library_faults.specs.Private.Models.{model_at, no_element, element_at}
 
 links_long : (names : List (List ℕ)) (holds : List Bool) (links : List Link) (elements : List PlainElement) → AreLinks names holds links elements → length links ≡ length elements
 links_long names holds [] [] a = refl

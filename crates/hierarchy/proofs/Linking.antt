@@ -5,9 +5,9 @@ use Rattle.blif_text.specs.Models.{PlainElement, PlainModel}
 use Rattle.blif_text.specs.declared.library.BlifModel.{BlifModel}
 use Rattle.blif_text.specs.declared.library.Element.{Element}
 use Rattle.blif_text.specs.Views.{plain_model, plain_element}
-use Rattle.hierarchy.specs.declared.walking.links.Link.{Link}
-use Rattle.hierarchy.specs.declared.walking.links.Row.{Row}
-use Rattle.hierarchy.specs.Private.Links.{IsLink, AreLinks, AreRows}
+use Rattle.hierarchy.specs.declared.walking.bindings.Link.{Link}
+use Rattle.hierarchy.specs.declared.walking.bindings.Row.{Row}
+use Rattle.hierarchy.specs.Private.Bindings.{IsLink, AreLinks, AreRows}
 
 link_push : (names : List (List ℕ)) (holds : List Bool) (links : List Link) (elements : List PlainElement) (link : Link) (element : PlainElement) → AreLinks names holds links elements → IsLink names holds link element → AreLinks names holds (links ++ link ∷ []) (elements ++ element ∷ [])
 link_push names holds [] [] link element all one = (one, tt)

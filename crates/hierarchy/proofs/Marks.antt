@@ -13,9 +13,10 @@ use Rattle.flat_net.proofs.Slots.{slot_at, slot_within}
 use Rattle.hierarchy.specs.Drafted.{draft_of, drafted, starts_with, is_open, is_assumed, assumed, open_mark, open_marks}
 use Rattle.hierarchy.specs.declared.flat_fault.FlatFault.{FlatFault}
 use Rattle.hierarchy.specs.declared.flat_fault.FlatFault.TheVariants.{Memory}
-use Rattle.hierarchy.specs.Flat.{flat_model}
+use Rattle.library_faults.specs.Flat.{flat_model}
 use Rattle.hierarchy.specs.Clash.{name_clash}
-use Rattle.hierarchy.specs.Flatten.{IsSound, Fits, IsFlatFault, IsSameFault, IsFreeFlat}
+use Rattle.hierarchy.specs.Flatten.{IsFlatFault, IsSameFault, IsFreeFlat}
+use Rattle.library_faults.specs.Sound.{IsSound, Fits}
 use Rattle.hierarchy.proofs.OneAnswer.{one_flat, ok_only, fault_only}
 
 one_each : (names : List (List ℕ)) (es : List PlainElement) → length (flat_map open_mark es) ≡ length (map (node_of_element names) (flat_map drafted es))

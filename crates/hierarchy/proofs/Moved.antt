@@ -6,22 +6,21 @@ use Rattle.blif_text.specs.Models.{PlainElement, PlainModel}
 use Rattle.blif_text.specs.declared.library.BlifModel.{BlifModel}
 use Rattle.blif_text.specs.declared.library.Element.{Element}
 use Rattle.blif_text.specs.Views.{plain_model, plain_element}
-use Rattle.hierarchy.specs.Flat.{no_model}
-use Rattle.hierarchy.specs.Private.Walk.{no_element}
+use Rattle.library_faults.specs.Flat.{Level, step, resolve, actual_of}
+use Rattle.library_faults.specs.Private.Models.{no_element, IsInstance, model_at, element_at}
 use Rattle.hierarchy.specs.declared.walking.walk.Frame.{Frame}
 use Rattle.hierarchy.specs.declared.walking.walk.Walk.{Walk}
-use Rattle.hierarchy.specs.declared.walking.links.Row.{Row}
-use Rattle.hierarchy.specs.declared.walking.links.Link.{Link}
-use Rattle.hierarchy.specs.Graph.{names_of, model_named}
-use Rattle.hierarchy.specs.Flat.{Level, step, resolve}
+use Rattle.hierarchy.specs.declared.walking.bindings.Row.{Row}
+use Rattle.hierarchy.specs.declared.walking.bindings.Link.{Link}
+use Rattle.library_faults.specs.Graph.{names_of, model_named}
 use Rattle.hierarchy.specs.Private.Texts.{elements_to}
-use Rattle.hierarchy.specs.Private.Links.{target_of, bindings_of, Binds, IsBare}
-use Rattle.hierarchy.specs.Flat.{actual_of}
+use Rattle.hierarchy.specs.Private.Bindings.{target_of, bindings_of, Binds, IsBare}
 use Rattle.indexmap.specs.IndexMap.{get}
 use mathlib.Core.Path.{fun_ext}
 use Rattle.std.specs.Prelude.{option_and_then}
 use Rattle.std.specs.Str.{bytes_eq}
-use Rattle.hierarchy.specs.Private.Walk.{model_at, element_at, innermost_first, AreFrames, IsInstance, IsReady, IsMoved, IsNext, IsPathText, IsWalking, IsNetWithin, AreKnown, known_net, bound_by, coming, coming_from, levels_of, level_of, placed_element, moves}
+use Rattle.hierarchy.specs.Private.Walk.{innermost_first, AreFrames, IsReady, IsMoved, IsNext, IsPathText, IsWalking, IsNetWithin, AreKnown, known_net, bound_by, coming, coming_from, levels_of, level_of, placed_element, moves}
+use Rattle.library_faults.proofs.Models.{at_model}
 use Rattle.hierarchy.proofs.Coming.{placed_name, no_target, target_is, skipped, skipped_frames, passed_fewer, left, left_fewer, frames_weaken, passed, entered, entered_frames, entered_known, entered_fewer}
 use Rattle.hierarchy.proofs.PathTexts.{path_more}
 use Rattle.hierarchy.proofs.Linked.{link_of, some_row}
@@ -141,9 +140,6 @@ next_found library path f fs old w a kept frames new_frames same known_same belo
 
     known : AreKnown library path (known_net old) (f ∷ fs)
     known = known_in library old path (f ∷ fs) kept frames a
-
-pub at_model : (models : List BlifModel) (x : ℕ) (item : BlifModel) → x < length models → item ≡ get_or models x item → model_at (map plain_model models) x ≡ plain_model item
-at_model models x item below is = get_or-map plain_model models x item no_model below ∙ ap plain_model (sym is)
 
 pub at_element : (models : List BlifModel) (x i : ℕ) (item : BlifModel) (e : Element) → x < length models → item ≡ get_or models x item → i < length item.elements.items → e ≡ get_or item.elements.items i e → element_at (map plain_model models) x i ≡ plain_element e
 at_element models x i item e below is within at =

@@ -10,7 +10,7 @@ use Rattle.std.proofs.lemmas.Slice.Eq.{bytes_eq-Decides}
 use Rattle.tmr_base.specs.declared.ids.Edge.{Edge}
 use Rattle.table_cover.specs.Cover.{PlainCover}
 use Rattle.blif_text.specs.declared.library.Init.{Init}
-use Rattle.hierarchy.specs.Flat.{PlacedNet, NetElement, NetTable, NetRegister}
+use Rattle.library_faults.specs.Flat.{PlacedNet, NetElement, NetTable, NetRegister}
 use Rattle.hierarchy.specs.Private.Texts.{net_text}
 use Rattle.hierarchy.specs.Clash.{same_net, nets_of, control_nets}
 use Rattle.hierarchy.specs.Private.Texts.{has_text, is_taken}

@@ -10,17 +10,18 @@ use Rattle.flat_net.specs.Faults.{IsFaultOf, IsSameFault as SameNetFault, same a
 use Rattle.flat_net.specs.declared.fault.NetFault.{NetFault}
 use Rattle.flat_net.specs.declared.fault.NetFault.TheVariants as net
 use Rattle.flat_net.proofs.OneFault.{none_or_one, one_fault as one_net_fault}
-use Rattle.hierarchy.specs.declared.placed.fault.PlacingFault.{PlacingFault}
-use Rattle.hierarchy.specs.declared.placed.fault.PlacingFault.TheVariants as placing
+use Rattle.library_faults.specs.declared.fault.PlacingFault.{PlacingFault}
+use Rattle.library_faults.specs.declared.fault.PlacingFault.TheVariants as placing
 use Rattle.hierarchy.specs.declared.flat_fault.FlatFault.{FlatFault}
 use Rattle.hierarchy.specs.declared.flat_fault.FlatFault.TheVariants.{UnknownModel, UnboundInput, UnknownFormal, DuplicateFormal, BothWays, Recursive, TooLarge, NameClash, Net as NetOf, Memory}
-use Rattle.hierarchy.specs.Graph.{graph}
-use Rattle.hierarchy.specs.Library.{IsFirstFault, IsPlaceable, IsRecursive}
-use Rattle.hierarchy.specs.Flat.{flat_model}
-use Rattle.hierarchy.specs.FlatText.{text_length}
+use Rattle.library_faults.specs.Graph.{graph}
+use Rattle.library_faults.specs.Library.{IsFirstFault, IsPlaceable, IsRecursive}
+use Rattle.library_faults.specs.Flat.{flat_model}
+use Rattle.library_faults.specs.FlatText.{text_length}
 use Rattle.hierarchy.specs.Clash.{name_clash}
 use Rattle.hierarchy.specs.Drafted.{draft_of}
-use Rattle.hierarchy.specs.Flatten.{IsSound, Fits, IsFlat, IsFlatFault, IsSameFault, same, of_models, of_tables}
+use Rattle.hierarchy.specs.Flatten.{IsFlat, IsFlatFault, IsSameFault, same, of_models, of_tables}
+use Rattle.library_faults.specs.Sound.{IsSound, Fits}
 use Rattle.hierarchy.specs.Private.Stages.{flat_fault_of}
 use Rattle.hierarchy.proofs.OrderOrLoop.{no_model_loop}
 

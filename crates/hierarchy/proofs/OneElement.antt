@@ -1,14 +1,12 @@
 -- One element among others that are bare.
-use Rattle.std.proofs.Common.{◌≡◌, ◌≢◌, ℕ, ◌+◌, ◌<◌, ◌≤◌, ◌⊎◌, Bool, true, false, List, length, map, get_or, sym, ap, ◌∙◌, subst, inl, inr, arith, Option, Some, None}
+use Rattle.std.proofs.Common.{◌≡◌, ◌≢◌, ℕ, ◌+◌, ◌<◌, ◌≤◌, ◌⊎◌, Bool, true, false, List, length, subst, inl, inr, arith, Option, Some, None}
 use Rattle.std.specs.Prelude.{slice_index_or}
 use Rattle.std.specs.Option.{is_some}
 use Rattle.std.proofs.lemmas.Bool.{cases_lt}
-use Rattle.std.proofs.lemmas.List.{get_or-map}
 use Rattle.blif_text.specs.Models.{PlainElement}
 use Rattle.blif_text.specs.declared.library.Element.{Element}
-use Rattle.blif_text.specs.Views.{plain_element}
-use Rattle.hierarchy.specs.Private.Links.{is_bare_element}
-use Rattle.hierarchy.specs.Private.Walk.{no_element}
+use Rattle.hierarchy.specs.Private.Bindings.{is_bare_element}
+use Rattle.library_faults.specs.Private.Models.{no_element}
 use Rattle.hierarchy.specs.Private.Chains.{IsOnly}
 
 -- of the first elements, all or all but one are bare
@@ -41,6 +39,3 @@ module _ (names : List (List ℕ)) (holds : List Bool) (es : List PlainElement) 
 
 pub is_only : (names : List (List ℕ)) (holds : List Bool) (es : List PlainElement) (n i : ℕ) → length es ≤ n → n ≤ length es → IsOnlyBefore names holds es n (Some i) → IsOnly names holds es i
 is_only names holds es n i low high before = record { within = (let b = before.0 in omega arith); others = λ k below ne. before.1 k (omega arith) ne }
-
-pub element_is : (es : List Element) (i : ℕ) (item : Element) → i < length es → item ≡ get_or es i item → slice_index_or (map plain_element es) i no_element ≡ plain_element item
-element_is es i item below is = get_or-map plain_element es i item no_element below ∙ ap plain_element (sym is)

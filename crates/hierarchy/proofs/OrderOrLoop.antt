@@ -3,9 +3,9 @@ use Rattle.std.proofs.Common.{◌≡◌, ℕ, ◌<◌, List, length, sym, subst,
 use Rattle.std.specs.Prelude.{slice_index, Contains}
 use Rattle.std.proofs.lemmas.List.{get_or_default}
 use Rattle.flat_net.proofs.NoLoop.{Meets, none_contained, next_around}
-use Rattle.hierarchy.specs.Graph.{row, Places}
-use Rattle.hierarchy.specs.Library.{IsLoop}
-use Rattle.hierarchy.specs.Found.{IsOrder}
+use Rattle.library_faults.specs.Graph.{row, Places}
+use Rattle.library_faults.specs.Library.{IsLoop}
+use Rattle.library_faults.specs.Found.{IsOrder}
 
 pub no_model_loop : (rows : List (List ℕ)) (order models : List ℕ) → IsOrder rows order → IsLoop rows models → ⊥
 no_model_loop rows order models ordered loop = none_contained order models before loop.some (ordered.complete (slice_index models 0) (loop.reached 0 loop.some))

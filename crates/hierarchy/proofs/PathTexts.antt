@@ -6,7 +6,7 @@ use Rattle.std.specs.List.{list_all}
 use Rattle.std.specs.Fmt.{decimal}
 use Rattle.tmr_base.specs.Names.{is_name, is_name_byte}
 use Rattle.tmr_base.proofs.NameLaws.{list_all-append, numbered_name}
-use Rattle.hierarchy.specs.Flat.{step}
+use Rattle.library_faults.specs.Flat.{step}
 use Rattle.hierarchy.specs.Private.Walk.{IsPathText}
 
 both : (a b : Bool) → (a && b) ≡ true → (a ≡ true) × (b ≡ true)

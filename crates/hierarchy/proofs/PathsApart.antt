@@ -7,7 +7,7 @@ use Rattle.std.specs.Str.Parse.{AllDigits}
 use Rattle.std.proofs.lemmas.Fmt.{decimal_is_IsNumeral, decimal_injective}
 use Rattle.std.proofs.lemmas.List.{append_assoc}
 use Rattle.std.proofs.lemmas.List.Elements.{All-head, All-tail}
-use Rattle.hierarchy.specs.Flat.{step, path_text}
+use Rattle.library_faults.specs.Flat.{step, path_text}
 
 -- no byte of the text is `/`
 abbrev HasNoSlash : List ℕ → Type 0

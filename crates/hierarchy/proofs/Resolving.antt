@@ -5,7 +5,7 @@ use Rattle.std.proofs.lemmas.List.{take_more, take_all, reverse-append, take-app
 use Rattle.blif_text.specs.Models.{PlainModel}
 use Rattle.hierarchy.specs.declared.walking.walk.Frame.{Frame}
 use Rattle.hierarchy.specs.declared.walking.walk.Walk.{Walk}
-use Rattle.hierarchy.specs.Flat.{Level, PlacedNet, actual_of, resolve}
+use Rattle.library_faults.specs.Flat.{Level, PlacedNet, actual_of, resolve}
 use Rattle.hierarchy.specs.Private.Walk.{level_of, levels_of, bound_by, innermost_first, known_net, AreFrames, AreKnown, IsPlacing, IsWalking, IsNetWithin, AreWithin}
 use Rattle.std.specs.Str.{bytes_eq}
 use Rattle.std.proofs.lemmas.Slice.Eq.{bytes_eq-Decides}

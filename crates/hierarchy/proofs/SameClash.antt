@@ -11,8 +11,8 @@ use Rattle.std.proofs.lemmas.Slice.Eq.{bytes_eq-Decides}
 use Rattle.tmr_base.specs.declared.ids.Edge.{Edge}
 use Rattle.blif_text.specs.Models.{PlainElement, Table, Register, Instance, PlainModel}
 use Rattle.std.proofs.lemmas.Option.{slice_get_within, get_or_from_slice_get}
-use Rattle.hierarchy.specs.Graph.{names_of, number_named, model_named}
-use Rattle.hierarchy.specs.Flat.{PlacedNet, Level, NetElement, NetTable, NetRegister, path_text, net_text, main_level, main_of, path_of, actual_of, resolve, resolved_control, elements_with, elements_to, flat_elements, flat_model}
+use Rattle.library_faults.specs.Graph.{names_of, number_named, model_named}
+use Rattle.library_faults.specs.Flat.{PlacedNet, Level, NetElement, NetTable, NetRegister, path_text, net_text, main_level, main_of, path_of, actual_of, resolve, resolved_control, elements_with, elements_to, flat_elements, flat_model}
 use Rattle.hierarchy.specs.Clash.{main_net, control_nets, nets_of, walked, same_net, clashes, is_taken, clash_after, name_clash}
 use Rattle.hierarchy.specs.Private.Texts as texts
 use Rattle.hierarchy.specs.Private.Room.{HasRoom}

@@ -1,14 +1,13 @@
 -- The flat elements are the same where the path of each net is its text, and so are the texts that clash.
-use Rattle.std.proofs.Common.{◌≡◌, ℕ, zero, suc, ◌+◌, ◌<◌, List, [], ◌∷◌, ◌++◌, length, map, refl, sym, ap, ◌∙◌, subst, append-nil, Option, Some, None}
+use Rattle.std.proofs.Common.{◌≡◌, ℕ, zero, suc, ◌+◌, List, [], ◌∷◌, ◌++◌, length, map, refl, sym, ap, ◌∙◌, Option, Some, None}
 use Rattle.std.specs.Option.{option_map_or}
 use Rattle.std.proofs.lemmas.List.{map-append}
-use Rattle.std.proofs.lemmas.Grind.{flat_map-append}
 use Rattle.tmr_base.specs.declared.ids.Edge.{Edge}
 use Rattle.blif_text.specs.Models.{PlainElement, Table, Register, Instance, PlainModel}
-use Rattle.hierarchy.specs.Graph.{model_named}
-use Rattle.hierarchy.specs.Flat.{PlacedNet, Level, NetElement, NetTable, NetRegister, step, path_text, net_text, main_level, main_of, path_of, actual_of, resolve, resolved_control, elements_with, elements_to, flat_elements, named, named_control, flat_model}
-use Rattle.hierarchy.specs.FlatText.{text_length}
+use Rattle.library_faults.specs.Graph.{model_named}
+use Rattle.library_faults.specs.Flat.{PlacedNet, Level, NetElement, NetTable, NetRegister, step, path_text, net_text, main_level, main_of, path_of, actual_of, resolve, resolved_control, elements_with, elements_to, flat_elements, named, named_control, flat_model}
 use Rattle.hierarchy.specs.Private.Texts as texts
+use Rattle.library_faults.proofs.FlatCosts.{one_further}
 
 -- ---- the same elements
 
@@ -49,9 +48,6 @@ control_texted levels (Some (edge, name)) = ap (λ n. Some (edge, n)) (resolve_t
 path_texted : (levels : List Level) → path_of (map texted_level levels) ≡ path_text (path_of levels)
 path_texted [] = refl
 path_texted (level ∷ outer) = refl
-
-one_further : (path : List ℕ) (number : ℕ) → path_text (path ++ number ∷ []) ≡ path_text path ++ step number
-one_further path number = flat_map-append step path (number ∷ []) ∙ ap (λ r. path_text path ++ r) (append-nil (step number))
 
 module _ (inner text_inner : List Level → List ℕ → List NetElement) (below : (levels : List Level) (name : List ℕ) → map texted (inner levels name) ≡ text_inner (map texted_level levels) name) where
   elements_texted : (levels : List Level) (number : ℕ) (es : List PlainElement) → map texted (elements_with inner levels number es) ≡ texts.elements_with text_inner (map texted_level levels) number es
@@ -106,8 +102,3 @@ named_same (NetRegister pin out control init ∷ es) = rw (control_same control,
 pub same_model : (library : List PlainModel) → texts.flat_model library ≡ flat_model library
 unfolding flat_model texts.flat_model
 same_model library = ap (λ es. record { name = (main_of library).name; inputs = (main_of library).inputs; outputs = (main_of library).outputs; elements = es }) (ap (map texts.named) (sym (flat_texted library)) ∙ named_same (flat_elements library))
-
--- ---- in the words of the calls
-
-pub large_same : (library : List PlainModel) (limit : ℕ) → limit < text_length (texts.flat_model library) → limit < text_length (flat_model library)
-large_same library limit large = subst (λ m. limit < text_length m) (same_model library) large

@@ -13,7 +13,7 @@ use Rattle.flat_net.specs.Draft.{PlainDraft, TableOf, LatchOf, out_of, reads_of}
 use Rattle.flat_net.specs.Faults.{net_of_draft, node_of_element, net_inputs, draft_names, draft_reads, number_in, is_among, is_no_net, is_clock, clock_of, IsFaultless}
 use Rattle.flat_net.proofs.Firsts.{none_at}
 use Rattle.flat_net.proofs.Sound.{among_number, names_of_draft, count_of_draft, total_of_draft}
-use Rattle.hierarchy.specs.FlatText.{spaced, all_spaced, row_length, rows_length, element_length, text_length}
+use Rattle.library_faults.specs.FlatText.{spaced, all_spaced, row_length, rows_length, element_length, text_length}
 use Rattle.hierarchy.specs.Drafted.{drafted, draft_of, starts_with}
 use Rattle.hierarchy.specs.Sizes.{row_places, row_total}
 

@@ -3,17 +3,17 @@ use Rattle.std.proofs.Common.{◌≡◌, ℕ, zero, suc, ◌+◌, ◌<◌, ◌�
 use Rattle.std.specs.Prelude.{slice_index_or}
 use Rattle.std.proofs.lemmas.Bool.{cases_lt}
 use Rattle.blif_text.specs.Models.{PlainElement, Table, Register, Instance, PlainModel}
-use Rattle.hierarchy.specs.Graph.{graph, names_of, number_named}
-use Rattle.hierarchy.specs.Found.{IsOrder}
-use Rattle.hierarchy.specs.Library.{IsPlaceable}
-use Rattle.hierarchy.specs.Flat.{Level, NetTable, NetRegister, step, path_of, resolve, resolved_control, main_of, main_level}
+use Rattle.library_faults.specs.Graph.{graph, names_of, number_named}
+use Rattle.library_faults.specs.Found.{IsOrder}
+use Rattle.library_faults.specs.Library.{IsPlaceable}
+use Rattle.library_faults.specs.Flat.{Level, NetTable, NetRegister, step, path_of, resolve, resolved_control, main_of, main_level}
 use Rattle.hierarchy.specs.Private.Texts.{elements_with, elements_to, flat_elements, flat_model}
 use Rattle.hierarchy.specs.Private.Texts.{walked, clash_after}
-use Rattle.hierarchy.specs.Private.Walk.{model_at, no_element}
+use Rattle.library_faults.specs.Private.Models.{model_at, no_element}
 use Rattle.hierarchy.specs.Private.Chains.{IsSameFlat}
 use Rattle.hierarchy.proofs.Substitutes.{StandFor, AreStandIns, IsStandIn}
-use Rattle.hierarchy.proofs.Totals.{first_model}
-use Rattle.hierarchy.proofs.MainCosts.{few_placed, main_place}
+use Rattle.library_faults.proofs.Models.{first_model}
+use Rattle.library_faults.proofs.MainCosts.{few_placed, main_place}
 use Rattle.hierarchy.proofs.ChainLaws.{into_model, order_within}
 
 names_alike : (models library : List PlainModel) → length models ≡ length library → ((x : ℕ) → x < length library → (model_at models x).name ≡ (model_at library x).name) → names_of models ≡ names_of library

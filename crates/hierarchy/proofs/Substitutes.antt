@@ -1,10 +1,10 @@
 -- What may stand for the models of a library and their elements.
 use Rattle.std.specs.Prelude.{◌≡◌, ◌≤◌, ◌<◌, ℕ, List, length, slice_index, slice_index_or, Some}
 use Rattle.blif_text.specs.Models.{PlainElement, Instance, PlainModel}
-use Rattle.hierarchy.specs.Graph.{names_of, number_named}
-use Rattle.hierarchy.specs.Flat.{Level}
+use Rattle.library_faults.specs.Graph.{names_of, number_named}
+use Rattle.library_faults.specs.Flat.{Level}
 use Rattle.hierarchy.specs.Private.Texts.{elements_with, elements_to}
-use Rattle.hierarchy.specs.Private.Walk.{model_at, no_element}
+use Rattle.library_faults.specs.Private.Models.{model_at, no_element}
 
 -- these elements may stand for those of the model at this place of the order: they are the same flat elements, and place
 -- models that stand before it alone

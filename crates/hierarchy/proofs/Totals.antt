@@ -1,19 +1,16 @@
 -- What is still to come before the first element of a walk.
-use Rattle.std.proofs.Common.{◌≡◌, ◌-◌, List, [], ◌∷◌, length, refl, ap, ◌∙◌, arith, append-nil, None}
+use Rattle.std.proofs.Common.{◌≡◌, ◌-◌, List, [], ◌∷◌, length, ap, ◌∙◌, arith, append-nil, None}
 use Rattle.blif_text.specs.Models.{PlainModel}
 use Rattle.hierarchy.specs.declared.walking.walk.Walk.{Walk}
 use Rattle.hierarchy.specs.declared.walking.walk.Frame.{Frame}
-use Rattle.hierarchy.specs.Flat.{main_of, main_level}
+use Rattle.library_faults.specs.Flat.{main_of, main_level}
 use Rattle.hierarchy.specs.Private.Texts.{elements_with, elements_to, flat_elements}
-use Rattle.hierarchy.specs.Private.Walk.{model_at, coming, coming_from, innermost_first}
+use Rattle.library_faults.proofs.Models.{first_model}
+use Rattle.hierarchy.specs.Private.Walk.{coming, coming_from, innermost_first}
 
 -- before the first element all elements are still to come
 root : Frame
 root = record { model = 0; next = 0; number = 0; placing = None; path_end = 0 }
-
-pub first_model : (library : List PlainModel) → model_at library 0 ≡ main_of library
-first_model [] = refl
-first_model (m ∷ models) = refl
 
 pub all_to_come : (library : List PlainModel) (w : Walk) → innermost_first w ≡ record { model = 0; next = 0; number = 0; placing = None; path_end = 0 } ∷ [] → coming library w ≡ flat_elements library
 unfolding coming_from flat_elements

@@ -14,18 +14,17 @@ use Rattle.blif_text.specs.declared.library.BlifModel.{BlifModel}
 use Rattle.blif_text.specs.declared.library.Element.{Element}
 use Rattle.blif_text.specs.Views.{plain_model, plain_element}
 use Rattle.hierarchy.specs.declared.cutting.chains.Way.{Way}
-use Rattle.hierarchy.specs.Graph.{graph, names_of, number_named}
-use Rattle.hierarchy.specs.Found.{IsOrder}
-use Rattle.hierarchy.specs.Flat.{no_model}
-use Rattle.hierarchy.specs.declared.lengths.count.Count.{Count}
-use Rattle.hierarchy.specs.Private.Counts.{ArePlaces, AreCounts}
-use Rattle.hierarchy.specs.Private.Links.{IsBare}
-use Rattle.hierarchy.specs.Private.Walk.{model_at, no_element}
+use Rattle.library_faults.specs.Graph.{graph, names_of, number_named}
+use Rattle.library_faults.specs.Found.{IsOrder}
+use Rattle.library_faults.specs.Flat.{no_model}
+use Rattle.library_faults.specs.declared.lengths.count.Count.{Count}
+use Rattle.library_faults.specs.Private.Counts.{ArePlaces, AreCounts}
+use Rattle.hierarchy.specs.Private.Bindings.{IsBare}
+use Rattle.library_faults.specs.Private.Models.{model_at, no_element}
 use Rattle.hierarchy.specs.Private.Chains.{IsOnly, IsHandedWay, IsEndWay, IsWay, AreWays, IsOfWay, IsShort}
-use Rattle.hierarchy.specs.Private.Entries.{entry_at, entry_named}
+use Rattle.library_faults.specs.Private.Entries.{entry_at, entry_named}
 use Rattle.hierarchy.proofs.Substitutes.{StandFor, AreStandIns}
-use Rattle.hierarchy.proofs.Moved.{at_model}
-use Rattle.hierarchy.proofs.OneElement.{element_is}
+use Rattle.library_faults.proofs.Models.{at_model, element_is}
 use Rattle.hierarchy.proofs.ChainLaws.{order_within, handed_way, itself_stands, way_stands}
 use Rattle.hierarchy.proofs.Lifted.{end_is}
 

@@ -7,7 +7,7 @@ use Rattle.blif_text.specs.Models.{PlainElement, PlainModel}
 use Rattle.hierarchy.specs.declared.walking.naming.NamingFault.{NamingFault}
 use Rattle.hierarchy.specs.declared.walking.naming.NamingFault.TheVariants.{Clash, Memory}
 use Rattle.hierarchy.specs.declared.walking.walk.Walk.{Walk}
-use Rattle.hierarchy.specs.Flat.{Level, resolve, actual_of, main_level, main_of}
+use Rattle.library_faults.specs.Flat.{Level, resolve, actual_of, main_level, main_of}
 use Rattle.hierarchy.specs.Private.Texts.{named, net_text, flat_elements, flat_model}
 use Rattle.hierarchy.specs.Clash.{nets_of, main_net}
 use Rattle.hierarchy.specs.Private.Texts.{walked, clash_after, name_clash}

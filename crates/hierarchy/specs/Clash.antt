@@ -4,7 +4,7 @@ use Rattle.std.specs.List.{list_any}
 use Rattle.std.specs.Str.{bytes_eq}
 use Rattle.tmr_base.specs.declared.ids.Edge.{Edge}
 use Rattle.blif_text.specs.Models.{PlainModel}
-use Rattle.hierarchy.specs.Flat.{PlacedNet, net_text, NetElement, NetTable, NetRegister, main_of, flat_elements}
+use Rattle.library_faults.specs.Flat.{PlacedNet, net_text, NetElement, NetTable, NetRegister, main_of, flat_elements}
 
 abbrev pub main_net : List ℕ → PlacedNet
 main_net name = record { path = []; name = name }

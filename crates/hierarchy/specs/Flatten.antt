@@ -1,30 +1,19 @@
 -- The flat design of a library, and why it has none.
-use Rattle.std.specs.Prelude.{◌≡◌, ◌≢◌, ◌≤◌, ◌<◌, ℕ, Bool, List, Some, None, Vec, count_by}
+use Rattle.std.specs.Prelude.{◌≡◌, ◌≢◌, ◌<◌, ℕ, Bool, List, Some, None, Vec, count_by}
 use Rattle.std.specs.declared.alloc.Global.{Global}
 use Rattle.blif_text.specs.Models.{PlainModel}
 use Rattle.flat_net.specs.Net.{Net}
 use Rattle.flat_net.specs.Faults.{net_of_draft, IsFaultless, IsFaultOf}
 use Rattle.flat_net.specs.declared.fault.NetFault.TheVariants as net
-use Rattle.hierarchy.specs.declared.placed.fault.PlacingFault.TheVariants as placing
+use Rattle.library_faults.specs.declared.fault.PlacingFault.TheVariants as placing
 use Rattle.hierarchy.specs.declared.flat_fault.FlatFault.{FlatFault}
 use Rattle.hierarchy.specs.declared.flat_fault.FlatFault.TheVariants.{UnknownModel, UnboundInput, UnknownFormal, DuplicateFormal, BothWays, Recursive, TooLarge, NameClash, Net as NetOf, Memory}
-use Rattle.hierarchy.specs.Graph.{graph}
-use Rattle.hierarchy.specs.Library.{IsPlaceable, IsFirstFault, IsRecursive}
-use Rattle.hierarchy.specs.Found.{IsOrder}
-use Rattle.hierarchy.specs.Flat.{flat_model}
-use Rattle.hierarchy.specs.FlatText.{text_length}
+use Rattle.library_faults.specs.Library.{IsFirstFault, IsRecursive}
+use Rattle.library_faults.specs.Sound.{IsSound, Fits}
+use Rattle.library_faults.specs.Flat.{flat_model}
+use Rattle.library_faults.specs.FlatText.{text_length}
 use Rattle.hierarchy.specs.Clash.{name_clash}
 use Rattle.hierarchy.specs.Drafted.{draft_of, assumed, open_marks}
-
--- no statement of a reached model has a fault, and the reached models can be listed so that each stands after those that it places
-pub record IsSound (library : List PlainModel) : Type 0 where
-  pub placeable : IsPlaceable library
-  pub order : List ℕ
-  pub ordered : IsOrder (graph library) order
-
--- the flat text keeps the limit
-abbrev pub Fits : List PlainModel → ℕ → Type 0
-Fits library limit = text_length (flat_model library) ≤ limit
 
 -- the fault is there, and none of those before it
 abbrev pub IsFlatFault : List PlainModel → ℕ → FlatFault → Type 0

@@ -1,8 +1,8 @@
 -- Laws of the definitions of flat elements. Each is the only clause of a public call that does nothing.
 use Rattle.std.specs.Prelude.{◌≡◌, ◌≤◌, ◌<◌, ◌^◌, ℕ, List, [], ◌∷◌, length, All}
 use Rattle.blif_text.specs.Models.{PlainModel}
-use Rattle.hierarchy.specs.Flat.{path_text, main_level, main_of, elements_with, elements_to, flat_elements}
-use Rattle.hierarchy.specs.Flatten.{IsSound}
+use Rattle.library_faults.specs.Flat.{path_text, main_level, main_of, elements_with, elements_to, flat_elements}
+use Rattle.library_faults.specs.Sound.{IsSound}
 
 -- paths of the same text are the same. Each number is that of a statement of a model, of which none holds 2^64.
 abbrev pub PathsDiffer : Type 0

@@ -1,11 +1,4 @@
-pub mod Graph
-pub mod Ports
-pub mod Faults
-pub mod Library
-pub mod Found
-pub mod FlatText
 pub mod Drafted
-pub mod Flat
 pub mod Clash
 pub mod Private
 pub mod Flatten

@@ -1,8 +1,10 @@
 //! Why a library has no flat design.
 ghost use Rattle.std.specs.Prelude.{◌≡◌};
+ghost use Rattle.hierarchy.specs.Private.Stages.{flat_fault_of, library_fault_of};
 ghost use Rattle.hierarchy.specs.declared.flat_fault.FlatFault.TheVariants.{Memory};
 
 use flat_net::NetFault;
+use library_faults::{LibraryFault, PlacingFault};
 use std::alloc::AllocError;
 use tmr_base::{Name, OutOfMemory};
 
@@ -48,5 +50,30 @@ impl From<AllocError> for FlatFault {
 
     fn from(_error: AllocError) -> FlatFault {
         FlatFault::Memory
+    }
+}
+
+fn placing_fault(fault: PlacingFault) -> FlatFault
+    ensures { result ≡ flat_fault_of fault }
+{
+    match fault {
+        PlacingFault::UnknownModel(name) => FlatFault::UnknownModel(name),
+        PlacingFault::UnboundInput(name) => FlatFault::UnboundInput(name),
+        PlacingFault::UnknownFormal(name) => FlatFault::UnknownFormal(name),
+        PlacingFault::DuplicateFormal(name) => FlatFault::DuplicateFormal(name),
+        PlacingFault::BothWays(name) => FlatFault::BothWays(name),
+    }
+}
+
+impl From<LibraryFault> for FlatFault {
+    ghost from_gives = { λ fault made. made ≡ library_fault_of fault };
+
+    fn from(fault: LibraryFault) -> FlatFault {
+        match fault {
+            LibraryFault::Misplaced(fault) => placing_fault(fault),
+            LibraryFault::Recursive(names) => FlatFault::Recursive(names),
+            LibraryFault::TooLarge => FlatFault::TooLarge,
+            LibraryFault::Memory => FlatFault::Memory,
+        }
     }
 }

@@ -10,9 +10,6 @@ mod cutting;
 mod design;
 mod flat_fault;
 mod laws;
-mod lengths;
-mod placed;
-mod survey;
 mod walking;
 
 pub use design::flattening::{Flat, flatten, flatten_free, flatten_owned};

@@ -4,7 +4,7 @@ use Rattle.std.specs.Prelude.{IfSome, IsSomeAnd}
 use Rattle.std.specs.FinMap.{get, insert}
 use Rattle.flat_net.specs.Net.{Net}
 use Rattle.hierarchy.specs.Drafted.{open_marks}
-use Rattle.hierarchy.specs.Flat.{flat_model}
+use Rattle.library_faults.specs.Flat.{flat_model}
 use Rattle.hierarchy.specs.Flatten.{IsFlat}
 use Rattle.hierarchy.proofs.Marks.{marks_counted}
 use Rattle.blif_writer.specs.NetOf.{IsNetOf, IsFreeNetOf}

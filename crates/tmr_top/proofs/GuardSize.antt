@@ -9,7 +9,7 @@ use Rattle.std.proofs.lemmas.Option.{get_or_from_slice_get, slice_get_within}
 use Rattle.tmr_base.specs.declared.ids.Edge.{Edge}
 use Rattle.tmr_base.specs.Names.{clock_text}
 use Rattle.flat_net.specs.Net.{Net, Node, Table, Register, net_count, name_of, node_of, IsValid}
-use Rattle.hierarchy.specs.FlatText.{spaced, all_spaced, rows_length, control_length}
+use Rattle.library_faults.specs.FlatText.{spaced, all_spaced, rows_length, control_length}
 use Rattle.blif_writer.specs.Text.{clock_words}
 use Rattle.blif_writer.specs.Length.{nets_length, node_length, flat_length}
 use Rattle.hardened_size.proofs.Sums.{sum_times, sum_of_lists, sum_by_number, sum_by_place}

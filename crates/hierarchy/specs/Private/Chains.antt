@@ -5,15 +5,16 @@ use Rattle.std.specs.Option.{is_some}
 use Rattle.blif_text.specs.Kind.{is_among}
 use Rattle.blif_text.specs.Models.{PlainElement, Instance, PlainModel}
 use Rattle.hierarchy.specs.declared.cutting.chains.Way.{Way}
-use Rattle.hierarchy.specs.Graph.{names_of}
-use Rattle.hierarchy.specs.Flat.{Level, NetElement, actual_of}
+use Rattle.library_faults.specs.Graph.{names_of}
+use Rattle.library_faults.specs.Flat.{Level, NetElement, actual_of}
 use Rattle.hierarchy.specs.Private.Texts.{elements_with, elements_to, flat_model}
 use Rattle.hierarchy.specs.Private.Texts.{name_clash}
-use Rattle.hierarchy.specs.declared.lengths.count.Count.{Count}
-use Rattle.hierarchy.specs.Private.Counts.{element_names, used}
-use Rattle.hierarchy.specs.Private.Links.{is_bare_element}
-use Rattle.hierarchy.specs.Private.Entries.{entry_at}
-use Rattle.hierarchy.specs.Private.Walk.{model_at, no_element, placed_element}
+use Rattle.library_faults.specs.declared.lengths.count.Count.{Count}
+use Rattle.library_faults.specs.Private.Counts.{element_names, used}
+use Rattle.hierarchy.specs.Private.Bindings.{is_bare_element}
+use Rattle.library_faults.specs.Private.Entries.{entry_at}
+use Rattle.hierarchy.specs.Private.Walk.{placed_element}
+use Rattle.library_faults.specs.Private.Models.{model_at, no_element}
 
 -- the names that stand in tables and registers
 abbrev pub nets_in : List PlainElement → List (List ℕ)

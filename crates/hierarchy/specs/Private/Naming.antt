@@ -1,6 +1,6 @@
 -- Texts that are given to nets.
 use Rattle.std.specs.Prelude.{◌≡◌, ℕ, List, ◌++◌, length, find, Option, Some, option_map}
-use Rattle.hierarchy.specs.Flat.{PlacedNet}
+use Rattle.library_faults.specs.Flat.{PlacedNet}
 use Rattle.hierarchy.specs.Private.Texts.{has_text, clash_after, name_clash}
 use Rattle.blif_text.specs.Models.{PlainModel}
 use Rattle.hierarchy.specs.declared.walking.naming.NamingFault.{NamingFault}

@@ -5,8 +5,8 @@ use Rattle.std.specs.Option.{option_map_or}
 use Rattle.std.specs.Str.{bytes_eq}
 use Rattle.tmr_base.specs.declared.ids.Edge.{Edge}
 use Rattle.blif_text.specs.Models.{PlainElement, Table, Register, Instance, PlainModel}
-use Rattle.hierarchy.specs.Graph.{model_named}
-use Rattle.hierarchy.specs.Flat.{PlacedNet, Level, NetElement, NetTable, NetRegister, step, main_level, main_of, path_of, resolve, resolved_control}
+use Rattle.library_faults.specs.Graph.{model_named}
+use Rattle.library_faults.specs.Flat.{PlacedNet, Level, NetElement, NetTable, NetRegister, step, main_level, main_of, path_of, resolve, resolved_control}
 use Rattle.hierarchy.specs.Clash.{main_net, nets_of, same_net}
 
 abbrev pub net_text : PlacedNet → List ℕ

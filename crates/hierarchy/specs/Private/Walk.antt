@@ -8,20 +8,12 @@ use Rattle.tmr_base.specs.Names.{is_name_byte}
 use Rattle.blif_text.specs.Models.{PlainElement, Table, Register, Instance, PlainModel}
 use Rattle.hierarchy.specs.declared.walking.walk.Frame.{Frame}
 use Rattle.hierarchy.specs.declared.walking.walk.Walk.{Walk}
-use Rattle.hierarchy.specs.Graph.{names_of, model_named}
-use Rattle.hierarchy.specs.Flat.{Level, actual_of, NetElement, NetTable, NetRegister, no_model, resolve, resolved_control}
+use Rattle.library_faults.specs.Graph.{names_of, model_named}
+use Rattle.library_faults.specs.Flat.{Level, actual_of, NetElement, NetTable, NetRegister, resolve, resolved_control}
+use Rattle.library_faults.specs.Private.Models.{model_at, element_at, IsInstance}
 use Rattle.hierarchy.specs.Private.Texts.{elements_with, elements_to}
-use Rattle.hierarchy.specs.declared.walking.links.Row.{Row}
-use Rattle.hierarchy.specs.Private.Links.{bindings_of, AreRows, IsBare}
-
-abbrev pub model_at : List PlainModel → ℕ → PlainModel
-model_at library x = slice_index_or library x no_model
-
-abbrev pub no_element : PlainElement
-no_element = Instance [] []
-
-abbrev pub element_at : List PlainModel → ℕ → ℕ → PlainElement
-element_at library x i = slice_index_or (model_at library x).elements i no_element
+use Rattle.hierarchy.specs.declared.walking.bindings.Row.{Row}
+use Rattle.hierarchy.specs.Private.Bindings.{bindings_of, AreRows, IsBare}
 
 -- what the statement that places the model binds
 abbrev pub bound_by : List PlainModel → Option (ℕ × ℕ) → List (List ℕ × List ℕ)
@@ -77,12 +69,6 @@ AreKnown library path known (f ∷ frames) =
 -- what a walk keeps
 abbrev pub IsWalking : List PlainModel → Walk → Type 0
 IsWalking library w = AreFrames library (length w.path.items) (innermost_first w) × AreKnown library w.path.items (known_net w) (innermost_first w)
-
--- the element is a `.subckt` statement
-abbrev pub IsInstance : PlainElement → Type 0
-IsInstance (Table pins out cover) = ⊥
-IsInstance (Register pin out control init) = ⊥
-IsInstance (Instance model bindings) = Unit {0}
 
 -- the flat element of a table or a register at these levels
 abbrev pub placed_element : List Level → PlainElement → List NetElement

@@ -3,22 +3,21 @@
 ghost use Rattle.std.specs.Prelude.{◌≡◌, ◌<◌, ◌∷◌, [], ℕ, map, length, IfOk, IfSome};
 ghost use Rattle.blif_text.specs.Views.{plain_model, plain_element};
 ghost use Rattle.blif_text.specs.Models.{Instance};
-ghost use Rattle.hierarchy.specs.Graph.{names_of, graph};
-ghost use Rattle.hierarchy.specs.Found.{IsOrder};
-ghost use Rattle.hierarchy.specs.Private.Counts.{ArePlaces, AreCounts};
-ghost use Rattle.hierarchy.specs.Library.{IsPlaceable};
-ghost use Rattle.hierarchy.specs.Private.Walk.{model_at};
+ghost use Rattle.library_faults.specs.Graph.{names_of, graph};
+ghost use Rattle.library_faults.specs.Found.{IsOrder};
+ghost use Rattle.library_faults.specs.Private.Counts.{ArePlaces, AreCounts};
+ghost use Rattle.library_faults.specs.Library.{IsPlaceable};
+ghost use Rattle.library_faults.specs.Private.Models.{model_at};
 ghost use Rattle.hierarchy.specs.Private.Chains.{AreWays, IsOfWay, IsShort, IsSameFlat};
 ghost use Rattle.blif_text.specs.Library.{IsLibrary};
 
-use crate::cutting::bare::filled_models;
 use crate::cutting::chains::{Way, all_ways};
-use crate::cutting::heads::{end_models, head_models};
+use crate::cutting::empty_models::filled_models;
+use crate::cutting::long_chains::{end_models, head_models};
 use crate::design::copies::copy_bindings;
-use crate::lengths::count::Count;
-use crate::lengths::entries::entry_at;
 use blif_text::{BlifModel, Element};
 use indexmap::IndexSet;
+use library_faults::{Count, entry_at};
 use std::alloc::Global;
 use tmr_base::{Name, OutOfMemory};
 

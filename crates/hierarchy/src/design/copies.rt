@@ -3,19 +3,9 @@ ghost use Rattle.std.specs.Prelude.{◌≡◌, map, IfOk};
 ghost use Rattle.blif_text.specs.Views.{plain_model, plain_element};
 
 use blif_text::{BlifModel, Element};
+use library_faults::copy_names;
 use std::alloc::Global;
 use tmr_base::{Edge, Name, OutOfMemory};
-
-/// The same names once more.
-pub(crate) fn copy_names(alloc: Global, names: &[Name]) -> Result<Vec<Name>, OutOfMemory>
-    ensures { IfOk result (λ copies. copies.items ≡ names.now) }
-{
-    let mut copies = Vec::with_capacity(alloc, names.len())?;
-    for name in names {
-        copies.push(name.copy(alloc)?)?;
-    }
-    Ok(copies)
-}
 
 /// The same control once more.
 fn copy_control(

@@ -7,9 +7,10 @@ ghost use Rattle.blif_text.specs.Models.{Table, Register};
 ghost use Rattle.hierarchy.specs.Private.Texts.{named};
 ghost use Rattle.hierarchy.specs.Clash.{nets_of};
 ghost use Rattle.hierarchy.specs.Private.Naming.{AreNamed, IsNamingFault};
-ghost use Rattle.hierarchy.specs.Private.Walk.{IsPathText, IsReady, IsWalking, IsInstance, coming, levels_of, placed_element};
+ghost use Rattle.hierarchy.specs.Private.Walk.{IsPathText, IsReady, IsWalking, coming, levels_of, placed_element};
+ghost use Rattle.library_faults.specs.Private.Models.{IsInstance};
 
-use crate::walking::links::Row;
+use crate::walking::bindings::Row;
 use crate::walking::naming::{NamingFault, name_control, name_net, name_nets};
 use crate::walking::walk::{Walk, next_element};
 use blif_text::{BlifModel, Element, Init};

@@ -9,7 +9,7 @@ ghost use Rattle.hierarchy.specs.Private.Texts.{name_clash};
 ghost use Rattle.hierarchy.specs.Private.Naming.{IsClash, AreNamed, IsNamingFault};
 ghost use Rattle.hierarchy.specs.Private.Walk.{IsReady};
 
-use crate::walking::links::Row;
+use crate::walking::bindings::Row;
 use crate::walking::named_element::name_elements;
 use crate::walking::naming::{NamingFault, name_nets};
 use crate::walking::walk::begin_walk;

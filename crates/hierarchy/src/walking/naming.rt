@@ -2,7 +2,7 @@
 ghost use Rattle.std.specs.Prelude.{◌≡◌, ◌≤◌, ◌++◌, ◌∷◌, [], List, false, length, map, take, IfOk, OnOk, IfErr};
 ghost use Rattle.std.specs.Str.{bytes_eq};
 ghost use Rattle.indexmap.specs.IndexMap.{get};
-ghost use Rattle.hierarchy.specs.Flat.{PlacedNet, resolved_control, resolve as resolve_name};
+ghost use Rattle.library_faults.specs.Flat.{PlacedNet, resolved_control, resolve as resolve_name};
 ghost use Rattle.hierarchy.specs.Private.Texts.{net_text, named_control};
 ghost use Rattle.hierarchy.specs.Clash.{control_nets};
 ghost use Rattle.hierarchy.specs.Private.Texts.{is_taken};
@@ -11,7 +11,7 @@ ghost use Rattle.hierarchy.specs.Private.Walk.{IsPathText, IsReady, IsWalking, l
 ghost use Rattle.blif_text.specs.Views.{plain_model};
 ghost use Rattle.hierarchy.specs.declared.walking.naming.NamingFault.TheVariants.{Memory};
 
-use crate::walking::links::Row;
+use crate::walking::bindings::Row;
 use crate::walking::resolve::resolve;
 use crate::walking::walk::Walk;
 use blif_text::BlifModel;

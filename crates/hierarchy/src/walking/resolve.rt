@@ -3,12 +3,12 @@ ghost use Rattle.std.specs.Prelude.{◌≡◌, ◌≤◌, ◌∷◌, List, lengt
 ghost use Rattle.std.specs.Str.{bytes_eq};
 ghost use Rattle.indexmap.specs.IndexMap.{get};
 ghost use Rattle.blif_text.specs.Views.{plain_model, plain_element};
-ghost use Rattle.hierarchy.specs.Private.Links.{bindings_of, Binds};
-ghost use Rattle.hierarchy.specs.Flat.{resolve as net_of, actual_of};
+ghost use Rattle.hierarchy.specs.Private.Bindings.{bindings_of, Binds};
+ghost use Rattle.library_faults.specs.Flat.{resolve as net_of, actual_of};
 ghost use Rattle.hierarchy.specs.declared.walking.walk.Frame.{Frame};
 ghost use Rattle.hierarchy.specs.Private.Walk.{IsReady, IsPlacing, IsWalking, AreWithin, bound_by, innermost_first, known_net, levels_of};
 
-use crate::walking::links::{Link, Row, actual_at};
+use crate::walking::bindings::{Link, Row, actual_at};
 use crate::walking::walk::{Walk, element_in, link_at};
 use blif_text::{BlifModel, Element};
 use indexmap::IndexMap;
@@ -20,7 +20,7 @@ use tmr_base::{Name, OutOfMemory};
 const DEEP: usize = 16;
 
 /// What the statement that places a model binds the name to.
-#[tactic(auto, unfolding(crate::specs::Flat::actual_of))]
+#[tactic(auto, unfolding(library_faults::specs::Flat::actual_of))]
 fn actual_in<'a>(
     models: &'a [BlifModel],
     rows: &'a [Row],

@@ -1,17 +1,19 @@
 //! A walk over the flat elements of a library, one after the other, by a stack of the placed models.
 ghost use Rattle.std.specs.Str.{bytes_eq};
 ghost use Rattle.indexmap.specs.IndexMap.{get};
-ghost use Rattle.std.specs.Prelude.{ℕ, List, option_and_then, ◌≡◌, ◌<◌, ◌≤◌, ◌∷◌, ◌++◌, [], map, length, take, IfOk, OnOk, IfSome, IsNone, Some, None, true, false, string_bytes, slice_get};
-ghost use Rattle.hierarchy.specs.Flat.{step};
+ghost use Rattle.std.specs.Prelude.{ℕ, List, option_and_then, ◌≡◌, ◌<◌, ◌≤◌, ◌∷◌, ◌++◌, [], map, length, take, IfOk, OnOk, IfSome, IsNone, Some, None, true, false, slice_get};
+ghost use Rattle.library_faults.specs.Flat.{step};
 ghost use Rattle.hierarchy.specs.Private.Alone.{is_placing};
-ghost use Rattle.hierarchy.specs.declared.walking.links.Row.{Row};
-ghost use Rattle.hierarchy.specs.Private.Walk.{innermost_first, element_at, model_at, known_net, AreFrames, AreKnown, IsInstance, IsReady, IsMoved, IsNext, IsWalking};
+ghost use Rattle.hierarchy.specs.declared.walking.bindings.Row.{Row};
+ghost use Rattle.hierarchy.specs.Private.Walk.{innermost_first, known_net, AreFrames, AreKnown, IsReady, IsMoved, IsNext, IsWalking};
+ghost use Rattle.library_faults.specs.Private.Models.{IsInstance, element_at, model_at};
 ghost use Rattle.blif_text.specs.Views.{plain_model, plain_element};
 
-use crate::walking::links::{Link, Row};
+use crate::walking::bindings::{Link, Row};
 use crate::walking::resolve::nets_within;
 use blif_text::{BlifModel, Element};
 use indexmap::IndexMap;
+use library_faults::step_text;
 use std::alloc::{AllocError, Global};
 use tmr_base::{Name, OutOfMemory};
 
@@ -57,14 +59,6 @@ fn push_frame(walk: &mut Walk, frame: Frame) -> Result<(), AllocError>
 {
     walk.frames.push(frame)?;
     Ok(())
-}
-
-/// `u`, the number and `/`.
-#[tactic(auto, unfolding(crate::specs::Flat::step))]
-pub(crate) fn step_text(alloc: Global, number: usize) -> Result<String, AllocError>
-    ensures { IfOk result (λ text. string_bytes text ≡ step number) }
-{
-    format!(in alloc; "u{number}/")
 }
 
 /// At this depth these nets are known, and none further in. Where less is known than the depth, nothing is

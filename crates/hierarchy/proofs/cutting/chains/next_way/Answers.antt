@@ -2,7 +2,7 @@ use Rattle.std.proofs.Common.{◌∙◌, get_or, sym, ap, subst}
 use Rattle.std.specs.Prelude.{IfSome}
 use Rattle.blif_text.specs.Views.{plain_element}
 use Rattle.hierarchy.specs.Private.Chains.{IsHandedWay}
-use Rattle.hierarchy.specs.Private.Entries.{entry_named}
+use Rattle.library_faults.specs.Private.Entries.{entry_named}
 use Rattle.hierarchy.proofs.Handing.{if_found}
 use Rattle.hierarchy.proofs.Ways.{next_handed, next_end}
 use Rattle.hierarchy.proofs.cutting.chains.next_way.Goals as goal

@@ -1,7 +1,8 @@
 use Rattle.std.proofs.Common.{◌+◌, ◌∙◌, map, sym, ap, subst}
 use Rattle.blif_text.specs.Views.{plain_element}
-use Rattle.hierarchy.specs.Private.Links.{is_bare_element}
-use Rattle.hierarchy.proofs.OneElement.{IsOnlyBefore, bare_more, first_filled, element_is}
+use Rattle.hierarchy.specs.Private.Bindings.{is_bare_element}
+use Rattle.hierarchy.proofs.OneElement.{IsOnlyBefore, bare_more, first_filled}
+use Rattle.library_faults.proofs.Models.{element_is}
 use Rattle.hierarchy.proofs.cutting.chains.only_filled.Goals as goal
 use Rattle.hierarchy.proofs.cutting.chains.only_filled.Goals.{then-not-is_bare+else-is_some, else-not-is_bare}
 

@@ -1,7 +1,7 @@
 use Rattle.std.proofs.Common.{◌∙◌, sym, subst, map, arith}
 use Rattle.std.proofs.lemmas.List.{length-map}
 use Rattle.blif_text.specs.Views.{plain_model}
-use Rattle.hierarchy.specs.Private.Walk.{model_at}
+use Rattle.library_faults.specs.Private.Models.{model_at}
 use Rattle.hierarchy.specs.Private.Chains.{IsShort}
 use Rattle.hierarchy.proofs.Handing.{both_ok}
 use Rattle.hierarchy.proofs.Ways.{stand_ins_are}

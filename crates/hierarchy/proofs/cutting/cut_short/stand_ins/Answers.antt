@@ -2,10 +2,10 @@ use Rattle.std.proofs.Common.{◌≡◌, ◌<◌, ◌∙◌, suc, length, get_or
 use Rattle.std.specs.Vec.Iter.{into_iter_items}
 use Rattle.std.proofs.lemmas.List.{length_push, get_or-map}
 use Rattle.blif_text.specs.Views.{plain_model}
-use Rattle.hierarchy.specs.Flat.{no_model}
-use Rattle.hierarchy.specs.Private.Walk.{model_at}
+use Rattle.library_faults.specs.Flat.{no_model}
+use Rattle.library_faults.specs.Private.Models.{model_at}
 use Rattle.hierarchy.specs.Private.Chains.{IsShort}
-use Rattle.hierarchy.proofs.Items.{next_left}
+use Rattle.library_faults.proofs.Items.{next_left}
 use Rattle.hierarchy.proofs.Ways.{shorts_more}
 use Rattle.hierarchy.proofs.cutting.cut_short.stand_ins.Goals as goal
 

@@ -1,7 +1,7 @@
 use Rattle.std.proofs.Common.{◌≡◌, ◌<◌, ◌≤◌, ℕ, length, map, drop}
 use Rattle.std.specs.Vec.Iter.{into_iter_items}
 use Rattle.blif_text.specs.Views.{plain_model}
-use Rattle.hierarchy.specs.Private.Walk.{model_at}
+use Rattle.library_faults.specs.Private.Models.{model_at}
 use Rattle.hierarchy.specs.Private.Chains.{IsShort}
 use Rattle.hierarchy.proofs.cutting.cut_short.stand_ins.Given as goal
 

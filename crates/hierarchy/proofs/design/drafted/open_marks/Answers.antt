@@ -2,7 +2,7 @@ use Rattle.std.proofs.Common.{◌≡◌, ◌++◌, ◌+◌, drop, map, sym, subs
 use Rattle.std.specs.List.{flat_map}
 use Rattle.blif_text.specs.Views.{plain_element}
 use Rattle.hierarchy.specs.Drafted.{open_mark}
-use Rattle.hierarchy.proofs.Items.{flat_more}
+use Rattle.library_faults.proofs.Items.{flat_more}
 use Rattle.hierarchy.proofs.design.drafted.open_marks.Goals as goal
 
 pub loop-element-preserved : goal.loop-element-preserved

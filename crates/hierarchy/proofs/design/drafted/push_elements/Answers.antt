@@ -6,7 +6,7 @@ use Rattle.blif_text.specs.Views.{plain_element}
 use Rattle.blif_text.specs.declared.library.Element.{Element}
 use Rattle.flat_net.specs.Draft.{PlainDraft}
 use Rattle.hierarchy.specs.Drafted.{drafted}
-use Rattle.hierarchy.proofs.Items.{first_has, rest_has}
+use Rattle.library_faults.proofs.Items.{first_has, rest_has}
 use Rattle.hierarchy.proofs.design.drafted.push_elements.Goals as goal
 
 pub push_element-requires : goal.push_element-requires

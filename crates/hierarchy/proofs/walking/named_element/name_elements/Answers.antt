@@ -6,8 +6,10 @@ use Rattle.indexmap.specs.IndexMap.{get}
 use Rattle.blif_text.specs.Views.{plain_model, plain_element}
 use Rattle.hierarchy.specs.Clash.{nets_of}
 use Rattle.hierarchy.specs.Private.Naming.{IsNamingFault}
-use Rattle.hierarchy.specs.Private.Walk.{element_at, levels_of, placed_element, coming, IsNext, IsNextElement}
-use Rattle.hierarchy.proofs.Moved.{at_model, at_element}
+use Rattle.hierarchy.specs.Private.Walk.{levels_of, placed_element, coming, IsNext, IsNextElement}
+use Rattle.library_faults.specs.Private.Models.{element_at}
+use Rattle.hierarchy.proofs.Moved.{at_element}
+use Rattle.library_faults.proofs.Models.{at_model}
 use Rattle.hierarchy.proofs.Passing.{split_more, found_more, named_passed, fault_passed}
 use Rattle.hierarchy.proofs.walking.named_element.name_elements.Goals as goal
 

@@ -2,7 +2,7 @@ use Rattle.std.proofs.Common.{map}
 use Rattle.std.specs.Str.{bytes_eq}
 use Rattle.indexmap.specs.IndexMap.{get}
 use Rattle.blif_text.specs.Views.{plain_model}
-use Rattle.hierarchy.specs.Flat.{resolve, resolved_control}
+use Rattle.library_faults.specs.Flat.{resolve, resolved_control}
 use Rattle.hierarchy.specs.Private.Walk.{levels_of}
 use Rattle.hierarchy.proofs.NetNames.{latch_named}
 use Rattle.hierarchy.proofs.walking.named_element.name_latch.Goals as goal

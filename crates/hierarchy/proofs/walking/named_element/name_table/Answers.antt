@@ -2,7 +2,7 @@ use Rattle.std.proofs.Common.{rules, map}
 use Rattle.std.specs.Str.{bytes_eq}
 use Rattle.indexmap.specs.IndexMap.{get}
 use Rattle.blif_text.specs.Views.{plain_model}
-use Rattle.hierarchy.specs.Flat.{resolve}
+use Rattle.library_faults.specs.Flat.{resolve}
 use Rattle.std.specs.Prelude.{flat_map}
 use Rattle.blif_text.specs.Models.{Table}
 use Rattle.hierarchy.specs.Clash.{nets_of}

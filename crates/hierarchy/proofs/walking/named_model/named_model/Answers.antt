@@ -2,11 +2,10 @@ use Rattle.std.proofs.Common.{◌≡◌, ◌∙◌, map, subst, sym, ap, rules}
 use Rattle.std.specs.Str.{bytes_eq}
 use Rattle.indexmap.specs.IndexMap.{get}
 use Rattle.blif_text.specs.Views.{plain_model, plain_element}
-use Rattle.hierarchy.specs.Flat.{main_of}
+use Rattle.library_faults.specs.Flat.{main_of}
 use Rattle.hierarchy.specs.Clash.{main_net}
 use Rattle.hierarchy.specs.Private.Naming.{AreNamed, IsNamingFault, IsClash}
-use Rattle.hierarchy.proofs.Moved.{at_model}
-use Rattle.hierarchy.proofs.Totals.{first_model}
+use Rattle.library_faults.proofs.Models.{at_model, first_model}
 use Rattle.hierarchy.proofs.WholeModel.{all_named, input_fault, element_fault, output_fault, whole_model, none_at_first}
 use Rattle.hierarchy.proofs.walking.named_model.named_model.Goals as goal
 

@@ -2,7 +2,7 @@ use Rattle.std.proofs.Common.{◌≡◌, ◌∙◌, sym, ap, subst, map, take, [
 use Rattle.std.specs.Str.{bytes_eq}
 use Rattle.indexmap.specs.IndexMap.{get}
 use Rattle.blif_text.specs.Views.{plain_model}
-use Rattle.hierarchy.specs.Flat.{resolve}
+use Rattle.library_faults.specs.Flat.{resolve}
 use Rattle.hierarchy.specs.Private.Texts.{net_text}
 use Rattle.hierarchy.specs.Private.Texts.{is_taken}
 use Rattle.hierarchy.specs.Private.Naming.{IsNamed, Clashes}

@@ -2,7 +2,7 @@ use Rattle.std.proofs.Common.{◌∙◌, map, rules}
 use Rattle.std.specs.Str.{bytes_eq}
 use Rattle.indexmap.specs.IndexMap.{get}
 use Rattle.blif_text.specs.Views.{plain_model}
-use Rattle.hierarchy.specs.Flat.{resolve}
+use Rattle.library_faults.specs.Flat.{resolve}
 use Rattle.hierarchy.specs.Private.Naming.{IsNamingFault}
 use Rattle.hierarchy.specs.Private.Walk.{levels_of}
 use Rattle.hierarchy.proofs.NetNames.{named_more, texts_more, fault_more}

@@ -1,6 +1,6 @@
 use Rattle.std.proofs.Common.{sym, map, subst, arith, Some}
 use Rattle.blif_text.specs.Views.{plain_model}
-use Rattle.hierarchy.specs.Private.Links.{bindings_of, Binds}
+use Rattle.hierarchy.specs.Private.Bindings.{bindings_of, Binds}
 use Rattle.hierarchy.specs.Private.Walk.{IsPlacing}
 use Rattle.hierarchy.proofs.Linked.{rows_long, row_long}
 use Rattle.hierarchy.proofs.Moved.{binds_at}

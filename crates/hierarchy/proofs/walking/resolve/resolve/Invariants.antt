@@ -1,7 +1,7 @@
 use Rattle.std.proofs.Common.{◌≡◌, ◌≤◌, map, length, take}
 use Rattle.std.specs.Prelude.{reverse}
 use Rattle.blif_text.specs.Views.{plain_model}
-use Rattle.hierarchy.specs.Flat.{resolve}
+use Rattle.library_faults.specs.Flat.{resolve}
 use Rattle.hierarchy.specs.Private.Walk.{level_of, levels_of}
 use Rattle.hierarchy.proofs.walking.resolve.resolve.Given as goal
 

@@ -1,7 +1,8 @@
 use Rattle.std.proofs.Common.{◌≡◌, ◌∙◌, ◌<◌, ◌≤◌, sym, ap, refl, subst, arith, map, get_or, length, vec_len}
 use Rattle.std.proofs.lemmas.List.{length-map}
 use Rattle.blif_text.specs.Views.{plain_model}
-use Rattle.hierarchy.specs.Private.Walk.{innermost_first, model_at, element_at, IsInstance, coming, moves, IsWalking, IsNextElement, IsPathText}
+use Rattle.hierarchy.specs.Private.Walk.{innermost_first, coming, moves, IsWalking, IsNextElement, IsPathText}
+use Rattle.library_faults.specs.Private.Models.{IsInstance, model_at, element_at}
 use Rattle.hierarchy.proofs.Moved.{next_left, next_found, at_element, none_left, top_in, all_walked, some_left, popped_known}
 use Rattle.hierarchy.proofs.walking.walk.next_element.Goals as goal
 

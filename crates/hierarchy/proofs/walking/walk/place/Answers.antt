@@ -4,8 +4,8 @@ use Rattle.std.specs.Prelude.{slice_get, option_and_then}
 use mathlib.Core.Path.{fun_ext}
 use Rattle.std.specs.Str.{bytes_eq}
 use Rattle.indexmap.specs.IndexMap.{get}
-use Rattle.hierarchy.specs.Private.Links.{bindings_of, Binds}
-use Rattle.hierarchy.specs.Flat.{step, actual_of, resolve}
+use Rattle.hierarchy.specs.Private.Bindings.{bindings_of, Binds}
+use Rattle.library_faults.specs.Flat.{step, actual_of, resolve}
 use Rattle.hierarchy.specs.Private.Walk.{innermost_first, known_net, bound_by, level_of, IsNetWithin}
 use Rattle.hierarchy.proofs.Coming.{too_deep}
 use Rattle.hierarchy.proofs.Moved.{binds_at, moved_past, moved_into, target_at, nothing_there, within_at, passed_walking}

@@ -1,7 +1,0 @@
-use Rattle.std.proofs.Common.{◌≡◌, ◌++◌, drop, map}
-use Rattle.blif_text.specs.Views.{plain_model}
-use Rattle.hierarchy.specs.Graph.{names_of}
-use Rattle.hierarchy.proofs.survey.model_names.model_names.Given as goal
-
-abbrev pub invariant-loop-model : goal.invariant-loop-model
-invariant-loop-model l = l.names.keys ++ names_of (map plain_model (drop l.model-index l.models)) ≡ names_of (map plain_model l.models)

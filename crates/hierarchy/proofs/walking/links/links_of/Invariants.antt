@@ -1,7 +1,0 @@
-use Rattle.std.proofs.Common.{take, map}
-use Rattle.blif_text.specs.Views.{plain_element}
-use Rattle.hierarchy.specs.Private.Links.{AreLinks}
-use Rattle.hierarchy.proofs.walking.links.links_of.Given as goal
-
-abbrev pub invariant-loop-element : goal.invariant-loop-element
-invariant-loop-element l = AreLinks l.names.keys l.holds l.links.items (map plain_element (take l.element-index l.elements))

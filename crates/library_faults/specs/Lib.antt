@@ -1,0 +1,9 @@
+pub mod Graph
+pub mod Ports
+pub mod Faults
+pub mod Library
+pub mod Found
+pub mod Flat
+pub mod FlatText
+pub mod Private
+pub mod Sound
