@@ -25,11 +25,7 @@ use triplicate::{Form, Hardened, HardenedFree, Plan, make_plan};
 const NO_BOUND: u32 = 4294967295;
 
 /// The hardened design and its certificate, for this plan.
-fn paired(
-    alloc: Global,
-    n: &FlatNet,
-    plan: &Plan,
-) -> Result<(FlatNet, Certificate), OutOfMemory>
+fn paired(alloc: Global, n: &FlatNet, plan: &Plan) -> Result<(FlatNet, Certificate), OutOfMemory>
     requires votes { AreVotesOf n.now.net plan.now.parts (votes_in plan.now) }
     requires voters { AreVoterRows n.now.net plan.now.parts (plan_votes n.now.net plan.now) plan.now.voters }
     requires taps { AreTaps n.now.net plan.now.parts (plan_votes n.now.net plan.now) plan.now.taps }

@@ -72,7 +72,12 @@ fn is_of_kind(n: &FlatNet, x: NetId, registers: bool) -> bool
 }
 
 /// Adds what stands for net x, if it is of this kind.
-fn push_if(layout: &Layout, x: NetId, registers: bool, order: &mut Vec<NetId>) -> Result<(), OutOfMemory>
+fn push_if(
+    layout: &Layout,
+    x: NetId,
+    registers: bool,
+    order: &mut Vec<NetId>,
+) -> Result<(), OutOfMemory>
     requires layout { IsLayout layout.now }
     requires net { x.0 < net_count (net_of layout.now) }
     ensures { OnOk result (map number_of order.new.items ≡ map number_of order.old.items ++ cond (is_of_kind (net_of layout.now) registers x.0) (numbers_of layout.now x.0) []) }

@@ -1,5 +1,5 @@
 -- Only private functions cite this: a design, the plan of its hardened form, and where in that form each net's copies and voters stand.
-use Rattle.std.specs.Prelude.{◌≡◌, ℕ, ◌+◌, ◌*◌, ◌<◌, Bool, true, not, List, ◌++◌, length, map, slice_index}
+use Rattle.std.specs.Prelude.{◌≡◌, ℕ, ◌+◌, ◌*◌, ◌<◌, Bool, true, false, not, List, ◌++◌, length, map, slice_index}
 use Rattle.std.specs.List.{flat_map, range_with_len}
 use Rattle.tmr_base.specs.declared.copies.CopyNo.TheVariants.{First}
 use Rattle.tmr_base.specs.Parts.{PlainParts}
