@@ -1,4 +1,4 @@
--- The hardened design and its certificate, made of lists.
+-- The pair that a plan stands for, as lists: the hardened design, whose nodes are those of the roles in their order, and its certificate.
 use Rattle.std.specs.Prelude.{ℕ, ◌-◌, ◌*◌, Bool, true, not, List, [], ◌++◌, length, map, filter, slice_index, Option, Some, None, if◌then◌else◌, false}
 use Rattle.std.specs.List.{flat_map, range_with_len}
 use Rattle.tmr_base.specs.declared.copies.CopyNo.{CopyNo}
@@ -34,6 +34,7 @@ abbrev pub role_node : Net → PlainParts → (ℕ → ℕ → Bool) → Role �
 role_node n parts voted (Copy x c) = node_copy n parts voted (x.0 - length n.inputs) c (node_of n x.0)
 role_node n parts voted (Voter x p c) = Table (voter_text (name_of n x.0) p.0 c) majority_cover (threefold (copy_net n parts voted x.0))
 
+-- the hardened design: the copies of inputs, a node for each role, the copies of outputs, and the hardened clock
 unfoldable pub hardened_net : Net → PlainParts → (ℕ → ℕ → Bool) → Net
 hardened_net n parts voted = record {
   model = n.model;
@@ -43,6 +44,7 @@ hardened_net n parts voted = record {
   clock = hardened_clock n.clock;
 }
 
+-- the numbers of the three copies of net x
 abbrev pub three_copies : Net → PlainParts → (ℕ → ℕ → Bool) → ℕ → Three
 three_copies n parts voted x = record {
   first = copy_net n parts voted x First;
@@ -54,6 +56,7 @@ three_copies n parts voted x = record {
 abbrev pub three_labels : ℕ → Three
 three_labels label = record { first = label; second = label; third = label }
 
+-- its certificate: the partitions and depths that are given, for each node its copies and one label for all three, and the roles
 unfoldable pub hardened_cert : Net → PlainParts → (ℕ → ℕ → Bool) → Labeling → PlainCert
 hardened_cert n parts voted t = record {
   version = version_of t.inputs;

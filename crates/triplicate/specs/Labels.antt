@@ -8,8 +8,10 @@ pub record Labeling : Type 0 where
   pub labels : List ℕ
   pub depths : List ℕ
 
+-- those of a plan
 abbrev pub labeling : Bool → PlainDepths → Labeling
 labeling inputs t = record { inputs = inputs; labels = t.labels; depths = t.depths }
 
+-- the labels and depths alone
 abbrev pub depths_in : Labeling → PlainDepths
 depths_in t = record { labels = t.labels; depths = t.depths }

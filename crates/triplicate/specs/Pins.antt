@@ -1,4 +1,4 @@
--- Which pins hardening votes.
+-- Which pins hardening votes, as a test of single pins.
 use Rattle.std.specs.Prelude.{◌≡◌, ℕ, ◌-◌, ◌==◌, ◌||◌, not, nat_lt, Bool, List, length, slice_index, if◌then◌else◌}
 use Rattle.tmr_base.specs.Parts.{PlainParts}
 use Rattle.flat_net.specs.Net.{Net}
