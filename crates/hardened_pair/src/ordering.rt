@@ -6,7 +6,7 @@ ghost use Rattle.flat_net.specs.Nodes.{number_of};
 ghost use Rattle.triplicate.specs.Construction.{is_register_net, hardened_order};
 ghost use Rattle.hardened_pair.specs.Private.Layouts.{IsLayout, net_of, partitions, voted, numbers_of, is_of_kind};
 
-use crate::layout::{Layout, room_of};
+use crate::layout::{Layout, room_of, start_of};
 use flat_net::{FlatNet, Kind, nodes_of};
 use std::alloc::Global;
 use tmr_base::{NetId, OutOfMemory};
@@ -29,8 +29,8 @@ fn push_block(layout: &Layout, x: u32, order: &mut Vec<NetId>) -> Result<(), Out
     ensures { OnOk result (map number_of order.new.items ≡ map number_of order.old.items ++ numbers_of layout.now x) }
 {
     let _nodes = nodes_of(layout.net);
-    let start = layout.starts[x as usize];
-    let end = layout.starts[x as usize + 1];
+    let start = start_of(layout, x);
+    let end = start_of(layout, x + 1);
     push_range(start, end, order)?;
     Ok(())
 }

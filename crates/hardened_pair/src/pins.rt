@@ -6,7 +6,7 @@ ghost use Rattle.triplicate.specs.Voting.{needs_voter};
 ghost use Rattle.triplicate.specs.Numbers.{voter_rank};
 ghost use Rattle.hardened_pair.specs.Private.Layouts.{IsLayout, net_of, partitions, voted, first_copy_of, first_voter_of, first_pin_of, first_pins_of};
 
-use crate::layout::Layout;
+use crate::layout::{Layout, start_of};
 use flat_net::nodes_of;
 use tmr_base::{NetId, OutOfMemory};
 use triplicate::{copies, tap};
@@ -22,7 +22,7 @@ pub fn first_copy(layout: &Layout, x: u32) -> u32
     if x < n.input_count() {
         3 * x
     } else {
-        layout.starts[x as usize]
+        start_of(layout, x)
     }
 }
 
@@ -38,7 +38,7 @@ fn first_voter(layout: &Layout, x: u32, p: u32, place: u32) -> u32
     let n = layout.net;
     let _nodes = nodes_of(n);
     let copied = copies(n, x);
-    layout.starts[x as usize] + copied + 3 * (place - 1)
+    start_of(layout, x) + copied + 3 * (place - 1)
 }
 
 /// What the first copy of node y reads at pin j.

@@ -1,5 +1,5 @@
 -- What a plan is made of is what a hardened design can be made from.
-use Rattle.std.proofs.Common.{◌≡◌, ◌+◌, ◌≤◌, ℕ, Bool, List, length, arith}
+use Rattle.std.proofs.Common.{◌≡◌, ◌+◌, ◌≤◌, length, arith}
 use Rattle.tmr_base.specs.Parts.{PlainParts, AreParts}
 use Rattle.flat_net.specs.Net.{Net, net_count, pin_total, IsValid}
 use Rattle.recovery_depth.specs.Depths.{PlainDepths, AreDepths}

@@ -6,7 +6,7 @@ use Rattle.triplicate.specs.declared.form.Form.{Form}
 use Rattle.triplicate.specs.declared.hardened.Hardened.{Hardened}
 use Rattle.triplicate.specs.declared.planning.Plan.{Plan}
 use Rattle.triplicate.specs.Result.{IsBoundedPair}
-use Rattle.triplicate.specs.Planned.{IsPlan, IsMadeOf, pair_in}
+use Rattle.triplicate.specs.Planned.{IsPlan, pair_in}
 use Rattle.triplicate.proofs.Whole.{bounded_is}
 
 pub planned_is : (kind : Form) (n : FreeDesign) (size version most : ℕ) (p : Plan) → (version ≡ 1) ⊎ (version ≡ 2) → IsPlan kind n.design.net size (nat_eq version 2) most p → IsBoundedPair kind n size version most (pair_in n p)

@@ -14,7 +14,6 @@ use Rattle.triplicate.specs.declared.hardened.Hardened.{Hardened}
 use Rattle.triplicate.specs.declared.hardened.HardenedFree.{HardenedFree}
 use Rattle.triplicate.specs.Blocks.{hardened_roles}
 use Rattle.triplicate.specs.Result.{IsHardenedPair, IsFreeHardenedPair, IsBoundedPair, is_voter_role}
-use Rattle.triplicate.proofs.Sizes.{roles_counted}
 use Rattle.tmr_base.specs.Parts.{PlainParts}
 use Rattle.flat_net.specs.Net.{Net}
 use Rattle.partitioner.specs.Refining.{IsMinimal}

@@ -1,5 +1,5 @@
 -- The pair that a plan stands for, as lists: the hardened design, whose nodes are those of the roles in their order, and its certificate.
-use Rattle.std.specs.Prelude.{ℕ, ◌-◌, ◌*◌, Bool, true, not, List, [], ◌++◌, length, map, filter, slice_index, Option, Some, None, if◌then◌else◌, false}
+use Rattle.std.specs.Prelude.{ℕ, ◌-◌, ◌*◌, Bool, not, List, [], ◌++◌, length, map, filter, slice_index, Option, Some, None, if◌then◌else◌, false}
 use Rattle.std.specs.List.{flat_map, range_with_len}
 use Rattle.tmr_base.specs.declared.copies.CopyNo.{CopyNo}
 use Rattle.tmr_base.specs.declared.copies.CopyNo.TheVariants.{First, Second, Third}
@@ -10,7 +10,6 @@ use Rattle.flat_net.specs.Net.{Net, Node, Table, Register, node_of, name_of}
 use Rattle.certificate.specs.declared.role.Role.{Role}
 use Rattle.certificate.specs.declared.role.Role.TheVariants.{Copy, Voter}
 use Rattle.certificate.specs.Cert.{PlainCert}
-use Rattle.feedback_cut.specs.Inner.{node_pins}
 use Rattle.recovery_depth.specs.Depths.{is_some_register}
 use Rattle.triplicate.specs.Labels.{Labeling}
 use Rattle.triplicate.specs.Blocks.{threefold, block, hardened_roles, hardened_inputs, hardened_clock}

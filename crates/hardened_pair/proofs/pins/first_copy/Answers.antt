@@ -12,4 +12,4 @@ pub returns-then-x-input_count : goal.returns-then-x-input_count
 returns-then-x-input_count c = omega (arith, copy_net_input (net_of c.args.layout.now) (partitions c.args.layout.now) (voted c.args.layout.now) c.args.x First (omega (arith, c.if-x-input_count.true, c.input_count.ensures.count)))
 
 pub returns-else-x-input_count : goal.returns-else-x-input_count
-returns-else-x-input_count c = c.requires.layout.starts.each c.args.x (omega (arith, c.requires.net)) ∙ sym (first_is_start (net_of c.args.layout.now) (partitions c.args.layout.now) (voted c.args.layout.now) c.args.x (omega (arith, c.if-x-input_count.false, c.input_count.ensures.count)))
+returns-else-x-input_count c = c.start_of.ensures ∙ sym (first_is_start (net_of c.args.layout.now) (partitions c.args.layout.now) (voted c.args.layout.now) c.args.x (omega (arith, c.if-x-input_count.false, c.input_count.ensures.count)))

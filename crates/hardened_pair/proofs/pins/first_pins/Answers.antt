@@ -3,8 +3,8 @@ use Rattle.std.specs.Prelude.{slice_index}
 use Rattle.std.proofs.lemmas.List.FromFn.{map-range_with_len_more}
 use Rattle.tmr_base.specs.declared.copies.CopyNo.TheVariants.{First}
 use Rattle.feedback_cut.specs.Inner.{node_pins}
-use Rattle.hardened_pair.specs.Private.Layouts.{net_of, partitions, voted}
-use Rattle.triplicate.specs.Construction.{pin_net, first_pins_to}
+use Rattle.hardened_pair.specs.Private.Layouts.{net_of, partitions, voted, first_pins_to}
+use Rattle.triplicate.specs.Construction.{pin_net}
 use Rattle.hardened_pair.proofs.pins.first_pins.Goals as goal
 
 pub loop-j-preserved : goal.loop-j-preserved

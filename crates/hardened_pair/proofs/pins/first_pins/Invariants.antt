@@ -1,6 +1,5 @@
 use Rattle.std.proofs.Common.{◌≡◌}
-use Rattle.hardened_pair.specs.Private.Layouts.{net_of, partitions, voted}
-use Rattle.triplicate.specs.Construction.{first_pins_to}
+use Rattle.hardened_pair.specs.Private.Layouts.{first_pins_to}
 use Rattle.hardened_pair.proofs.pins.first_pins.Given as goal
 
 abbrev pub invariant-loop-j : goal.invariant-loop-j
