@@ -20,9 +20,9 @@ use Rattle.flat_net.proofs.Slots.{slot_at}
 use Rattle.triplicate.specs.Blocks.{threefold, block, copies_of, voters_for, hardened_roles}
 use Rattle.triplicate.specs.Form.{version_of}
 use Rattle.triplicate.specs.Voting.{voting_parts}
-use Rattle.triplicate.specs.Private.Construction.{three_copies, three_labels, hardened_net, hardened_cert}
-use Rattle.triplicate.specs.Private.Given.{IsGiven}
-use Rattle.triplicate.specs.Private.Labels.{Labeling}
+use Rattle.triplicate.specs.Construction.{three_copies, three_labels, hardened_net, hardened_cert}
+use Rattle.triplicate.specs.Given.{IsGiven}
+use Rattle.triplicate.specs.Labels.{Labeling}
 use Rattle.triplicate.proofs.Lists.{get_after}
 use Rattle.triplicate.proofs.Named.{name_of_role}
 use Rattle.hardened_text.specs.Private.Lines.{node_words, voter_words, voters_text, nodes_text, all_voters_text, parts_text}

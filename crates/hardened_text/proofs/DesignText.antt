@@ -25,10 +25,10 @@ use Rattle.certificate.specs.Starts.{role_start, spread_start, counted}
 use Rattle.triplicate.specs.Blocks.{threefold, block, hardened_roles, hardened_inputs, hardened_clock}
 use Rattle.triplicate.specs.Form.{version_of, majority_cover}
 use Rattle.triplicate.specs.Voting.{ReadsNet}
-use Rattle.triplicate.specs.Private.Construction.{pin_net, node_copy, role_node, hardened_net, hardened_cert}
-use Rattle.triplicate.specs.Private.Given.{IsGiven}
-use Rattle.triplicate.specs.Private.Labels.{Labeling}
-use Rattle.triplicate.specs.Private.Numbers.{block_start, copy_net}
+use Rattle.triplicate.specs.Construction.{pin_net, node_copy, role_node, hardened_net, hardened_cert}
+use Rattle.triplicate.specs.Given.{IsGiven}
+use Rattle.triplicate.specs.Labels.{Labeling}
+use Rattle.triplicate.specs.Numbers.{block_start, copy_net}
 use Rattle.triplicate.proofs.Formed.{map_agree, map_map, flat_map_agree}
 use Rattle.triplicate.proofs.Numbering.{owner, HasNumber, in_block}
 use Rattle.triplicate.proofs.Reading.{read_in_range}

@@ -16,9 +16,9 @@ use Rattle.certificate.proofs.Same.{same_reading}
 use Rattle.triplicate.specs.declared.form.Form.{Form}
 use Rattle.triplicate.specs.Blocks.{hardened_roles}
 use Rattle.triplicate.specs.declared.planning.Plan.{Plan}
-use Rattle.triplicate.specs.Planned.{IsPlan, voted_in, cert_in, pair_in}
-use Rattle.triplicate.specs.Private.Construction.{hardened_net, hardened_cert, hardened_order}
-use Rattle.triplicate.specs.Private.Labels.{labeling}
+use Rattle.triplicate.specs.Planned.{IsPlan, plan_votes, cert_in, pair_in}
+use Rattle.triplicate.specs.Construction.{hardened_net, hardened_cert, hardened_order}
+use Rattle.triplicate.specs.Labels.{labeling}
 use Rattle.triplicate.proofs.Certified.{cert_fits, is_cert}
 use Rattle.triplicate.proofs.HardenedOrder.{is_order}
 use Rattle.triplicate.proofs.Marked.{counted_marks, marks_are_marks}
@@ -44,13 +44,13 @@ labels_small kind n size inputs most p small is = λ k d lt.
     let low : k < length n.nodes = omega (arith, lt, is.bound.depths.nodes) in
     omega (arith, small, is.bound.bounded k low, get_or_alike p.extra.table.labels k d 0 lt)
 
-pub few_nodes : (kind : Form) (n : Net) (size : ℕ) (inputs : Bool) (most : ℕ) (p : Plan) (nets ins count : ℕ) → IsPlan kind n size inputs most p → nets ≡ 3 * length n.inputs + length (hardened_roles n p.parts (voted_in n p)) → ins ≡ length n.inputs → count ≡ length n.nodes → 3 * count ≤ nets - 3 * ins
-few_nodes kind n size inputs most p nets ins count is e f g = omega (arith, e, f, g, roles_counted n p.parts (voted_in n p))
+pub few_nodes : (kind : Form) (n : Net) (size : ℕ) (inputs : Bool) (most : ℕ) (p : Plan) (nets ins count : ℕ) → IsPlan kind n size inputs most p → nets ≡ 3 * length n.inputs + length (hardened_roles n p.parts (plan_votes n p)) → ins ≡ length n.inputs → count ≡ length n.nodes → 3 * count ≤ nets - 3 * ins
+few_nodes kind n size inputs most p nets ins count is e f g = omega (arith, e, f, g, roles_counted n p.parts (plan_votes n p))
 
 -- all that is answered is told of one pair
 pub texts_are : (kind : Form) (n : FreeDesign) (d : Design) (size version most : ℕ) (p : Plan) (r : HardenedTexts) (nets ins count : ℕ) → (version ≡ 1) ⊎ (version ≡ 2) → most < 2 ^ 32 → d ≡ n.design → AreMarks n.design.net n.free → IsDesign d → IsPlan kind d.net size (nat_eq version 2) most p
-    → nets ≡ 3 * length d.net.inputs + length (hardened_roles d.net p.parts (voted_in d.net p)) → ins ≡ length d.net.inputs → count ≡ length d.net.nodes
-    → r.design.items ≡ free_text (hardened_net n.design.net p.parts (voted_in n.design.net p)) (spread_start (cert_in n.design.net p) (counted (cert_in n.design.net p) n.free)) → r.certificate.items ≡ cert_text d.net (hardened_net d.net p.parts (voted_in d.net p)) (cert_in d.net p)
+    → nets ≡ 3 * length d.net.inputs + length (hardened_roles d.net p.parts (plan_votes d.net p)) → ins ≡ length d.net.inputs → count ≡ length d.net.nodes
+    → r.design.items ≡ free_text (hardened_net n.design.net p.parts (plan_votes n.design.net p)) (spread_start (cert_in n.design.net p) (counted (cert_in n.design.net p) n.free)) → r.certificate.items ≡ cert_text d.net (hardened_net d.net p.parts (plan_votes d.net p)) (cert_in d.net p)
     → r.depths.items ≡ p.extra.table.depths → All (λ x. x < 2 ^ 32) p.extra.table.depths → r.nodes ≡ nets - 3 * ins → r.partitions ≡ p.parts.count → r.cost ≡ p.cost → r.plain ≡ p.plain → r.minimal ≡ p.minimal → r.voters ≡ nets - 3 * ins - 3 * count
     → AreTexts kind n size version most r
 texts_are kind n d size version most p r nets ins count known small same marks design planned en ei ec ed ek eds small_depths er ep ecost eplain eminimal ev = record {
@@ -58,19 +58,19 @@ texts_are kind n d size version most p r nets ins count known small same marks d
   bounded = planned_is kind n size version most p known is;
   valid = valid;
   certified = certified;
-  fits = cert_fits n.design.net p.parts (voted_in n.design.net p) (labeling p.inputs p.extra.table) is.given;
+  fits = cert_fits n.design.net p.parts (plan_votes n.design.net p) (labeling p.inputs p.extra.table) is.given;
   design = ed;
   design_read = λ limit fits. subst (λ (bytes : List ℕ). IsFreeNetOf bytes limit h g) (sym ed)
       (free_of_text h g limit valid own_marks (subst (λ (m : ℕ). m ≤ limit) (ap length ed ∙ text_long h g valid) fits));
   certificate = text;
-  certificate_read = sym (same_reading n.design.net h r.certificate.items) ∙ (ap (fold_of_text n.design.net h) text ∙ fold_of_text_again n.design.net h (cert_in n.design.net p) is.given.valid valid certified (cert_fits n.design.net p.parts (voted_in n.design.net p) (labeling p.inputs p.extra.table) is.given));
-  nodes = omega (arith, er, total, inputs, nodes_long n.design.net p.parts (voted_in n.design.net p));
+  certificate_read = sym (same_reading n.design.net h r.certificate.items) ∙ (ap (fold_of_text n.design.net h) text ∙ fold_of_text_again n.design.net h (cert_in n.design.net p) is.given.valid valid certified (cert_fits n.design.net p.parts (plan_votes n.design.net p) (labeling p.inputs p.extra.table) is.given));
+  nodes = omega (arith, er, total, inputs, nodes_long n.design.net p.parts (plan_votes n.design.net p));
   partitions = omega (arith, ep, is.bound.depths.parts_long, ap length (depths_are n.design.net p));
   depths = eds ∙ sym (depths_are n.design.net p);
   cost = ecost;
   plain = eplain;
   minimal = eminimal;
-  voters = omega (arith, ev, total, inputs, nodes, roles_counted n.design.net p.parts (voted_in n.design.net p));
+  voters = omega (arith, ev, total, inputs, nodes, roles_counted n.design.net p.parts (plan_votes n.design.net p));
 }
   where
     is : IsPlan kind n.design.net size (nat_eq version 2) most p
@@ -80,26 +80,26 @@ texts_are kind n d size version most p r nets ins count known small same marks d
     ordered = subst IsDesign same design
 
     h : Net
-    h = hardened_net n.design.net p.parts (voted_in n.design.net p)
+    h = hardened_net n.design.net p.parts (plan_votes n.design.net p)
 
     g : List Bool
     g = spread_start (cert_in n.design.net p) (counted (cert_in n.design.net p) n.free)
 
-    valid : IsValid (hardened_net n.design.net p.parts (voted_in n.design.net p))
-    valid = is_valid n.design.net p.parts (voted_in n.design.net p) (labeling p.inputs p.extra.table) is.given (hardened_order n.design.net p.parts (voted_in n.design.net p) n.design.order)
-        (is_order n.design.net p.parts (voted_in n.design.net p) (labeling p.inputs p.extra.table) is.given n.design.order ordered.order)
+    valid : IsValid (hardened_net n.design.net p.parts (plan_votes n.design.net p))
+    valid = is_valid n.design.net p.parts (plan_votes n.design.net p) (labeling p.inputs p.extra.table) is.given (hardened_order n.design.net p.parts (plan_votes n.design.net p) n.design.order)
+        (is_order n.design.net p.parts (plan_votes n.design.net p) (labeling p.inputs p.extra.table) is.given n.design.order ordered.order)
 
     certified : IsCert (cert_in n.design.net p)
-    certified = is_cert n.design.net p.parts (voted_in n.design.net p) (labeling p.inputs p.extra.table) is.given (labels_small kind n.design.net size (nat_eq version 2) most p small is) small_depths
+    certified = is_cert n.design.net p.parts (plan_votes n.design.net p) (labeling p.inputs p.extra.table) is.given (labels_small kind n.design.net size (nat_eq version 2) most p small is) small_depths
 
-    own_marks : AreMarks (hardened_net n.design.net p.parts (voted_in n.design.net p)) (spread_start (cert_in n.design.net p) (counted (cert_in n.design.net p) n.free))
-    own_marks = marks_are_marks n.design.net p.parts (voted_in n.design.net p) (labeling p.inputs p.extra.table) is.given (counted (cert_in n.design.net p) n.free) (counted_marks n.design.net n.free (cert_in n.design.net p) marks.registers)
+    own_marks : AreMarks (hardened_net n.design.net p.parts (plan_votes n.design.net p)) (spread_start (cert_in n.design.net p) (counted (cert_in n.design.net p) n.free))
+    own_marks = marks_are_marks n.design.net p.parts (plan_votes n.design.net p) (labeling p.inputs p.extra.table) is.given (counted (cert_in n.design.net p) n.free) (counted_marks n.design.net n.free (cert_in n.design.net p) marks.registers)
 
-    text : r.certificate.items ≡ cert_text n.design.net (hardened_net n.design.net p.parts (voted_in n.design.net p)) (cert_in n.design.net p)
-    text = ek ∙ ap (λ (e : Design). cert_text e.net (hardened_net e.net p.parts (voted_in e.net p)) (cert_in e.net p)) same
+    text : r.certificate.items ≡ cert_text n.design.net (hardened_net n.design.net p.parts (plan_votes n.design.net p)) (cert_in n.design.net p)
+    text = ek ∙ ap (λ (e : Design). cert_text e.net (hardened_net e.net p.parts (plan_votes e.net p)) (cert_in e.net p)) same
 
-    total : nets ≡ 3 * length n.design.net.inputs + length (hardened_roles n.design.net p.parts (voted_in n.design.net p))
-    total = en ∙ ap (λ (e : Design). 3 * length e.net.inputs + length (hardened_roles e.net p.parts (voted_in e.net p))) same
+    total : nets ≡ 3 * length n.design.net.inputs + length (hardened_roles n.design.net p.parts (plan_votes n.design.net p))
+    total = en ∙ ap (λ (e : Design). 3 * length e.net.inputs + length (hardened_roles e.net p.parts (plan_votes e.net p))) same
 
     inputs : ins ≡ length n.design.net.inputs
     inputs = ei ∙ ap (λ (e : Design). length e.net.inputs) same

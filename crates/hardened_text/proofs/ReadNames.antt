@@ -8,10 +8,10 @@ use Rattle.tmr_base.specs.Parts.{PlainParts}
 use Rattle.flat_net.specs.Net.{Net, net_count, name_of}
 use Rattle.certificate.specs.declared.role.Role.TheVariants.{Copy, Voter}
 use Rattle.triplicate.specs.Voting.{ReadsNet}
-use Rattle.triplicate.specs.Private.Construction.{pin_net, hardened_net}
-use Rattle.triplicate.specs.Private.Given.{IsGiven}
-use Rattle.triplicate.specs.Private.Labels.{Labeling}
-use Rattle.triplicate.specs.Private.Numbers.{copy_net, voter_net}
+use Rattle.triplicate.specs.Construction.{pin_net, hardened_net}
+use Rattle.triplicate.specs.Given.{IsGiven}
+use Rattle.triplicate.specs.Labels.{Labeling}
+use Rattle.triplicate.specs.Numbers.{copy_net, voter_net}
 use Rattle.triplicate.proofs.Named.{name_of_role, input_name}
 use Rattle.triplicate.proofs.Numbering.{copy_net_input}
 use Rattle.triplicate.proofs.Reading.{voted_role}

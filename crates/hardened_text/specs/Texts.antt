@@ -9,14 +9,14 @@ use Rattle.certificate.specs.Reading.{cert_of_text}
 use Rattle.certificate.specs.Text.{cert_text}
 use Rattle.triplicate.specs.declared.form.Form.{Form}
 use Rattle.triplicate.specs.declared.hardened.HardenedFree.{HardenedFree}
-use Rattle.triplicate.specs.Result.{IsBounded}
+use Rattle.triplicate.specs.Result.{IsBoundedPair}
 use Rattle.hardened_text.specs.declared.texts.HardenedTexts.{HardenedTexts}
 
 -- one pair in a hardened form, of which all that is answered is told: the flat text of the hardened design, which is read
 -- and flattened back to it for every limit that it keeps; the text of the certificate, which is read back to it; and numbers
 pub record AreTexts (kind : Form) (n : FreeDesign) (size version most : ℕ) (t : HardenedTexts) : Type 0 where
   pub pair : HardenedFree
-  pub bounded : IsBounded kind n size version most pair
+  pub bounded : IsBoundedPair kind n size version most pair
   pub valid : IsValid pair.net.design.net
   pub certified : IsCert pair.cert
   pub fits : Fits n.design.net pair.net.design.net pair.cert

@@ -6,11 +6,11 @@ ghost use Rattle.tmr_base.specs.Copies.{copy_number};
 ghost use Rattle.flat_net.specs.Net.{net_count};
 ghost use Rattle.certificate.specs.Text.{line_text, part_line, cert_text};
 ghost use Rattle.triplicate.specs.Form.{version_of};
-ghost use Rattle.triplicate.specs.Planned.{voted_in};
-ghost use Rattle.triplicate.specs.Private.Construction.{hardened_net, hardened_cert};
-ghost use Rattle.triplicate.specs.Private.Given.{IsGiven};
-ghost use Rattle.triplicate.specs.Private.Labels.{labeling};
-ghost use Rattle.triplicate.specs.Private.Starts.{AreVoterRows};
+ghost use Rattle.triplicate.specs.Planned.{plan_votes};
+ghost use Rattle.triplicate.specs.Construction.{hardened_net, hardened_cert};
+ghost use Rattle.triplicate.specs.Given.{IsGiven};
+ghost use Rattle.triplicate.specs.Labels.{labeling};
+ghost use Rattle.triplicate.specs.Starts.{AreVoterRows};
 ghost use Rattle.hardened_text.specs.Private.Spelled.{line_head, line_end, line_at, lines_at};
 ghost use Rattle.hardened_text.specs.Private.Lines.{node_words, nodes_text, all_voters_text, parts_text};
 
@@ -174,8 +174,8 @@ fn put_row(
 
 /// Puts the lines of all voters.
 fn put_voters(alloc: Global, out: &mut Vec<u8>, n: &FlatNet, plan: &Plan) -> Result<(), AllocError>
-    requires { AreVoterRows n.now.net plan.now.parts (voted_in n.now.net plan.now) plan.now.voters }
-    ensures { OnOk result (out.new.items ≡ out.old.items ++ all_voters_text n.now.net plan.now.parts (voted_in n.now.net plan.now) (net_count n.now.net)) }
+    requires { AreVoterRows n.now.net plan.now.parts (plan_votes n.now.net plan.now) plan.now.voters }
+    ensures { OnOk result (out.new.items ≡ out.old.items ++ all_voters_text n.now.net plan.now.parts (plan_votes n.now.net plan.now) (net_count n.now.net)) }
 {
     let mut head = Vec::new(alloc);
     let nets = n.input_count() + nodes_of(n);
@@ -230,10 +230,10 @@ fn put_front(out: &mut Vec<u8>, plan: &Plan) -> Result<(), AllocError>
 
 /// The text of the hardened design's certificate.
 pub fn certificate_text(alloc: Global, n: &FlatNet, plan: &Plan) -> Result<Vec<u8>, AllocError>
-    requires voters { AreVoterRows n.now.net plan.now.parts (voted_in n.now.net plan.now) plan.now.voters }
-    requires given { IsGiven n.now.net plan.now.parts (voted_in n.now.net plan.now) (labeling plan.now.inputs plan.now.extra.table) }
-    ensures { IfOk result (λ bytes. bytes.items ≡ cert_text n.now.net (hardened_net n.now.net plan.now.parts (voted_in n.now.net plan.now))
-        (hardened_cert n.now.net plan.now.parts (voted_in n.now.net plan.now) (labeling plan.now.inputs plan.now.extra.table))) }
+    requires voters { AreVoterRows n.now.net plan.now.parts (plan_votes n.now.net plan.now) plan.now.voters }
+    requires given { IsGiven n.now.net plan.now.parts (plan_votes n.now.net plan.now) (labeling plan.now.inputs plan.now.extra.table) }
+    ensures { IfOk result (λ bytes. bytes.items ≡ cert_text n.now.net (hardened_net n.now.net plan.now.parts (plan_votes n.now.net plan.now))
+        (hardened_cert n.now.net plan.now.parts (plan_votes n.now.net plan.now) (labeling plan.now.inputs plan.now.extra.table))) }
 {
     let mut out = Vec::new(alloc);
     put_front(&mut out, plan)?;

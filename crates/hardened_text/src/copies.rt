@@ -6,9 +6,9 @@ ghost use Rattle.feedback_cut.specs.Inner.{node_pins};
 ghost use Rattle.blif_writer.specs.Left.{spaced};
 ghost use Rattle.blif_writer.specs.Text.{control_words, lines_text};
 ghost use Rattle.triplicate.specs.Blocks.{hardened_clock};
-ghost use Rattle.triplicate.specs.Planned.{votes_in, voted_in};
-ghost use Rattle.triplicate.specs.Private.Pins.{AreVotesOf};
-ghost use Rattle.triplicate.specs.Private.Taps.{AreTaps};
+ghost use Rattle.triplicate.specs.Planned.{votes_in, plan_votes};
+ghost use Rattle.triplicate.specs.Pins.{AreVotesOf};
+ghost use Rattle.triplicate.specs.Taps.{AreTaps};
 ghost use Rattle.hardened_text.specs.Private.Spelled.{pin_spelled, pins_spelled};
 ghost use Rattle.hardened_text.specs.Private.Lines.{pin_names, copy_lines, AreRowsOf};
 ghost use Rattle.tmr_base.specs.declared.copies.CopyNo.TheVariants.{First, Second, Third};
@@ -178,9 +178,9 @@ fn put_three(
 
 /// Which pins of node y are voted, put into `votes`.
 fn note_votes(n: &FlatNet, plan: &Plan, y: u32, votes: &mut Vec<bool>) -> Result<(), AllocError>
-    requires taps { AreTaps n.now.net plan.now.parts (voted_in n.now.net plan.now) plan.now.taps }
+    requires taps { AreTaps n.now.net plan.now.parts (plan_votes n.now.net plan.now) plan.now.taps }
     requires node { y < length n.now.net.nodes }
-    ensures { OnOk result (votes.new.items ≡ map (voted_in n.now.net plan.now y) (range_with_len 0 (length (node_pins n.now.net y)))) }
+    ensures { OnOk result (votes.new.items ≡ map (plan_votes n.now.net plan.now y) (range_with_len 0 (length (node_pins n.now.net y)))) }
 {
     votes.clear();
     let _nodes = nodes_of(n);
@@ -232,12 +232,12 @@ pub fn put_copies(
     room: &mut Room,
 ) -> Result<(), AllocError>
     requires planned { AreVotesOf n.now.net plan.now.parts (votes_in plan.now) }
-    requires taps { AreTaps n.now.net plan.now.parts (voted_in n.now.net plan.now) plan.now.taps }
+    requires taps { AreTaps n.now.net plan.now.parts (plan_votes n.now.net plan.now) plan.now.taps }
     requires node { y < length n.now.net.nodes }
     requires control { control.now ≡ spaced (control_words (hardened_clock n.now.net.clock)) }
-    ensures { OnOk result (out.new.items ≡ ((out.old.items ++ lines_text (copy_lines (hardened_clock n.now.net.clock) (pin_names n.now.net plan.now.parts (voted_in n.now.net plan.now) y First) First free (node_of n.now.net (length n.now.net.inputs + y))))
-        ++ lines_text (copy_lines (hardened_clock n.now.net.clock) (pin_names n.now.net plan.now.parts (voted_in n.now.net plan.now) y Second) Second free (node_of n.now.net (length n.now.net.inputs + y))))
-        ++ lines_text (copy_lines (hardened_clock n.now.net.clock) (pin_names n.now.net plan.now.parts (voted_in n.now.net plan.now) y Third) Third free (node_of n.now.net (length n.now.net.inputs + y)))) }
+    ensures { OnOk result (out.new.items ≡ ((out.old.items ++ lines_text (copy_lines (hardened_clock n.now.net.clock) (pin_names n.now.net plan.now.parts (plan_votes n.now.net plan.now) y First) First free (node_of n.now.net (length n.now.net.inputs + y))))
+        ++ lines_text (copy_lines (hardened_clock n.now.net.clock) (pin_names n.now.net plan.now.parts (plan_votes n.now.net plan.now) y Second) Second free (node_of n.now.net (length n.now.net.inputs + y))))
+        ++ lines_text (copy_lines (hardened_clock n.now.net.clock) (pin_names n.now.net plan.now.parts (plan_votes n.now.net plan.now) y Third) Third free (node_of n.now.net (length n.now.net.inputs + y)))) }
 {
     let _nodes = nodes_of(n);
     let x = NetId(n.input_count() + y);

@@ -7,13 +7,13 @@ ghost use Rattle.blif_writer.specs.Left.{spaced, spaced_line};
 ghost use Rattle.blif_writer.specs.Text.{edge_word, clock_words, control_words, lines_text, free_text};
 ghost use Rattle.certificate.specs.Starts.{counted, spread_start};
 ghost use Rattle.triplicate.specs.Blocks.{copies_of, hardened_clock};
-ghost use Rattle.triplicate.specs.Planned.{votes_in, voted_in};
-ghost use Rattle.triplicate.specs.Private.Construction.{hardened_net, hardened_cert};
-ghost use Rattle.triplicate.specs.Private.Given.{IsGiven};
-ghost use Rattle.triplicate.specs.Private.Labels.{labeling};
-ghost use Rattle.triplicate.specs.Private.Pins.{AreVotesOf};
-ghost use Rattle.triplicate.specs.Private.Taps.{AreTaps};
-ghost use Rattle.triplicate.specs.Private.Starts.{AreVoterRows};
+ghost use Rattle.triplicate.specs.Planned.{votes_in, plan_votes};
+ghost use Rattle.triplicate.specs.Construction.{hardened_net, hardened_cert};
+ghost use Rattle.triplicate.specs.Given.{IsGiven};
+ghost use Rattle.triplicate.specs.Labels.{labeling};
+ghost use Rattle.triplicate.specs.Pins.{AreVotesOf};
+ghost use Rattle.triplicate.specs.Taps.{AreTaps};
+ghost use Rattle.triplicate.specs.Starts.{AreVoterRows};
 ghost use Rattle.hardened_text.specs.Private.Spelled.{three_spelled};
 ghost use Rattle.hardened_text.specs.Private.Lines.{role_lines, block_text, blocks_text, marks_of};
 
@@ -109,10 +109,10 @@ fn put_own_copies(
     room: &mut Room,
 ) -> Result<(), AllocError>
     requires planned { AreVotesOf n.now.net plan.now.parts (votes_in plan.now) }
-    requires taps { AreTaps n.now.net plan.now.parts (voted_in n.now.net plan.now) plan.now.taps }
+    requires taps { AreTaps n.now.net plan.now.parts (plan_votes n.now.net plan.now) plan.now.taps }
     requires net { x < net_count n.now.net }
     requires control { control.now ≡ spaced (control_words (hardened_clock n.now.net.clock)) }
-    ensures { OnOk result (out.new.items ≡ out.old.items ++ lines_text (flat_map (role_lines n.now.net plan.now.parts (voted_in n.now.net plan.now) free) (copies_of n.now.net x))) }
+    ensures { OnOk result (out.new.items ≡ out.old.items ++ lines_text (flat_map (role_lines n.now.net plan.now.parts (plan_votes n.now.net plan.now) free) (copies_of n.now.net x))) }
 {
     let inputs = n.input_count();
     if x < inputs {
@@ -134,11 +134,11 @@ fn put_block(
     head: &mut Vec<u8>,
 ) -> Result<(), AllocError>
     requires planned { AreVotesOf n.now.net plan.now.parts (votes_in plan.now) }
-    requires taps { AreTaps n.now.net plan.now.parts (voted_in n.now.net plan.now) plan.now.taps }
-    requires voters { AreVoterRows n.now.net plan.now.parts (voted_in n.now.net plan.now) plan.now.voters }
+    requires taps { AreTaps n.now.net plan.now.parts (plan_votes n.now.net plan.now) plan.now.taps }
+    requires voters { AreVoterRows n.now.net plan.now.parts (plan_votes n.now.net plan.now) plan.now.voters }
     requires net { x < net_count n.now.net }
     requires control { control.now ≡ spaced (control_words (hardened_clock n.now.net.clock)) }
-    ensures { OnOk result (out.new.items ≡ out.old.items ++ block_text n.now.net plan.now.parts (voted_in n.now.net plan.now) free x) }
+    ensures { OnOk result (out.new.items ≡ out.old.items ++ block_text n.now.net plan.now.parts (plan_votes n.now.net plan.now) free x) }
 {
     put_own_copies(out, n, plan, x, free, control, room)?;
     put_voters(out, n.name(NetId(x)).bytes(), plan.voters.row(x), head)?;
@@ -159,9 +159,9 @@ fn is_free(n: &FreeNet, inputs: bool, x: u32) -> bool
 /// Puts what stands for all nets.
 fn put_blocks(alloc: Global, out: &mut Vec<u8>, n: &FreeNet, plan: &Plan) -> Result<(), AllocError>
     requires planned { AreVotesOf n.now.design.net plan.now.parts (votes_in plan.now) }
-    requires taps { AreTaps n.now.design.net plan.now.parts (voted_in n.now.design.net plan.now) plan.now.taps }
-    requires voters { AreVoterRows n.now.design.net plan.now.parts (voted_in n.now.design.net plan.now) plan.now.voters }
-    ensures { OnOk result (out.new.items ≡ out.old.items ++ blocks_text n.now.design.net plan.now.parts (voted_in n.now.design.net plan.now) (marks_of plan.now.inputs n.now.free) (net_count n.now.design.net)) }
+    requires taps { AreTaps n.now.design.net plan.now.parts (plan_votes n.now.design.net plan.now) plan.now.taps }
+    requires voters { AreVoterRows n.now.design.net plan.now.parts (plan_votes n.now.design.net plan.now) plan.now.voters }
+    ensures { OnOk result (out.new.items ≡ out.old.items ++ blocks_text n.now.design.net plan.now.parts (plan_votes n.now.design.net plan.now) (marks_of plan.now.inputs n.now.free) (net_count n.now.design.net)) }
 {
     let net = n.net();
     let mut control = Vec::new(alloc);
@@ -195,12 +195,12 @@ fn put_ports(out: &mut Vec<u8>, n: &FlatNet) -> Result<(), AllocError>
 /// The flat text of the hardened design.
 pub fn design_text(alloc: Global, n: &FreeNet, plan: &Plan) -> Result<Vec<u8>, AllocError>
     requires planned { AreVotesOf n.now.design.net plan.now.parts (votes_in plan.now) }
-    requires taps { AreTaps n.now.design.net plan.now.parts (voted_in n.now.design.net plan.now) plan.now.taps }
-    requires voters { AreVoterRows n.now.design.net plan.now.parts (voted_in n.now.design.net plan.now) plan.now.voters }
-    requires given { IsGiven n.now.design.net plan.now.parts (voted_in n.now.design.net plan.now) (labeling plan.now.inputs plan.now.extra.table) }
-    ensures { IfOk result (λ bytes. bytes.items ≡ free_text (hardened_net n.now.design.net plan.now.parts (voted_in n.now.design.net plan.now))
-        (spread_start (hardened_cert n.now.design.net plan.now.parts (voted_in n.now.design.net plan.now) (labeling plan.now.inputs plan.now.extra.table))
-        (counted (hardened_cert n.now.design.net plan.now.parts (voted_in n.now.design.net plan.now) (labeling plan.now.inputs plan.now.extra.table)) n.now.free))) }
+    requires taps { AreTaps n.now.design.net plan.now.parts (plan_votes n.now.design.net plan.now) plan.now.taps }
+    requires voters { AreVoterRows n.now.design.net plan.now.parts (plan_votes n.now.design.net plan.now) plan.now.voters }
+    requires given { IsGiven n.now.design.net plan.now.parts (plan_votes n.now.design.net plan.now) (labeling plan.now.inputs plan.now.extra.table) }
+    ensures { IfOk result (λ bytes. bytes.items ≡ free_text (hardened_net n.now.design.net plan.now.parts (plan_votes n.now.design.net plan.now))
+        (spread_start (hardened_cert n.now.design.net plan.now.parts (plan_votes n.now.design.net plan.now) (labeling plan.now.inputs plan.now.extra.table))
+        (counted (hardened_cert n.now.design.net plan.now.parts (plan_votes n.now.design.net plan.now) (labeling plan.now.inputs plan.now.extra.table)) n.now.free))) }
 {
     let mut out = Vec::new(alloc);
     put_ports(&mut out, n.net())?;

@@ -12,8 +12,9 @@ use crate::words::{first_word, number};
 use blif_writer::write_free;
 use certificate::write_cert;
 use flat_net::FreeNet;
+use hardened_pair::{harden_deep, harden_free};
 use std::alloc::Global;
-use triplicate::{HardenedFree, harden_deep, harden_free};
+use triplicate::HardenedFree;
 
 /// Nets and pins are few enough to be hardened.
 fn is_small(n: &FreeNet) -> bool

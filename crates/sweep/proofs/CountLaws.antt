@@ -19,10 +19,10 @@ use Rattle.partitioner.specs.Below.{one_if}
 use Rattle.triplicate.specs.Blocks.{threefold, copies_of, voters_for, block, hardened_roles}
 use Rattle.triplicate.specs.Voting.{needs_voter, voting_parts}
 use Rattle.triplicate.specs.declared.planning.Plan.{Plan}
-use Rattle.triplicate.specs.Planned.{voted_in, cert_in}
-use Rattle.triplicate.specs.Private.Numbers.{HasFewNets, block_start}
-use Rattle.triplicate.specs.Private.Construction.{hardened_cert}
-use Rattle.triplicate.specs.Private.Labels.{labeling}
+use Rattle.triplicate.specs.Planned.{plan_votes, cert_in}
+use Rattle.triplicate.specs.Numbers.{HasFewNets, block_start}
+use Rattle.triplicate.specs.Construction.{hardened_cert}
+use Rattle.triplicate.specs.Labels.{labeling}
 use Rattle.triplicate.proofs.Numbering.{copies_of_node, copies_of_input}
 use Rattle.triplicate.proofs.Places.{start_more, start_few}
 use Rattle.triplicate.proofs.Tripled.{part_at_node}
@@ -115,27 +115,27 @@ module _ (k : PlainCert) (p : ℕ) (c : CopyNo) where
 
 module _ (n : Net) (plan : Plan) where
   voted : ℕ → ℕ → Bool
-  voted = voted_in n plan
+  voted = plan_votes n plan
 
   -- what stands for one net more
   pub so_far_more : (p x : ℕ) (c : CopyNo) → count_so_far n plan p c (x + 1)
-      ≡ count_so_far n plan p c x + (count_by (is_of (cert_in n plan) p c) (copies_of n x) + count_by (λ q. q == p) (voting_parts n plan.parts (voted_in n plan) x))
+      ≡ count_so_far n plan p c x + (count_by (is_of (cert_in n plan) p c) (copies_of n x) + count_by (λ q. q == p) (voting_parts n plan.parts (plan_votes n plan) x))
   so_far_more p x c =
-      let blocks : flat_map (block n plan.parts (voted_in n plan)) (range_with_len 0 (x + 1)) ≡ flat_map (block n plan.parts (voted_in n plan)) (range_with_len 0 x) ++ (block n plan.parts (voted_in n plan) x ++ []) =
-      (let e : x + 1 ≡ suc x = omega arith in ap (λ (m : ℕ). flat_map (block n plan.parts (voted_in n plan)) (range_with_len 0 m)) e)
-      ∙ (ap (flat_map (block n plan.parts (voted_in n plan))) (numbers_more x) ∙ flat_map-append (block n plan.parts (voted_in n plan)) (range_with_len 0 x) (x ∷ [])) in
+      let blocks : flat_map (block n plan.parts (plan_votes n plan)) (range_with_len 0 (x + 1)) ≡ flat_map (block n plan.parts (plan_votes n plan)) (range_with_len 0 x) ++ (block n plan.parts (plan_votes n plan) x ++ []) =
+      (let e : x + 1 ≡ suc x = omega arith in ap (λ (m : ℕ). flat_map (block n plan.parts (plan_votes n plan)) (range_with_len 0 m)) e)
+      ∙ (ap (flat_map (block n plan.parts (plan_votes n plan))) (numbers_more x) ∙ flat_map-append (block n plan.parts (plan_votes n plan)) (range_with_len 0 x) (x ∷ [])) in
       let test : Role → ℕ = λ r. cond (is_of (cert_in n plan) p c r) 1 0 in
       let all = ap (count_by (is_of (cert_in n plan) p c)) blocks in
-      let one = sum_by-append test (flat_map (block n plan.parts (voted_in n plan)) (range_with_len 0 x)) (block n plan.parts (voted_in n plan) x ++ []) in
-      let two = sum_by-append test (block n plan.parts (voted_in n plan) x) [] in
-      let three = sum_by-append test (copies_of n x) (flat_map (voters_for x) (voting_parts n plan.parts (voted_in n plan) x)) in
-      omega (arith, all, one, two, three, voters_counted (cert_in n plan) p c x (voting_parts n plan.parts (voted_in n plan) x))
+      let one = sum_by-append test (flat_map (block n plan.parts (plan_votes n plan)) (range_with_len 0 x)) (block n plan.parts (plan_votes n plan) x ++ []) in
+      let two = sum_by-append test (block n plan.parts (plan_votes n plan) x) [] in
+      let three = sum_by-append test (copies_of n x) (flat_map (voters_for x) (voting_parts n plan.parts (plan_votes n plan) x)) in
+      omega (arith, all, one, two, three, voters_counted (cert_in n plan) p c x (voting_parts n plan.parts (plan_votes n plan) x))
 
   -- the copies of a node are counted at its partition
   pub copies_more : (x q : ℕ) (old : List ℕ) → length plan.parts.of ≡ length n.nodes → length n.inputs ≤ x → x < net_count n → q ≡ slice_index plan.parts.of (x - length n.inputs) → q < length old
       → (p : ℕ) (c : CopyNo) → p < length old → slice_index (slice_set old q (slice_index old q + 1)) p ≡ slice_index old p + count_by (is_of (cert_in n plan) p c) (copies_of n x)
   copies_more x q old long low high at within p c l =
-      let part : part_of (cert_in n plan) x ≡ Some q = part_at_node n plan.parts (voted_in n plan) (labeling plan.inputs plan.extra.table) long x low high ∙ ap Some (sym at) in
+      let part : part_of (cert_in n plan) x ≡ Some q = part_at_node n plan.parts (plan_votes n plan) (labeling plan.inputs plan.extra.table) long x low high ∙ ap Some (sym at) in
       omega (arith, one_more_at old (slice_set old q (slice_index old q + 1)) q within refl p l, node_counted (cert_in n plan) p c n x q low part)
 
   pub none_so_far : (size : ℕ) (counts : List ℕ) → size ≡ plan.parts.count → counts ≡ replicate size 0 → AreSoFar n plan 0 counts
@@ -145,20 +145,20 @@ module _ (n : Net) (plan : Plan) where
   }
 
   -- there is room for what stands for one net more
-  pub room : (x p : ℕ) (counts : List ℕ) → HasFewNets n plan.parts (voted_in n plan) → x < net_count n → AreSoFar n plan x counts → p < plan.parts.count
-      → slice_index counts p + (length (copies_of n x) + length (voting_parts n plan.parts (voted_in n plan) x)) < 4294967296
+  pub room : (x p : ℕ) (counts : List ℕ) → HasFewNets n plan.parts (plan_votes n plan) → x < net_count n → AreSoFar n plan x counts → p < plan.parts.count
+      → slice_index counts p + (length (copies_of n x) + length (voting_parts n plan.parts (plan_votes n plan) x)) < 4294967296
   unfolding block_start
   room x p counts few h s l =
       omega (
         arith,
         s.each p First l,
-        count_by-le-length (is_of (cert_in n plan) p First) (flat_map (block n plan.parts (voted_in n plan)) (range_with_len 0 x)),
+        count_by-le-length (is_of (cert_in n plan) p First) (flat_map (block n plan.parts (plan_votes n plan)) (range_with_len 0 x)),
         few,
-        start_few n plan.parts (voted_in n plan) (x + 1) (omega (arith, h)),
-        start_more n plan.parts (voted_in n plan) x,
+        start_few n plan.parts (plan_votes n plan) (x + 1) (omega (arith, h)),
+        start_more n plan.parts (plan_votes n plan) x,
       )
 
-  pub net_counted : (x : ℕ) (old now new row : List ℕ) → AreSoFar n plan x old → length now ≡ length old → length new ≡ length now → row ≡ voting_parts n plan.parts (voted_in n plan) x
+  pub net_counted : (x : ℕ) (old now new row : List ℕ) → AreSoFar n plan x old → length now ≡ length old → length new ≡ length now → row ≡ voting_parts n plan.parts (plan_votes n plan) x
       → ((p : ℕ) (c : CopyNo) → p < length old → slice_index now p ≡ slice_index old p + count_by (is_of (cert_in n plan) p c) (copies_of n x))
       → ((p : ℕ) → p < length now → slice_index new p ≡ slice_index now p + count_by (λ q. q == p) row) → AreSoFar n plan (x + 1) new
   net_counted x old now new row s long still is first second = record {
@@ -168,8 +168,8 @@ module _ (n : Net) (plan : Plan) where
   }
 
   -- all numbers of the partitions are in range
-  pub row_within : (x m : ℕ) → m ≡ plan.parts.count → All (λ p. p < m) (voting_parts n plan.parts (voted_in n plan) x)
-  row_within x m e = All-filter (needs_voter n plan.parts (voted_in n plan) x) (λ p. p < m) (range_with_len 0 plan.parts.count) (below plan.parts.count (omega (arith, e)))
+  pub row_within : (x m : ℕ) → m ≡ plan.parts.count → All (λ p. p < m) (voting_parts n plan.parts (plan_votes n plan) x)
+  row_within x m e = All-filter (needs_voter n plan.parts (plan_votes n plan) x) (λ p. p < m) (range_with_len 0 plan.parts.count) (below plan.parts.count (omega (arith, e)))
     where
       below : (r : ℕ) → r ≤ m → All (λ p. p < m) (range_with_len 0 r)
       below r h = λ i d l.
@@ -178,7 +178,7 @@ module _ (n : Net) (plan : Plan) where
           omega (arith, at, short, h)
 
   -- behind the copies there is still room for the voters
-  pub room_behind : (x p : ℕ) (old now row : List ℕ) → HasFewNets n plan.parts (voted_in n plan) → x < net_count n → AreSoFar n plan x old → p < plan.parts.count → row ≡ voting_parts n plan.parts (voted_in n plan) x
+  pub room_behind : (x p : ℕ) (old now row : List ℕ) → HasFewNets n plan.parts (plan_votes n plan) → x < net_count n → AreSoFar n plan x old → p < plan.parts.count → row ≡ voting_parts n plan.parts (plan_votes n plan) x
       → slice_index now p ≡ slice_index old p + count_by (is_of (cert_in n plan) p First) (copies_of n x) → slice_index now p + length row < 4294967296
   room_behind x p old now row few h s l is more =
       omega (arith, more, room x p old few h s l, count_by-le-length (is_of (cert_in n plan) p First) (copies_of n x), ap length is)

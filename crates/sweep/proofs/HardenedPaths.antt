@@ -17,10 +17,10 @@ use Rattle.feedback_cut.specs.Inner.{node_pins}
 use Rattle.partitioner.specs.Below.{one_if}
 use Rattle.triplicate.specs.Blocks.{threefold}
 use Rattle.triplicate.specs.Voting.{ReadsNet}
-use Rattle.triplicate.specs.Private.Labels.{Labeling}
-use Rattle.triplicate.specs.Private.Numbers.{copy_net, voter_net}
-use Rattle.triplicate.specs.Private.Construction.{pin_net, node_copy, hardened_net, hardened_cert}
-use Rattle.triplicate.specs.Private.Given.{IsGiven}
+use Rattle.triplicate.specs.Labels.{Labeling}
+use Rattle.triplicate.specs.Numbers.{copy_net, voter_net}
+use Rattle.triplicate.specs.Construction.{pin_net, node_copy, hardened_net, hardened_cert}
+use Rattle.triplicate.specs.Given.{IsGiven}
 use Rattle.triplicate.proofs.Lists.{copy_numbered, threefold_at, length-threes, threes_at, in_threes}
 use Rattle.triplicate.proofs.Numbering.{copy_net_input}
 use Rattle.triplicate.proofs.Tripled.{length-hardened_inputs, node_of_role, number_of, role_of_copy, role_of_input_copy}

@@ -15,9 +15,9 @@ use Rattle.triplicate.specs.declared.form.Form.{Form}
 use Rattle.triplicate.specs.Blocks.{hardened_roles}
 use Rattle.triplicate.specs.Form.{version_of}
 use Rattle.triplicate.specs.declared.planning.Plan.{Plan}
-use Rattle.triplicate.specs.Planned.{IsPlan, voted_in, cert_in, pair_in}
-use Rattle.triplicate.specs.Private.Construction.{hardened_cert, hardened_order}
-use Rattle.triplicate.specs.Private.Labels.{labeling}
+use Rattle.triplicate.specs.Planned.{IsPlan, plan_votes, cert_in, pair_in}
+use Rattle.triplicate.specs.Construction.{hardened_cert, hardened_order}
+use Rattle.triplicate.specs.Labels.{labeling}
 use Rattle.triplicate.proofs.Lists.{get_before, get_after}
 use Rattle.triplicate.proofs.Certified.{cert_fits, is_cert}
 use Rattle.triplicate.proofs.HardenedOrder.{is_order}
@@ -85,28 +85,28 @@ labels_small kind n size inputs most p small is = λ k d lt.
 
 -- the certificate of a plan is consistent
 pub plan_certified : (kind : Form) (n : Net) (size : ℕ) (inputs : Bool) (most : ℕ) (p : Plan) → most < 2 ^ 32 → IsPlan kind n size inputs most p → All (λ d. d < 2 ^ 32) p.extra.table.depths → IsCert (cert_in n p)
-plan_certified kind n size inputs most p small is depths = is_cert n p.parts (voted_in n p) (labeling p.inputs p.extra.table) is.given (labels_small kind n size inputs most p small is) depths
+plan_certified kind n size inputs most p small is depths = is_cert n p.parts (plan_votes n p) (labeling p.inputs p.extra.table) is.given (labels_small kind n size inputs most p small is) depths
 
-pub few_nodes : (kind : Form) (n : Net) (size : ℕ) (inputs : Bool) (most : ℕ) (p : Plan) (nets ins count : ℕ) → IsPlan kind n size inputs most p → nets ≡ 3 * length n.inputs + length (hardened_roles n p.parts (voted_in n p)) → ins ≡ length n.inputs → count ≡ length n.nodes → 3 * count ≤ nets - 3 * ins
-few_nodes kind n size inputs most p nets ins count is e f g = omega (arith, e, f, g, roles_counted n p.parts (voted_in n p))
+pub few_nodes : (kind : Form) (n : Net) (size : ℕ) (inputs : Bool) (most : ℕ) (p : Plan) (nets ins count : ℕ) → IsPlan kind n size inputs most p → nets ≡ 3 * length n.inputs + length (hardened_roles n p.parts (plan_votes n p)) → ins ≡ length n.inputs → count ≡ length n.nodes → 3 * count ≤ nets - 3 * ins
+few_nodes kind n size inputs most p nets ins count is e f g = omega (arith, e, f, g, roles_counted n p.parts (plan_votes n p))
 
 -- all that is answered is told of one pair
 pub swept_is : (kind : Form) (n : FreeDesign) (d : Design) (size version most : ℕ) (p : Plan) (s : Swept) (nets ins count : ℕ) → (version ≡ 1) ⊎ (version ≡ 2) → most < 2 ^ 32 → d ≡ n.design → IsDesign d → IsPlan kind d.net size (nat_eq version 2) most p
-    → nets ≡ 3 * length d.net.inputs + length (hardened_roles d.net p.parts (voted_in d.net p)) → ins ≡ length d.net.inputs → count ≡ length d.net.nodes → All (λ x. x < 2 ^ 32) p.extra.table.depths
-    → s.size ≡ size → s.partitions ≡ p.parts.count → s.voters ≡ nets - 3 * ins - 3 * count → s.depth ≡ greatest p.extra.table.depths → AreVotedLevels d.net (voted_in d.net p) s.levels → s.near ≡ near_total (cert_in d.net p)
+    → nets ≡ 3 * length d.net.inputs + length (hardened_roles d.net p.parts (plan_votes d.net p)) → ins ≡ length d.net.inputs → count ≡ length d.net.nodes → All (λ x. x < 2 ^ 32) p.extra.table.depths
+    → s.size ≡ size → s.partitions ≡ p.parts.count → s.voters ≡ nets - 3 * ins - 3 * count → s.depth ≡ greatest p.extra.table.depths → AreVotedLevels d.net (plan_votes d.net p) s.levels → s.near ≡ near_total (cert_in d.net p)
     → IsSwept kind n size version most s
 swept_is kind n d size version most p s nets ins count known small same design planned en ei ec small_depths es ep ev ed levels enear = record {
   pair = pair_in n p;
   bounded = planned_is kind n size version most p known is;
-  valid = is_valid n.design.net p.parts (voted_in n.design.net p) (labeling p.inputs p.extra.table) is.given (hardened_order n.design.net p.parts (voted_in n.design.net p) n.design.order)
-      (is_order n.design.net p.parts (voted_in n.design.net p) (labeling p.inputs p.extra.table) is.given n.design.order ordered.order);
+  valid = is_valid n.design.net p.parts (plan_votes n.design.net p) (labeling p.inputs p.extra.table) is.given (hardened_order n.design.net p.parts (plan_votes n.design.net p) n.design.order)
+      (is_order n.design.net p.parts (plan_votes n.design.net p) (labeling p.inputs p.extra.table) is.given n.design.order ordered.order);
   certified = plan_certified kind n.design.net size (nat_eq version 2) most p small is small_depths;
-  fits = cert_fits n.design.net p.parts (voted_in n.design.net p) (labeling p.inputs p.extra.table) is.given;
+  fits = cert_fits n.design.net p.parts (plan_votes n.design.net p) (labeling p.inputs p.extra.table) is.given;
   size_is = es;
   partitions = omega (arith, ep, is.bound.depths.parts_long, ap length (depths_are n.design.net p));
-  voters = omega (arith, ev, total, inputs, nodes, roles_counted n.design.net p.parts (voted_in n.design.net p));
+  voters = omega (arith, ev, total, inputs, nodes, roles_counted n.design.net p.parts (plan_votes n.design.net p));
   depth = ed ∙ ap greatest (sym (depths_are n.design.net p));
-  levels = hardened_levels n.design.net p.parts (voted_in n.design.net p) (labeling p.inputs p.extra.table) is.given s.levels (subst (λ (e : Design). AreVotedLevels e.net (voted_in e.net p) s.levels) same levels);
+  levels = hardened_levels n.design.net p.parts (plan_votes n.design.net p) (labeling p.inputs p.extra.table) is.given s.levels (subst (λ (e : Design). AreVotedLevels e.net (plan_votes e.net p) s.levels) same levels);
   near = enear ∙ ap (λ (e : Design). near_total (cert_in e.net p)) same;
 }
   where
@@ -116,8 +116,8 @@ swept_is kind n d size version most p s nets ins count known small same design p
     ordered : IsDesign n.design
     ordered = subst IsDesign same design
 
-    total : nets ≡ 3 * length n.design.net.inputs + length (hardened_roles n.design.net p.parts (voted_in n.design.net p))
-    total = en ∙ ap (λ (e : Design). 3 * length e.net.inputs + length (hardened_roles e.net p.parts (voted_in e.net p))) same
+    total : nets ≡ 3 * length n.design.net.inputs + length (hardened_roles n.design.net p.parts (plan_votes n.design.net p))
+    total = en ∙ ap (λ (e : Design). 3 * length e.net.inputs + length (hardened_roles e.net p.parts (plan_votes e.net p))) same
 
     inputs : ins ≡ length n.design.net.inputs
     inputs = ei ∙ ap (λ (e : Design). length e.net.inputs) same

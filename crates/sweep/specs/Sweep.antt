@@ -8,7 +8,7 @@ use Rattle.certificate.specs.Cert.{IsCert, Fits}
 use Rattle.certificate.specs.Text.{line_text}
 use Rattle.triplicate.specs.declared.form.Form.{Form}
 use Rattle.triplicate.specs.declared.hardened.HardenedFree.{HardenedFree}
-use Rattle.triplicate.specs.Result.{IsBounded}
+use Rattle.triplicate.specs.Result.{IsBoundedPair}
 use Rattle.exposure.specs.Counts.{near_total}
 use Rattle.sweep.specs.declared.swept.Swept.{Swept}
 use Rattle.sweep.specs.Levels.{AreLevels}
@@ -21,7 +21,7 @@ greatest (d ∷ ds) = max d (greatest ds)
 -- one pair in the hardened form, of which all that a line tells is told
 pub record IsSwept (kind : Form) (n : FreeDesign) (size version most : ℕ) (s : Swept) : Type 0 where
   pub pair : HardenedFree
-  pub bounded : IsBounded kind n size version most pair
+  pub bounded : IsBoundedPair kind n size version most pair
   pub valid : IsValid pair.net.design.net
   pub certified : IsCert pair.cert
   pub fits : Fits n.design.net pair.net.design.net pair.cert

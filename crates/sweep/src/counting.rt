@@ -3,9 +3,9 @@ ghost use Rattle.std.specs.Prelude.{◌≡◌, ◌==◌, ◌+◌, ◌<◌, ℕ, 
 ghost use Rattle.tmr_base.specs.declared.copies.CopyNo.{CopyNo};
 ghost use Rattle.flat_net.specs.Net.{net_count};
 ghost use Rattle.triplicate.specs.Blocks.{copies_of};
-ghost use Rattle.triplicate.specs.Planned.{voted_in, cert_in};
-ghost use Rattle.triplicate.specs.Private.Numbers.{HasFewNets};
-ghost use Rattle.triplicate.specs.Private.Starts.{AreVoterRows};
+ghost use Rattle.triplicate.specs.Planned.{plan_votes, cert_in};
+ghost use Rattle.triplicate.specs.Numbers.{HasFewNets};
+ghost use Rattle.triplicate.specs.Starts.{AreVoterRows};
 ghost use Rattle.exposure.specs.Counts.{is_of};
 ghost use Rattle.sweep.specs.Private.Counting.{AreSoFar, AreCounts};
 
@@ -43,8 +43,8 @@ fn count_copies(n: &FlatNet, plan: &Plan, counts: &mut [u32], x: u32)
 
 /// Counts what stands for net x.
 fn count_net(n: &FlatNet, plan: &Plan, counts: &mut [u32], x: u32)
-    requires voters { AreVoterRows n.now.net plan.now.parts (voted_in n.now.net plan.now) plan.now.voters }
-    requires few { HasFewNets n.now.net plan.now.parts (voted_in n.now.net plan.now) }
+    requires voters { AreVoterRows n.now.net plan.now.parts (plan_votes n.now.net plan.now) plan.now.voters }
+    requires few { HasFewNets n.now.net plan.now.parts (plan_votes n.now.net plan.now) }
     requires parts { length plan.now.parts.of ≡ length n.now.net.nodes }
     requires net { x < net_count n.now.net }
     requires counts { AreSoFar n.now.net plan.now x counts.old }
@@ -56,8 +56,8 @@ fn count_net(n: &FlatNet, plan: &Plan, counts: &mut [u32], x: u32)
 
 /// How many nets each copy of each partition has: a copy of each of its nodes, and a voter for each net that needs one there.
 pub fn copy_counts(alloc: Global, n: &FlatNet, plan: &Plan) -> Result<Vec<u32>, OutOfMemory>
-    requires voters { AreVoterRows n.now.net plan.now.parts (voted_in n.now.net plan.now) plan.now.voters }
-    requires few { HasFewNets n.now.net plan.now.parts (voted_in n.now.net plan.now) }
+    requires voters { AreVoterRows n.now.net plan.now.parts (plan_votes n.now.net plan.now) plan.now.voters }
+    requires few { HasFewNets n.now.net plan.now.parts (plan_votes n.now.net plan.now) }
     requires parts { length plan.now.parts.of ≡ length n.now.net.nodes }
     ensures { IfOk result (λ counts. AreCounts n.now.net plan.now counts.items) }
 {

@@ -9,12 +9,12 @@ use Rattle.flat_net.specs.Net.{Net, net_count}
 use Rattle.certificate.specs.declared.role.Role.{Role}
 use Rattle.certificate.specs.declared.role.Role.TheVariants.{Copy, Voter}
 use Rattle.certificate.specs.Cert.{role_of, RoleIsInRange, IsCert, Fits}
-use Rattle.triplicate.specs.Private.Labels.{Labeling}
+use Rattle.triplicate.specs.Labels.{Labeling}
 use Rattle.triplicate.specs.Form.{version_of}
 use Rattle.triplicate.specs.Blocks.{hardened_roles}
 use Rattle.triplicate.specs.Voting.{needs_voter}
-use Rattle.triplicate.specs.Private.Construction.{hardened_net, hardened_cert, three_copies, three_labels, role_node}
-use Rattle.triplicate.specs.Private.Given.{IsGiven}
+use Rattle.triplicate.specs.Construction.{hardened_net, hardened_cert, three_copies, three_labels, role_node}
+use Rattle.triplicate.specs.Given.{IsGiven}
 use Rattle.triplicate.proofs.Numbering.{HasNumber}
 use Rattle.triplicate.proofs.Tripled.{pin_from_needs, number_of, role_of_copy, copy_listed, length-hardened_inputs}
 

@@ -16,7 +16,7 @@ use Rattle.flat_net.proofs.Slots.{slot_there}
 use Rattle.certificate.specs.declared.role.Role.TheVariants.{Copy, Voter}
 use Rattle.certificate.specs.Cert.{role_of, copy_of, label_of, count_of, role_count, Fits}
 use Rattle.certificate.specs.Reads.{Reads}
-use Rattle.triplicate.specs.Private.Labels.{Labeling}
+use Rattle.triplicate.specs.Labels.{Labeling}
 use Rattle.triplicate.proofs.Certified.{cert_fits}
 use Rattle.triplicate.proofs.Marks.{copy_marked}
 use Rattle.certificate.specs.Rules.{SameEdge, CopiesTable, CopiesRegister, LabelReaches, Rule3, Rule4, Rule5, Rule6, Rule7, Rule8, AllHold}
@@ -27,9 +27,9 @@ use Rattle.recovery_depth.specs.Depths.{own_register, is_some_register}
 use Rattle.triplicate.specs.Voting.{ReadsNet}
 use Rattle.triplicate.specs.Blocks.{threefold, hardened_clock}
 use Rattle.triplicate.specs.Form.{majority_cover}
-use Rattle.triplicate.specs.Private.Numbers.{copy_net}
-use Rattle.triplicate.specs.Private.Construction.{pin_net, node_copy, hardened_net, hardened_cert}
-use Rattle.triplicate.specs.Private.Given.{IsGiven}
+use Rattle.triplicate.specs.Numbers.{copy_net}
+use Rattle.triplicate.specs.Construction.{pin_net, node_copy, hardened_net, hardened_cert}
+use Rattle.triplicate.specs.Given.{IsGiven}
 use Rattle.triplicate.proofs.Lists.{length-threes, threes_at}
 use Rattle.triplicate.proofs.Tripled.{node_of_role, number_of, part_of_node, copy_listed, label_listed, length-hardened_inputs}
 use Rattle.triplicate.proofs.Reading.{read_in_range, read_together, voted_role, unvoted_role, input_role, pin_reads}

@@ -18,13 +18,13 @@ use Rattle.certificate.specs.declared.role.Role.{Role}
 use Rattle.certificate.specs.declared.role.Role.TheVariants.{Copy, Voter}
 use Rattle.certificate.specs.Cert.{role_of, copy_of}
 use Rattle.feedback_cut.specs.Inner.{node_pins}
-use Rattle.triplicate.specs.Private.Labels.{Labeling}
+use Rattle.triplicate.specs.Labels.{Labeling}
 use Rattle.triplicate.specs.Voting.{ReadsNet, votes_for, needs_voter, VotesFor}
 use Rattle.triplicate.specs.Blocks.{threefold, copies_of, voters_for, hardened_roles, role_name}
 use Rattle.triplicate.specs.Form.{parts_of, is_voter, reads_voter, is_voted, majority_cover, IsTripled, VotesAsNeeded}
-use Rattle.triplicate.specs.Private.Numbers.{copy_net}
-use Rattle.triplicate.specs.Private.Construction.{pin_net, node_copy, role_node, hardened_net, hardened_cert}
-use Rattle.triplicate.specs.Private.Given.{IsGiven}
+use Rattle.triplicate.specs.Numbers.{copy_net}
+use Rattle.triplicate.specs.Construction.{pin_net, node_copy, role_node, hardened_net, hardened_cert}
+use Rattle.triplicate.specs.Given.{IsGiven}
 use Rattle.triplicate.proofs.Numbering.{number_of_role}
 use Rattle.triplicate.proofs.Tripled.{node_of_role, role_of_copy, copy_listed}
 use Rattle.triplicate.proofs.Certified.{cert_fits}

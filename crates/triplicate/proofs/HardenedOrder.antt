@@ -16,12 +16,12 @@ use Rattle.certificate.specs.declared.role.Role.{Role}
 use Rattle.certificate.specs.declared.role.Role.TheVariants.{Copy, Voter}
 use Rattle.certificate.specs.Cert.{role_of}
 use Rattle.feedback_cut.specs.Inner.{node_pins}
-use Rattle.triplicate.specs.Private.Labels.{Labeling}
+use Rattle.triplicate.specs.Labels.{Labeling}
 use Rattle.triplicate.specs.Voting.{ReadsNet}
 use Rattle.triplicate.specs.Blocks.{threefold, block, copies_of, hardened_roles}
-use Rattle.triplicate.specs.Private.Numbers.{block_start, copy_net, voter_net, voter_rank}
-use Rattle.triplicate.specs.Private.Construction.{pin_net, node_copy, role_node, hardened_net, hardened_cert, block_nets, net_order, hardened_order}
-use Rattle.triplicate.specs.Private.Given.{IsGiven}
+use Rattle.triplicate.specs.Numbers.{block_start, copy_net, voter_net, voter_rank}
+use Rattle.triplicate.specs.Construction.{pin_net, node_copy, role_node, hardened_net, hardened_cert, block_nets, net_order, hardened_order}
+use Rattle.triplicate.specs.Given.{IsGiven}
 use Rattle.triplicate.proofs.Lists.{copy_number_few, copy_numbered, threefold_at}
 use Rattle.triplicate.proofs.Numbering.{owner, in_block, block_of_role, role_in_block, one_block, copies_of_node, copy_net_node, copy_net_input, voter_net_is, InBlock}
 use Rattle.triplicate.proofs.Tripled.{node_of_role, role_of_input_copy, length-hardened_inputs}

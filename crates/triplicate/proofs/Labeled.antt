@@ -19,13 +19,13 @@ use Rattle.recovery_depth.specs.Chains.{relabeled}
 use Rattle.recovery_depth.specs.Walks.{Walk, starts, goes_on, IsReach}
 use Rattle.recovery_depth.specs.Hardened.{role_at, node_at, is_copy, ReadsCopy, own_original, original_of}
 use Rattle.recovery_depth.proofs.CopyLaws.{label_at, label_grows, label_own}
-use Rattle.triplicate.specs.Private.Labels.{Labeling}
+use Rattle.triplicate.specs.Labels.{Labeling}
 use Rattle.triplicate.specs.Voting.{ReadsNet}
 use Rattle.triplicate.specs.Blocks.{hardened_roles}
 use Rattle.triplicate.specs.Form.{IsGreatestLabel, RulesAdmit, AreLeastLabels}
-use Rattle.triplicate.specs.Private.Numbers.{copy_net, voter_net}
-use Rattle.triplicate.specs.Private.Construction.{pin_net, node_copy, three_labels, hardened_net, hardened_cert}
-use Rattle.triplicate.specs.Private.Given.{IsGiven}
+use Rattle.triplicate.specs.Numbers.{copy_net, voter_net}
+use Rattle.triplicate.specs.Construction.{pin_net, node_copy, three_labels, hardened_net, hardened_cert}
+use Rattle.triplicate.specs.Given.{IsGiven}
 use Rattle.triplicate.proofs.Tripled.{node_of_role, number_of, role_of_copy, part_of_node, part_at_node, label_listed, length-hardened_inputs}
 use Rattle.triplicate.proofs.Reading.{read_in_range, read_together, voted_role, unvoted_role, input_role}
 use Rattle.triplicate.proofs.Formed.{copy_pin}

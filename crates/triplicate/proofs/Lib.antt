@@ -22,9 +22,5 @@ pub mod Whole
 pub mod VoterRows
 pub mod TapLaws
 pub mod Places
-pub mod Pushing
-pub mod RoleSteps
-pub mod Assembly
-pub mod Rooms
 pub mod Building
 pub mod Planned

@@ -13,9 +13,9 @@ use Rattle.certificate.specs.declared.role.Role.{Role}
 use Rattle.certificate.specs.declared.role.Role.TheVariants.{Copy, Voter}
 use Rattle.certificate.specs.Cert.{PlainCert, role_of, Fits}
 use Rattle.certificate.specs.Starts.{counted, role_start, spread_start}
-use Rattle.triplicate.specs.Private.Labels.{Labeling}
-use Rattle.triplicate.specs.Private.Construction.{node_copy, hardened_net, hardened_cert}
-use Rattle.triplicate.specs.Private.Given.{IsGiven}
+use Rattle.triplicate.specs.Labels.{Labeling}
+use Rattle.triplicate.specs.Construction.{node_copy, hardened_net, hardened_cert}
+use Rattle.triplicate.specs.Given.{IsGiven}
 use Rattle.triplicate.proofs.Certified.{cert_fits}
 use Rattle.triplicate.proofs.Tripled.{node_of_role}
 use Rattle.triplicate.proofs.Marks.{node_bit_none, slot_of_some, copy_marked}

@@ -12,11 +12,11 @@ use Rattle.flat_net.proofs.Slots.{slot_at, slot_within, slot_there}
 use Rattle.certificate.specs.declared.role.Role.{Role}
 use Rattle.certificate.specs.declared.role.Role.TheVariants.{Copy, Voter}
 use Rattle.certificate.specs.Cert.{role_of}
-use Rattle.triplicate.specs.Private.Labels.{Labeling}
+use Rattle.triplicate.specs.Labels.{Labeling}
 use Rattle.triplicate.specs.Blocks.{hardened_roles, hardened_inputs, role_name}
-use Rattle.triplicate.specs.Private.Numbers.{copy_net, voter_net}
-use Rattle.triplicate.specs.Private.Construction.{role_node, hardened_net, hardened_cert}
-use Rattle.triplicate.specs.Private.Given.{IsGiven}
+use Rattle.triplicate.specs.Numbers.{copy_net, voter_net}
+use Rattle.triplicate.specs.Construction.{role_node, hardened_net, hardened_cert}
+use Rattle.triplicate.specs.Given.{IsGiven}
 use Rattle.triplicate.proofs.Lists.{threes_at, in_threes}
 use Rattle.triplicate.proofs.Numbering.{HasNumber, copy_net_input}
 use Rattle.triplicate.proofs.Tripled.{node_of_role, number_of, length-hardened_inputs}

@@ -10,7 +10,7 @@ use Rattle.flat_net.proofs.Slots.{slot_there, slot_below}
 use Rattle.flat_net.specs.Private.ByPlace.{IsOrderByPlace}
 use Rattle.flat_net.proofs.ByPlace.{by_place}
 use Rattle.recovery_depth.specs.Depths.{is_some_register}
-use Rattle.triplicate.specs.Private.Construction.{is_register_net, net_order}
+use Rattle.triplicate.specs.Construction.{is_register_net, net_order}
 use Rattle.triplicate.proofs.Lists.{get_before, get_after}
 use Rattle.triplicate.proofs.Orders.{kept_before, kept_at, kept_place, kept_rises}
 

@@ -14,7 +14,7 @@ use Rattle.certificate.specs.declared.role.Role.{Role}
 use Rattle.certificate.specs.declared.role.Role.TheVariants.{Copy, Voter}
 use Rattle.triplicate.specs.Voting.{needs_voter, voting_parts}
 use Rattle.triplicate.specs.Blocks.{threefold, copies_of, voters_for, block, hardened_roles}
-use Rattle.triplicate.specs.Private.Numbers.{block_start, copy_net, voter_net, voter_rank}
+use Rattle.triplicate.specs.Numbers.{block_start, copy_net, voter_net, voter_rank}
 use Rattle.triplicate.proofs.Lists.{get_before, get_after, block_at, place_of, threefold_at, copy_number_few, copy_numbered, length-threes, threes_at, in_threes, passing_at, passing_place, blocks_rise}
 
 -- where a role stands

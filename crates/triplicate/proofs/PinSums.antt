@@ -9,7 +9,7 @@ use Rattle.flat_net.proofs.Slots.{slot_at, slice_get_there}
 use Rattle.flat_net.specs.Net.{Net, Node, node_of, pins_of, pins_at, pin_total}
 use Rattle.feedback_cut.specs.Inner.{node_pins}
 use Rattle.node_reads.proofs.Numbers.{numbers_more}
-use Rattle.triplicate.specs.Private.Taps.{tap_start}
+use Rattle.triplicate.specs.Private.Places.{tap_start}
 
 module _ (n : Net) where
   -- the pins of the first k nodes

@@ -8,12 +8,12 @@ use Rattle.std.proofs.lemmas.Option.{slice_get_within}
 use Rattle.tmr_base.specs.declared.copies.CopyNo.{CopyNo}
 use Rattle.tmr_base.specs.declared.copies.CopyNo.TheVariants.{First, Second, Third}
 use Rattle.tmr_base.specs.Copies.{Three, copy_number}
-use Rattle.triplicate.specs.Private.Construction.{three_copies}
+use Rattle.triplicate.specs.Construction.{three_copies}
 use Rattle.tmr_base.specs.Parts.{PlainParts}
 use Rattle.flat_net.specs.Net.{Net, net_count}
 use Rattle.triplicate.specs.Voting.{needs_voter, voting_parts}
 use Rattle.triplicate.specs.Blocks.{copies_of, block, hardened_roles}
-use Rattle.triplicate.specs.Private.Numbers.{block_start, copy_net, voter_net, voter_rank}
+use Rattle.triplicate.specs.Numbers.{block_start, copy_net, voter_net, voter_rank}
 use Rattle.triplicate.proofs.Lists.{blocks_more, blocks_rise, passing_at}
 use Rattle.triplicate.proofs.Numbering.{copies_of_node, block_length, copy_net_node, copy_net_input, voter_net_is}
 

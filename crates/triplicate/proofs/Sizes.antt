@@ -1,5 +1,5 @@
 -- How large the hardened design is.
-use Rattle.std.proofs.Common.{◌≡◌, ◌≢◌, ℕ, zero, suc, ◌+◌, ◌-◌, ◌*◌, ◌<◌, ◌≤◌, ◌⊎◌, inl, inr, List, [], ◌∷◌, ◌++◌, length, map, refl, sym, ap, ◌∙◌, arith, append-nil, Bool, true, false, if◌then◌else◌, get_or, take, set, filter, replicate, cond, All, Any, eqb, ltb}
+use Rattle.std.proofs.Common.{◌≡◌, ◌≢◌, ℕ, zero, suc, ◌+◌, ◌-◌, ◌*◌, ◌<◌, ◌≤◌, ◌⊎◌, inl, inr, List, [], ◌∷◌, ◌++◌, length, map, refl, sym, ap, ◌∙◌, arith, append-nil, Bool, true, false, if◌then◌else◌, get_or, take, set, filter, replicate, cond, All, Any, eqb, ltb, Option, Some}
 use Rattle.std.specs.Prelude.{sum_by, count_by}
 use Rattle.std.specs.List.{flat_map, range_with_len}
 use Rattle.std.proofs.lemmas.Bool.{cases_lt, cases_eq, ne_eqb, eq-eqb, eqb-true, ltb-true, lt-ltb, false≢true}
@@ -7,23 +7,25 @@ use Rattle.std.proofs.lemmas.Map.Keys.{IsDistinct-from_apart}
 use Rattle.std.proofs.lemmas.Map.Steps.{length-le_from_distinct_below}
 use Rattle.std.proofs.lemmas.List.Folds.{Any-from_list_any}
 use Rattle.std.proofs.lemmas.List.{length-append, map-append, get_or_default, length_push, take_all, length-replicate}
+use Rattle.std.proofs.lemmas.List.FromFn.{length-map-range_with_len}
 use Rattle.std.proofs.lemmas.List.Sums.{sum_by-append, sum_by-cons, sum_by_push, sum_by_more, sum_by-set}
 use Rattle.std.specs.Prelude.{slice_index}
 use Rattle.feedback_cut.specs.Inner.{node_pins}
 use Rattle.node_reads.specs.Noting.{noted, ends_in}
+use Rattle.tmr_base.specs.declared.copies.CopyNo.{CopyNo}
 use Rattle.tmr_base.specs.declared.copies.CopyNo.TheVariants.{First, Second, Third}
 use Rattle.triplicate.specs.Private.Noted.{pin_noted, pins_noted, nodes_noted, parts_noted, members}
 use Rattle.triplicate.proofs.VoterRows.{length-pins_noted, length-parts_noted, rows_listed, none_listed, pin_in_range}
-use Rattle.triplicate.proofs.RoleSteps.{copy_pins}
 use Rattle.std.proofs.lemmas.List.Concat.{flat_map-append}
 use Rattle.node_reads.proofs.Numbers.{numbers_more}
 use Rattle.tmr_base.specs.Parts.{PlainParts}
-use Rattle.flat_net.specs.Net.{Net, Node, net_count, node_of, pins_of, pins_at, pin_total, IsValid}
+use Rattle.flat_net.specs.Net.{Net, Node, Table, Register, net_count, node_of, pins_of, pins_at, pin_total, IsValid}
+use Rattle.flat_net.proofs.Slots.{slot_there}
 use Rattle.certificate.specs.declared.role.Role.{Role}
 use Rattle.certificate.specs.declared.role.Role.TheVariants.{Copy}
 use Rattle.triplicate.specs.Voting.{voting_parts}
 use Rattle.triplicate.specs.Blocks.{copies_of, voters_for, block, hardened_roles}
-use Rattle.triplicate.specs.Private.Construction.{hardened_net, role_node}
+use Rattle.triplicate.specs.Construction.{pin_net, node_copy, hardened_net, role_node}
 use Rattle.triplicate.specs.Result.{is_voter_role}
 use Rattle.triplicate.proofs.Lists.{blocks_more}
 use Rattle.triplicate.proofs.PinSums.{all_pins}
@@ -88,6 +90,17 @@ copies_long n x = go (cases_lt x (length n.inputs))
     go : (x < length n.inputs) ⊎ (length n.inputs ≤ x) → 3 * (x - length n.inputs) + length (copies_of n x) ≡ 3 * (suc x - length n.inputs)
     go (inl l) = omega (arith, ap length (copies_of_input n x l))
     go (inr l) = omega (arith, ap length (copies_of_node n x l))
+
+-- as many pins as its node
+pub copy_pins : (n : Net) (parts : PlainParts) (voted : ℕ → ℕ → Bool) (x : ℕ) (c : CopyNo) → length n.inputs ≤ x → x < net_count n → length (pins_of (role_node n parts voted (Copy (record { 0 = x }) c))) ≡ length (pins_at (node_of n x))
+copy_pins n parts voted x c low high = go (slot_there (length n.inputs) n.nodes x low high)
+  where
+    as_many : (node : Node) → length (pins_of (node_copy n parts voted (x - length n.inputs) c (Some node))) ≡ length (pins_of node)
+    as_many (Table name cover pins) = length-map-range_with_len (λ j. pin_net n parts voted (x - length n.inputs) c j (slice_index pins j)) 0 (length pins)
+    as_many (Register name init pin) = refl
+
+    go : (node : Node) × (node_of n x ≡ Some node) → length (pins_of (role_node n parts voted (Copy (record { 0 = x }) c))) ≡ length (pins_at (node_of n x))
+    go (node, e) = ap (λ (o : Option Node). length (pins_of (node_copy n parts voted (x - length n.inputs) c o))) e ∙ (as_many node ∙ sym (ap (λ (o : Option Node). length (pins_at o)) e))
 
 module _ (n : Net) (parts : PlainParts) (voted : ℕ → ℕ → Bool) where
   block_counted : (x : ℕ) → length (block n parts voted x) ≡ length (copies_of n x) + count_by is_voter_role (block n parts voted x)

@@ -15,9 +15,11 @@ use Rattle.flat_net.specs.Net.{Net, net_count}
 use Rattle.feedback_cut.specs.Inner.{node_pins}
 use Rattle.triplicate.specs.declared.taps.Taps.{Taps}
 use Rattle.triplicate.specs.Voting.{needs_voter}
-use Rattle.triplicate.specs.Private.Noted.{is_in, needs, members, IsNoting}
-use Rattle.triplicate.specs.Private.Numbers.{voter_rank}
-use Rattle.triplicate.specs.Private.Taps.{tap_of, tap_start, HasPlaces, IsTapped}
+use Rattle.triplicate.specs.Private.Noted.{is_in, members, IsNoting}
+use Rattle.triplicate.specs.Starts.{needs}
+use Rattle.triplicate.specs.Numbers.{voter_rank}
+use Rattle.triplicate.specs.Taps.{tap_of, IsTapped}
+use Rattle.triplicate.specs.Private.Places.{tap_start, HasPlaces}
 use Rattle.triplicate.proofs.Lists.{passing_at}
 use Rattle.triplicate.proofs.PinSums.{starts_apart}
 

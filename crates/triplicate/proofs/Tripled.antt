@@ -18,11 +18,11 @@ use Rattle.certificate.specs.declared.role.Role.{Role}
 use Rattle.certificate.specs.declared.role.Role.TheVariants.{Copy, Voter}
 use Rattle.certificate.specs.Cert.{role_of, part_of, copy_of, label_of, three_or_input}
 use Rattle.feedback_cut.specs.Inner.{node_pins}
-use Rattle.triplicate.specs.Private.Labels.{Labeling}
+use Rattle.triplicate.specs.Labels.{Labeling}
 use Rattle.triplicate.specs.Voting.{ReadsNet, votes_for, needs_voter}
 use Rattle.triplicate.specs.Blocks.{hardened_roles, hardened_inputs}
-use Rattle.triplicate.specs.Private.Numbers.{copy_net, voter_net}
-use Rattle.triplicate.specs.Private.Construction.{role_node, hardened_net, hardened_cert, three_copies, three_labels}
+use Rattle.triplicate.specs.Numbers.{copy_net, voter_net}
+use Rattle.triplicate.specs.Construction.{role_node, hardened_net, hardened_cert, three_copies, three_labels}
 use Rattle.triplicate.proofs.Lists.{length-threes, copy_number_few}
 use Rattle.triplicate.proofs.Numbering.{copy_net_input, copy_role, voter_role, number_of_role, HasNumber}
 

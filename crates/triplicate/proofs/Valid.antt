@@ -20,13 +20,13 @@ use Rattle.certificate.specs.declared.role.Role.{Role}
 use Rattle.certificate.specs.declared.role.Role.TheVariants.{Copy, Voter}
 use Rattle.certificate.specs.Cert.{role_of}
 use Rattle.feedback_cut.specs.Inner.{node_pins}
-use Rattle.triplicate.specs.Private.Labels.{Labeling}
+use Rattle.triplicate.specs.Labels.{Labeling}
 use Rattle.triplicate.specs.Voting.{ReadsNet}
 use Rattle.triplicate.specs.Blocks.{threefold, hardened_roles, hardened_clock}
 use Rattle.triplicate.specs.Form.{majority_cover}
-use Rattle.triplicate.specs.Private.Numbers.{copy_net, voter_net}
-use Rattle.triplicate.specs.Private.Construction.{pin_net, node_copy, role_node, hardened_net, hardened_cert}
-use Rattle.triplicate.specs.Private.Given.{IsGiven}
+use Rattle.triplicate.specs.Numbers.{copy_net, voter_net}
+use Rattle.triplicate.specs.Construction.{pin_net, node_copy, role_node, hardened_net, hardened_cert}
+use Rattle.triplicate.specs.Given.{IsGiven}
 use Rattle.triplicate.proofs.Lists.{copy_number_few, same_copy, length-threes, threes_at, in_threes}
 use Rattle.triplicate.proofs.Numbering.{HasNumber, copy_net_input, copy_net_node, start_behind}
 use Rattle.triplicate.proofs.Tripled.{node_of_role, number_of, role_of_copy, length-hardened_inputs}

@@ -14,7 +14,8 @@ use Rattle.tmr_base.specs.Parts.{PlainParts}
 use Rattle.flat_net.specs.Net.{Net, Node, Table, Register, net_count, node_of, pins_at, IsValid}
 use Rattle.feedback_cut.specs.Inner.{node_pins}
 use Rattle.triplicate.specs.Voting.{votes_for, needs_voter}
-use Rattle.triplicate.specs.Private.Noted.{is_in, needs, pin_noted, pins_noted, nodes_noted, members, parts_noted}
+use Rattle.triplicate.specs.Private.Noted.{is_in, pin_noted, pins_noted, nodes_noted, members, parts_noted}
+use Rattle.triplicate.specs.Starts.{needs}
 
 -- ---- lengths
 

@@ -11,7 +11,7 @@ use Rattle.recovery_depth.proofs.Alike.{depths_alike}
 use Rattle.triplicate.specs.declared.form.Form.{Form}
 use Rattle.triplicate.specs.Choices.{IsCutOf}
 use Rattle.triplicate.specs.Voting.{ReadsNet, VotesFor}
-use Rattle.triplicate.specs.Private.Pins.{PlainVotes, read_is_voted, pin_is_voted}
+use Rattle.triplicate.specs.Pins.{PlainVotes, read_is_voted, pin_is_voted}
 
 read_input : (n : Net) (parts : PlainParts) (inputs : Bool) (y : ℕ) (c : Bool) (x : ℕ) → x < length n.inputs → read_is_voted n parts inputs y c x ≡ inputs
 read_input n parts inputs y c x h = grind (arith, nat_tests)

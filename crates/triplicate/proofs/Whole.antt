@@ -9,12 +9,11 @@ use Rattle.certificate.proofs.Unmarked.{without_marks}
 use Rattle.recovery_depth.specs.Extra.{PlainExtra, is_extra, AreExtra}
 use Rattle.flat_net.specs.Free.{FreeDesign}
 use Rattle.partitioner.specs.Cost.{cost}
-use Rattle.triplicate.specs.Private.Labels.{Labeling, labeling}
+use Rattle.triplicate.specs.Labels.{Labeling, labeling}
 use Rattle.triplicate.specs.declared.hardened.Hardened.{Hardened}
 use Rattle.triplicate.specs.declared.hardened.HardenedFree.{HardenedFree}
 use Rattle.triplicate.specs.Blocks.{hardened_roles}
-use Rattle.triplicate.specs.Result.{IsHardened, IsFreeHardened, IsBounded, is_voter_role}
-use Rattle.triplicate.proofs.Sizes.{roles_counted}
+use Rattle.triplicate.specs.Result.{IsHardenedPair, IsFreeHardenedPair, IsBoundedPair, is_voter_role}
 use Rattle.tmr_base.specs.Parts.{PlainParts}
 use Rattle.flat_net.specs.Net.{Net}
 use Rattle.partitioner.specs.Refining.{IsMinimal}
@@ -22,11 +21,11 @@ use Rattle.triplicate.specs.declared.form.Form.{Form}
 use Rattle.triplicate.specs.declared.form.Form.TheVariants.{Plain}
 use Rattle.triplicate.specs.Choices.{ArePartsOf}
 use Rattle.triplicate.specs.Voting.{none_extra}
-use Rattle.triplicate.specs.Private.Pins.{pin_is_voted}
-use Rattle.triplicate.specs.Private.Built.{IsBuilt}
+use Rattle.triplicate.specs.declared.planning.Plan.{Plan}
+use Rattle.triplicate.specs.Planned.{IsPlan, IsMadeOf, plan_votes}
 use Rattle.triplicate.specs.Form.{version_of, HasForm, BoundedForm, parts_of}
-use Rattle.triplicate.specs.Private.Construction.{role_node, hardened_net, hardened_cert}
-use Rattle.triplicate.specs.Private.Given.{IsGiven}
+use Rattle.triplicate.specs.Construction.{role_node, hardened_net, hardened_cert}
+use Rattle.triplicate.specs.Given.{IsGiven}
 use Rattle.triplicate.proofs.Corresponding.{corresponds}
 use Rattle.triplicate.proofs.Formed.{same_parts, is_tripled, votes_as_needed, cut_needed}
 use Rattle.triplicate.proofs.Labeled.{least_labels}
@@ -96,39 +95,37 @@ module _ (n : Net) (size : ℕ) (parts : PlainParts) (voted : ℕ → ℕ → Bo
   counted_cut f = cut_needed n parts voted t is
 
 -- what is told of a pair beside its form
-module _ (kind : Form) (n : Net) (size : ℕ) (inputs : Bool) (most : ℕ) (r : Hardened) (b : IsBuilt kind n size inputs most r) where
-  own : parts_of r.cert ≡ b.parts
-  own = ap parts_of b.cert ∙ same_parts n b.parts (pin_is_voted n b.parts b.votes) (labeling b.votes.inputs b.table) b.given
+module _ (kind : Form) (n : Net) (size : ℕ) (inputs : Bool) (most : ℕ) (plan : Plan) (r : Hardened) (b : IsPlan kind n size inputs most plan) (m : IsMadeOf n plan r) where
+  own : parts_of r.cert ≡ plan.parts
+  own = ap parts_of m.cert ∙ same_parts n plan.parts (plan_votes n plan) (labeling plan.inputs plan.extra.table) b.given
 
   pub pairs_are : r.cost ≡ cost n (parts_of r.cert)
-  pairs_are = b.pairs ∙ ap (cost n) (sym own)
+  pairs_are = m.cost ∙ (b.pairs ∙ ap (cost n) (sym own))
 
   pub minimal_is : IsTrue r.minimal ↔ IsMinimal n size (parts_of r.cert)
-  minimal_is = subst (λ (p : PlainParts). IsTrue r.minimal ↔ IsMinimal n size p) (sym own) b.minimal
+  minimal_is = subst (λ (p : PlainParts). IsTrue r.minimal ↔ IsMinimal n size p) (sym own) (subst (λ (v : Bool). IsTrue v ↔ IsMinimal n size plan.parts) (sym m.minimal) b.minimal)
 
   pub voters_are : r.voters ≡ count_by is_voter_role r.cert.roles
-  voters_are =
-      let counted : count_by is_voter_role r.cert.roles ≡ count_by is_voter_role (hardened_roles n b.parts (pin_is_voted n b.parts b.votes)) = ap (λ (k : PlainCert). count_by is_voter_role k.roles) b.cert ∙ cert_roles n b.parts (pin_is_voted n b.parts b.votes) (labeling b.votes.inputs b.table) in
-      omega (arith, b.voters, nodes_long n b.parts (pin_is_voted n b.parts b.votes), roles_counted n b.parts (pin_is_voted n b.parts b.votes), counted)
+  voters_are = m.voters ∙ sym (ap (λ (k : PlainCert). count_by is_voter_role k.roles) m.cert ∙ cert_roles n plan.parts (plan_votes n plan) (labeling plan.inputs plan.extra.table))
 
 -- the answer of hardening to version 1
-pub hardened_is : (n : Net) (size most : ℕ) (r : Hardened) → length n.nodes < most → IsBuilt Plain n size false most r → IsHardened n size r
-hardened_is n size most r few b = record {
-  form = subst (λ (h : Net). HasForm Plain n [] size h [] r.cert false none_extra) (sym b.net) (subst (λ (k : PlainCert). HasForm Plain n [] size (hardened_net n b.parts (pin_is_voted n b.parts b.votes)) [] k false none_extra) (sym b.cert) made);
-  pairs = pairs_are Plain n size false most r b;
-  plain_pairs = b.plain_pairs;
-  minimal = minimal_is Plain n size false most r b;
-  voters = voters_are Plain n size false most r b;
+pub hardened_is : (n : Net) (size most : ℕ) (plan : Plan) (r : Hardened) → length n.nodes < most → IsPlan Plain n size false most plan → IsMadeOf n plan r → IsHardenedPair n size r
+hardened_is n size most plan r few b m = record {
+  form = subst (λ (h : Net). HasForm Plain n [] size h [] r.cert false none_extra) (sym m.net) (subst (λ (k : PlainCert). HasForm Plain n [] size (hardened_net n plan.parts (plan_votes n plan)) [] k false none_extra) (sym m.cert) made);
+  pairs = pairs_are Plain n size false most plan r b m;
+  plain_pairs = m.plain ∙ b.plain_pairs;
+  minimal = minimal_is Plain n size false most plan r b m;
+  voters = voters_are Plain n size false most plan r b m;
 }
   where
     none : b.given.extra ≡ none_extra
     none = b.extra_is ∙ (λ i y j. b.none few y j i)
 
-    made : HasForm Plain n [] size (hardened_net n b.parts (pin_is_voted n b.parts b.votes)) [] (hardened_cert n b.parts (pin_is_voted n b.parts b.votes) (labeling b.votes.inputs b.table)) false none_extra
-    made = subst (λ (inputs : Bool). HasForm Plain n [] size (hardened_net n b.parts (pin_is_voted n b.parts b.votes)) [] (hardened_cert n b.parts (pin_is_voted n b.parts b.votes) (labeling b.votes.inputs b.table)) inputs none_extra) b.inputs_are
-        (subst (λ (x : ℕ → ℕ → Bool). HasForm Plain n [] size (hardened_net n b.parts (pin_is_voted n b.parts b.votes)) [] (hardened_cert n b.parts (pin_is_voted n b.parts b.votes) (labeling b.votes.inputs b.table)) b.votes.inputs x) none
-        (subst (λ (kind : Form). HasForm kind n [] size (hardened_net n b.parts (pin_is_voted n b.parts b.votes)) [] (hardened_cert n b.parts (pin_is_voted n b.parts b.votes) (labeling b.votes.inputs b.table)) b.votes.inputs b.given.extra) b.kind_is
-        (plain_form n size b.parts (pin_is_voted n b.parts b.votes) (labeling b.votes.inputs b.table) b.given (subst (λ (kind : Form). ArePartsOf kind n size b.parts) (sym b.kind_is) b.exact))))
+    made : HasForm Plain n [] size (hardened_net n plan.parts (plan_votes n plan)) [] (hardened_cert n plan.parts (plan_votes n plan) (labeling plan.inputs plan.extra.table)) false none_extra
+    made = subst (λ (inputs : Bool). HasForm Plain n [] size (hardened_net n plan.parts (plan_votes n plan)) [] (hardened_cert n plan.parts (plan_votes n plan) (labeling plan.inputs plan.extra.table)) inputs none_extra) b.inputs_are
+        (subst (λ (x : ℕ → ℕ → Bool). HasForm Plain n [] size (hardened_net n plan.parts (plan_votes n plan)) [] (hardened_cert n plan.parts (plan_votes n plan) (labeling plan.inputs plan.extra.table)) plan.inputs x) none
+        (subst (λ (kind : Form). HasForm kind n [] size (hardened_net n plan.parts (plan_votes n plan)) [] (hardened_cert n plan.parts (plan_votes n plan) (labeling plan.inputs plan.extra.table)) plan.inputs b.given.extra) b.kind_is
+        (plain_form n size plan.parts (plan_votes n plan) (labeling plan.inputs plan.extra.table) b.given (subst (λ (kind : Form). ArePartsOf kind n size plan.parts) (sym b.kind_is) b.exact))))
 
 -- the form with its cut and its extra pins
 pub record FormWith (kind : Form) (n : Net) (f : List Bool) (size most : ℕ) (h : Net) (g : List Bool) (k : PlainCert) (inputs : Bool) (x : ℕ → ℕ → Bool) (e : PlainExtra) : Type 0 where
@@ -136,56 +133,56 @@ pub record FormWith (kind : Form) (n : Net) (f : List Bool) (size most : ℕ) (h
   pub bound : AreExtra n (parts_of k) form.voted.cut most e
 
 -- the answer of hardening to either version, with a bound
-pub bounded_is : (kind : Form) (n : FreeDesign) (size version most : ℕ) (r : Hardened) (f : HardenedFree) → (version ≡ 1) ⊎ (version ≡ 2) → IsBuilt kind n.design.net size (nat_eq version 2) most r → f.net.design.net ≡ r.net.net → f.cert ≡ r.cert → f.net.free ≡ spread_start r.cert (counted r.cert n.free) →
-    f.cost ≡ r.cost → f.plain ≡ r.plain → f.minimal ≡ r.minimal → f.voters ≡ r.voters → IsBounded kind n size version most f
-bounded_is kind n size version most r f known b net cert marks pairs plain minimal voters = record {
-  form = subst (λ (h : Net). BoundedForm kind n.design.net n.free size version most h f.net.free f.cert) (sym (net ∙ b.net)) (subst (λ (k : PlainCert). BoundedForm kind n.design.net n.free size version most h f.net.free k) (sym (cert ∙ b.cert)) made);
-  unbounded = λ few. subst (λ (h : Net). HasForm kind n.design.net (counted f.cert n.free) size h (counted f.cert f.net.free) f.cert (nat_eq version 2) none_extra) (sym (net ∙ b.net)) (subst (λ (c : PlainCert). HasForm kind n.design.net (counted c n.free) size h (counted c f.net.free) c (nat_eq version 2) none_extra) (sym (cert ∙ b.cert)) (none_added few));
-  pairs = pairs ∙ (pairs_are kind n.design.net size (nat_eq version 2) most r b ∙ ap (λ (k : PlainCert). cost n.design.net (parts_of k)) (sym cert));
-  plain_pairs = plain ∙ b.plain_pairs;
-  minimal = subst (λ (m : Bool). IsTrue m ↔ IsMinimal n.design.net size (parts_of f.cert)) (sym minimal) (subst (λ (k : PlainCert). IsTrue r.minimal ↔ IsMinimal n.design.net size (parts_of k)) (sym cert) (minimal_is kind n.design.net size (nat_eq version 2) most r b));
-  voters = voters ∙ (voters_are kind n.design.net size (nat_eq version 2) most r b ∙ ap (λ (k : PlainCert). count_by is_voter_role k.roles) (sym cert));
+pub bounded_is : (kind : Form) (n : FreeDesign) (size version most : ℕ) (plan : Plan) (r : Hardened) (f : HardenedFree) → (version ≡ 1) ⊎ (version ≡ 2) → IsPlan kind n.design.net size (nat_eq version 2) most plan → IsMadeOf n.design.net plan r → f.net.design.net ≡ r.net.net → f.cert ≡ r.cert → f.net.free ≡ spread_start r.cert (counted r.cert n.free) →
+    f.cost ≡ r.cost → f.plain ≡ r.plain → f.minimal ≡ r.minimal → f.voters ≡ r.voters → IsBoundedPair kind n size version most f
+bounded_is kind n size version most plan r f known b m net cert marks pairs plain minimal voters = record {
+  form = subst (λ (h : Net). BoundedForm kind n.design.net n.free size version most h f.net.free f.cert) (sym (net ∙ m.net)) (subst (λ (k : PlainCert). BoundedForm kind n.design.net n.free size version most h f.net.free k) (sym (cert ∙ m.cert)) made);
+  unbounded = λ few. subst (λ (h : Net). HasForm kind n.design.net (counted f.cert n.free) size h (counted f.cert f.net.free) f.cert (nat_eq version 2) none_extra) (sym (net ∙ m.net)) (subst (λ (c : PlainCert). HasForm kind n.design.net (counted c n.free) size h (counted c f.net.free) c (nat_eq version 2) none_extra) (sym (cert ∙ m.cert)) (none_added few));
+  pairs = pairs ∙ (pairs_are kind n.design.net size (nat_eq version 2) most plan r b m ∙ ap (λ (k : PlainCert). cost n.design.net (parts_of k)) (sym cert));
+  plain_pairs = plain ∙ (m.plain ∙ b.plain_pairs);
+  minimal = subst (λ (v : Bool). IsTrue v ↔ IsMinimal n.design.net size (parts_of f.cert)) (sym minimal) (subst (λ (k : PlainCert). IsTrue r.minimal ↔ IsMinimal n.design.net size (parts_of k)) (sym cert) (minimal_is kind n.design.net size (nat_eq version 2) most plan r b m));
+  voters = voters ∙ (voters_are kind n.design.net size (nat_eq version 2) most plan r b m ∙ ap (λ (k : PlainCert). count_by is_voter_role k.roles) (sym cert));
 }
   where
     voted : ℕ → ℕ → Bool
-    voted = pin_is_voted n.design.net b.parts b.votes
+    voted = plan_votes n.design.net plan
 
     t : Labeling
-    t = labeling b.votes.inputs b.table
+    t = labeling plan.inputs plan.extra.table
 
     h : Net
-    h = hardened_net n.design.net b.parts (pin_is_voted n.design.net b.parts b.votes)
+    h = hardened_net n.design.net plan.parts (plan_votes n.design.net plan)
 
     k : PlainCert
-    k = hardened_cert n.design.net b.parts (pin_is_voted n.design.net b.parts b.votes) (labeling b.votes.inputs b.table)
+    k = hardened_cert n.design.net plan.parts (plan_votes n.design.net plan) (labeling plan.inputs plan.extra.table)
 
     extra : PlainExtra
-    extra = record { marks = b.votes.marks; table = b.table }
+    extra = plan.extra
 
-    exact : ArePartsOf b.given.kind n.design.net size b.parts
-    exact = subst (λ (k : Form). ArePartsOf k n.design.net size b.parts) (sym b.kind_is) b.exact
+    exact : ArePartsOf b.given.kind n.design.net size plan.parts
+    exact = subst (λ (k : Form). ArePartsOf k n.design.net size plan.parts) (sym b.kind_is) b.exact
 
     with_cut : FormWith b.given.kind n.design.net (counted k n.free) size most h (counted k (spread_start k (counted k n.free))) k t.inputs b.given.extra extra
     with_cut = record {
-      form = counted_form n.design.net size b.parts voted t b.given exact n.free;
-      bound = subst (λ (p : PlainParts). AreExtra n.design.net p (counted_form n.design.net size b.parts voted t b.given exact n.free).voted.cut most extra) (sym (same_parts n.design.net b.parts voted t b.given)) (subst (λ (c : List (List Bool)). AreExtra n.design.net b.parts c most extra) (sym (counted_cut n.design.net size b.parts voted t b.given exact n.free ∙ b.cut_is)) b.bound);
+      form = counted_form n.design.net size plan.parts voted t b.given exact n.free;
+      bound = subst (λ (p : PlainParts). AreExtra n.design.net p (counted_form n.design.net size plan.parts voted t b.given exact n.free).voted.cut most extra) (sym (same_parts n.design.net plan.parts voted t b.given)) (subst (λ (c : List (List Bool)). AreExtra n.design.net plan.parts c most extra) (sym (counted_cut n.design.net size plan.parts voted t b.given exact n.free ∙ b.cut_is)) b.bound);
     }
 
-    last : FormWith kind n.design.net (counted k n.free) size most h (counted k (spread_start k (counted k n.free))) k (nat_eq version 2) (is_extra b.votes.marks) extra
-    last = subst (λ (inputs : Bool). FormWith kind n.design.net (counted k n.free) size most h (counted k (spread_start k (counted k n.free))) k inputs (is_extra b.votes.marks) extra) b.inputs_are
+    last : FormWith kind n.design.net (counted k n.free) size most h (counted k (spread_start k (counted k n.free))) k (nat_eq version 2) (is_extra plan.extra.marks) extra
+    last = subst (λ (inputs : Bool). FormWith kind n.design.net (counted k n.free) size most h (counted k (spread_start k (counted k n.free))) k inputs (is_extra plan.extra.marks) extra) b.inputs_are
         (subst (λ (x : ℕ → ℕ → Bool). FormWith kind n.design.net (counted k n.free) size most h (counted k (spread_start k (counted k n.free))) k t.inputs x extra) b.extra_is
         (subst (λ (f : Form). FormWith f n.design.net (counted k n.free) size most h (counted k (spread_start k (counted k n.free))) k t.inputs b.given.extra extra) b.kind_is with_cut))
 
     marks_are : spread_start k (counted k n.free) ≡ f.net.free
-    marks_are = ap (λ (c : PlainCert). spread_start c (counted c n.free)) (sym b.cert) ∙ sym marks
+    marks_are = ap (λ (c : PlainCert). spread_start c (counted c n.free)) (sym m.cert) ∙ sym marks
 
     made : BoundedForm kind n.design.net n.free size version most h f.net.free k
     made = subst (λ (g : List Bool). BoundedForm kind n.design.net n.free size version most h g k) marks_are (record {
-      has_version = cert_version n.design.net b.parts voted t ∙ (ap version_of b.inputs_are ∙ version_is version known);
+      has_version = cert_version n.design.net plan.parts voted t ∙ (ap version_of b.inputs_are ∙ version_is version known);
       extra = extra;
       form = last.form;
       bound = last.bound;
-      within = cert_within n.design.net b.parts voted t b.votes.cut most extra refl b.bound;
+      within = cert_within n.design.net plan.parts voted t plan.cut most extra refl b.bound;
       marks = refl;
     })
 
@@ -195,7 +192,7 @@ bounded_is kind n size version most r f known b net cert marks pairs plain minim
         (subst (λ (x : ℕ → ℕ → Bool). HasForm kind n.design.net (counted k n.free) size h (counted k (spread_start k (counted k n.free))) k (nat_eq version 2) x) (λ i y j. b.none few y j i) last.form)
 
 -- the answer of hardening to version 2
-pub free_hardened_is : (n : FreeDesign) (size most : ℕ) (r : HardenedFree) → length n.design.net.nodes < most → IsBounded Plain n size 2 most r → IsFreeHardened n size r
+pub free_hardened_is : (n : FreeDesign) (size most : ℕ) (r : HardenedFree) → length n.design.net.nodes < most → IsBoundedPair Plain n size 2 most r → IsFreeHardenedPair n size r
 free_hardened_is n size most r few b = record {
   form = record {
     form = subst (λ (g : List Bool). HasForm Plain n.design.net n.free size r.net.design.net g r.cert true none_extra) (counted_all r.cert r.net.free b.form.has_version)

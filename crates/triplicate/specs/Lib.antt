@@ -3,5 +3,12 @@ pub mod Voting
 pub mod Blocks
 pub mod Form
 pub mod Result
-pub mod Private
+pub mod Pins
+pub mod Numbers
+pub mod Construction
+pub mod Labels
+pub mod Given
+pub mod Starts
+pub mod Taps
 pub mod Planned
+pub mod Private

@@ -1,11 +1,4 @@
-pub mod Numbers
-pub mod Construction
-pub mod Pins
-pub mod Labels
-pub mod Given
+-- What private functions alone cite.
 pub mod Noted
-pub mod Starts
-pub mod Taps
-pub mod Made
-pub mod Built
+pub mod Places
 pub mod Chosen

@@ -18,7 +18,7 @@ is_voter_role r = is_voter (Some r)
 
 -- a pair in the hardened form, and beside it the cost of its partitions, that of the plain cut, whether no single move
 -- lowers the cost, and how many voters there are
-pub record IsHardened (n : Net) (size : ℕ) (r : Hardened) : Type 0 where
+pub record IsHardenedPair (n : Net) (size : ℕ) (r : Hardened) : Type 0 where
   pub form : HardenedForm n size r.net.net r.cert
   pub pairs : r.cost ≡ cost n (parts_of r.cert)
   pub plain_pairs : r.plain ≡ cost n (plain_parts n size)
@@ -26,7 +26,7 @@ pub record IsHardened (n : Net) (size : ℕ) (r : Hardened) : Type 0 where
   pub voters : r.voters ≡ count_by is_voter_role r.cert.roles
 
 -- the same in version 2
-pub record IsFreeHardened (n : FreeDesign) (size : ℕ) (r : HardenedFree) : Type 0 where
+pub record IsFreeHardenedPair (n : FreeDesign) (size : ℕ) (r : HardenedFree) : Type 0 where
   pub form : FreeHardenedForm n.design.net n.free size r.net.design.net r.net.free r.cert
   pub pairs : r.cost ≡ cost n.design.net (parts_of r.cert)
   pub plain_pairs : r.plain ≡ cost n.design.net (plain_parts n.design.net size)
@@ -34,7 +34,7 @@ pub record IsFreeHardened (n : FreeDesign) (size : ℕ) (r : HardenedFree) : Typ
   pub voters : r.voters ≡ count_by is_voter_role r.cert.roles
 
 -- the same of either form and in either version, with no depth above `most`; a bound above the number of nodes adds no voters
-pub record IsBounded (kind : Form) (n : FreeDesign) (size version most : ℕ) (r : HardenedFree) : Type 0 where
+pub record IsBoundedPair (kind : Form) (n : FreeDesign) (size version most : ℕ) (r : HardenedFree) : Type 0 where
   pub form : BoundedForm kind n.design.net n.free size version most r.net.design.net r.net.free r.cert
   pub unbounded : length n.design.net.nodes < most →
       HasForm kind n.design.net (counted r.cert n.free) size r.net.design.net (counted r.cert r.net.free) r.cert (nat_eq version 2) none_extra

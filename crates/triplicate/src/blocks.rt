@@ -1,10 +1,10 @@
 //! Where in the hardened design each net's copies and voters stand.
 ghost use Rattle.std.specs.Prelude.{◌≡◌, ◌+◌, ◌*◌, ◌<◌, length, IfOk};
 ghost use Rattle.flat_net.specs.Net.{net_count};
-ghost use Rattle.triplicate.specs.Private.Pins.{pin_is_voted};
+ghost use Rattle.triplicate.specs.Pins.{pin_is_voted};
 ghost use Rattle.triplicate.specs.Blocks.{copies_of, hardened_roles};
-ghost use Rattle.triplicate.specs.Private.Starts.{AreVoterRows, AreStarts};
-ghost use Rattle.triplicate.specs.Private.Numbers.{block_start, HasFewNets};
+ghost use Rattle.triplicate.specs.Starts.{AreVoterRows, AreStarts};
+ghost use Rattle.triplicate.specs.Numbers.{block_start, HasFewNets};
 
 use crate::voting::VotedPins;
 use flat_net::{FlatNet, nodes_of};
@@ -76,12 +76,4 @@ pub fn hardened_nets(n: &FlatNet, parts: &Parts, votes: &VotedPins, voters: &Gra
         next = next_start(n, parts, votes, voters, x, next);
     }
     next
-}
-
-/// How many hardened nets there are, for which room is made at once: the number behind all.
-pub fn room_of(starts: &[u32]) -> u32 {
-    match starts.last() {
-        Some(end) => *end,
-        None => 0,
-    }
 }

@@ -1,30 +1,22 @@
-//! Hardening: a design made threefold, with voters where upsets would spread, and its certificate.
+//! The plan of hardening: what a hardened design is made of, from which it and its certificate follow.
 //!
-//! The layers above may rely on this: `harden` answers a pair in the hardened form, or want of memory;
-//! `harden_free` does so with a certificate of version 2, and `harden_deep` in either version with a bound on depths.
-//! `harden_form` does so for the lean form too, whose partitions cost no more and whose cut is that at registers.
+//! The layers above may rely on this: `make_plan` answers a plan of the form, version and bound that are wanted, or want of memory; and the
+//! pair that a plan stands for has the hardened form. `hardened_text` writes the texts of that pair, and `hardened_pair` makes it in memory.
 #![tactic(auto)]
 
-mod assembling;
 mod blocks;
-mod certifying;
 mod choosing;
+mod depths;
 mod form;
 mod hardened;
-mod hardening;
-mod marking;
-mod naming;
-mod ordering;
-mod pins;
 mod planning;
 mod taps;
-mod tripling;
 mod voters;
 mod voting;
 
+pub use blocks::copies;
 pub use form::Form;
 pub use hardened::{Hardened, HardenedFree};
-pub use hardening::{harden, harden_deep, harden_form, harden_free};
 pub use planning::{Plan, make_plan};
-pub use taps::Taps;
+pub use taps::{Taps, tap};
 pub use voting::VotedPins;

@@ -3,14 +3,14 @@ ghost use Rattle.std.specs.Prelude.{◌≡◌, ◌+◌, ◌*◌, ◌<◌, ◌≤
 ghost use Rattle.flat_net.specs.Net.{net_count, pin_total};
 ghost use Rattle.feedback_cut.specs.Inner.{node_pins};
 ghost use Rattle.triplicate.specs.Blocks.{hardened_roles};
-ghost use Rattle.triplicate.specs.Planned.{IsPlan, votes_in, voted_in};
-ghost use Rattle.triplicate.specs.Private.Numbers.{HasFewNets};
-ghost use Rattle.triplicate.specs.Private.Starts.{AreVoterRows};
-ghost use Rattle.triplicate.specs.Private.Taps.{AreTaps};
+ghost use Rattle.triplicate.specs.Planned.{IsPlan, votes_in, plan_votes};
+ghost use Rattle.triplicate.specs.Numbers.{HasFewNets};
+ghost use Rattle.triplicate.specs.Starts.{AreVoterRows, AreStarts};
+ghost use Rattle.triplicate.specs.Taps.{AreTaps};
 
-use crate::blocks::hardened_nets;
-use crate::certifying::depths_of;
+use crate::blocks::{block_starts, hardened_nets};
 use crate::choosing::{cut_of, partitions};
+use crate::depths::depths_of;
 use crate::form::Form;
 use crate::taps::{Taps, tap};
 use crate::voters::voting_parts;
@@ -59,10 +59,10 @@ impl Plan {
 
     /// Whether pin j of node y is voted: whether it reads a voter. Nodes and pins are counted from 0.
     pub fn is_voted(&self, n: &FlatNet, y: u32, j: u32) -> bool
-        requires taps { AreTaps n.now.net self.now.parts (voted_in n.now.net self.now) self.now.taps }
+        requires taps { AreTaps n.now.net self.now.parts (plan_votes n.now.net self.now) self.now.taps }
         requires node { y < length n.now.net.nodes }
         requires pin { j < length (node_pins n.now.net y) }
-        ensures { result ≡ voted_in n.now.net self.now y j }
+        ensures { result ≡ plan_votes n.now.net self.now y j }
     {
         let _nodes = nodes_of(n);
         tap(&self.taps, y, j) != 0
@@ -79,11 +79,20 @@ impl Plan {
 
     /// How many nets the hardened design has.
     pub fn nets(&self, n: &FlatNet) -> u32
-        requires voters { AreVoterRows n.now.net self.now.parts (voted_in n.now.net self.now) self.now.voters }
-        requires few { HasFewNets n.now.net self.now.parts (voted_in n.now.net self.now) }
-        ensures { result ≡ 3 * length n.now.net.inputs + length (hardened_roles n.now.net self.now.parts (voted_in n.now.net self.now)) }
+        requires voters { AreVoterRows n.now.net self.now.parts (plan_votes n.now.net self.now) self.now.voters }
+        requires few { HasFewNets n.now.net self.now.parts (plan_votes n.now.net self.now) }
+        ensures { result ≡ 3 * length n.now.net.inputs + length (hardened_roles n.now.net self.now.parts (plan_votes n.now.net self.now)) }
     {
         hardened_nets(n, &self.parts, &self.votes(), &self.voters)
+    }
+
+    /// For each net the number of the first hardened node that stands for it, and last the number behind all.
+    pub fn starts(&self, alloc: Global, n: &FlatNet) -> Result<Vec<u32>, OutOfMemory>
+        requires voters { AreVoterRows n.now.net self.now.parts (plan_votes n.now.net self.now) self.now.voters }
+        requires few { HasFewNets n.now.net self.now.parts (plan_votes n.now.net self.now) }
+        ensures { IfOk result (λ starts. AreStarts n.now.net self.now.parts (plan_votes n.now.net self.now) starts.items) }
+    {
+        block_starts(alloc, n, &self.parts, &self.votes(), &self.voters)
     }
 }
 

@@ -1,6 +1,7 @@
 //! Which voter each pin reads.
 ghost use Rattle.std.specs.Prelude.{◌≡◌, ◌+◌, ◌<◌, length, slice_index, IfOk};
-ghost use Rattle.triplicate.specs.Private.Taps.{tap_in, HasPlaces};
+ghost use Rattle.triplicate.specs.Taps.{tap_in};
+ghost use Rattle.triplicate.specs.Private.Places.{HasPlaces};
 
 use flat_net::{FlatNet, nodes_of};
 use std::alloc::Global;

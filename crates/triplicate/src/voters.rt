@@ -4,9 +4,11 @@ ghost use Rattle.tmr_base.specs.Parts.{AreParts};
 ghost use Rattle.flat_net.specs.Net.{net_count};
 ghost use Rattle.feedback_cut.specs.Inner.{node_pins};
 ghost use Rattle.node_reads.specs.Noting.{Lists};
-ghost use Rattle.triplicate.specs.Private.Pins.{pin_is_voted, AreVotesOf};
-ghost use Rattle.triplicate.specs.Private.Noted.{is_in, needs, pin_noted, pins_noted, nodes_noted, parts_noted, IsNoting};
-ghost use Rattle.triplicate.specs.Private.Taps.{tap_of, HasPlaces, IsTapped, AreTaps};
+ghost use Rattle.triplicate.specs.Pins.{pin_is_voted, AreVotesOf};
+ghost use Rattle.triplicate.specs.Private.Noted.{is_in, pin_noted, pins_noted, nodes_noted, parts_noted, IsNoting};
+ghost use Rattle.triplicate.specs.Starts.{needs};
+ghost use Rattle.triplicate.specs.Taps.{tap_of, IsTapped, AreTaps};
+ghost use Rattle.triplicate.specs.Private.Places.{HasPlaces};
 
 use crate::taps::{Taps, no_taps};
 use crate::voting::{VotedPins, is_voted};

@@ -3,7 +3,7 @@ ghost use Rattle.std.specs.Prelude.{◌≡◌, ◌<◌, ℕ, length};
 ghost use Rattle.graph.specs.Rows.{row};
 ghost use Rattle.feedback_cut.specs.Inner.{node_pins};
 ghost use Rattle.recovery_depth.specs.Extra.{is_cut_or_extra};
-ghost use Rattle.triplicate.specs.Private.Pins.{pin_is_voted, AreVotesOf};
+ghost use Rattle.triplicate.specs.Pins.{pin_is_voted, AreVotesOf};
 
 use feedback_cut::CutPins;
 use flat_net::{FlatNet, nodes_of};
@@ -20,7 +20,7 @@ pub struct VotedPins<'a> {
 }
 
 impl<'a> Model for VotedPins<'a> {
-    ghost use Rattle.triplicate.specs.Private.Pins.{PlainVotes};
+    ghost use Rattle.triplicate.specs.Pins.{PlainVotes};
 
     ghost Value = { PlainVotes };
 

@@ -3,8 +3,8 @@ use Rattle.std.specs.Prelude.{◌≡◌, ℕ, ◌+◌, ◌*◌, ◌-◌, ◌==�
 use Rattle.flat_net.specs.Net.{Net, Node, Table, Register, net_count, node_of, IsTable, IsRegister}
 use Rattle.feedback_cut.specs.Inner.{node_pins}
 use Rattle.partitioner.specs.Below.{one_if}
-use Rattle.triplicate.specs.Planned.{voted_in}
-use Rattle.triplicate.specs.Private.Taps.{AreTaps}
+use Rattle.triplicate.specs.Planned.{plan_votes}
+use Rattle.triplicate.specs.Taps.{AreTaps}
 use Rattle.sweep.specs.declared.votes.Votes.{Votes}
 use Rattle.sweep.specs.declared.votes.Votes.TheVariants.{Absent, Planned}
 use Rattle.sweep.specs.Levels.{IsStart}
@@ -12,12 +12,12 @@ use Rattle.sweep.specs.Levels.{IsStart}
 -- pin j of node y is voted
 abbrev pub voted_by : Net → Votes → ℕ → ℕ → Bool
 voted_by n Absent = λ y j. false
-voted_by n (Planned p) = voted_in n p.now
+voted_by n (Planned p) = plan_votes n p.now
 
 -- which voter each pin reads is noted
 abbrev pub HasTaps : Net → Votes → Type 0
 HasTaps n Absent = Unit {0}
-HasTaps n (Planned p) = AreTaps n p.now.parts (voted_in n p.now) p.now.taps
+HasTaps n (Planned p) = AreTaps n p.now.parts (plan_votes n p.now) p.now.taps
 
 -- a path to net x with so many tables, where a voted pin counts one more. Nodes and pins are counted from 0
 pub data VotedPath (n : Net) (voted : ℕ → ℕ → Bool) : ℕ → ℕ → Type 0 where

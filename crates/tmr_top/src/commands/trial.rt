@@ -5,7 +5,7 @@ ghost use Rattle.schedule_replay.specs.Many.{AreReplaysOf};
 ghost use Rattle.schedule_replay.specs.Schedule.{PlainSchedule};
 ghost use Rattle.tmr_trial.specs.Designs.{design_of};
 ghost use Rattle.tmr_trial.specs.Schedules.{IsDrawnSchedule};
-ghost use Rattle.triplicate.specs.Result.{IsHardened};
+ghost use Rattle.triplicate.specs.Result.{IsHardenedPair};
 ghost use Rattle.validator.specs.Masking.{Masks};
 ghost use Rattle.tmr_texts.specs.FormText.{form_numbers};
 ghost use Rattle.tmr_words.specs.Line.{TryOut};
@@ -19,6 +19,7 @@ use crate::conclusion::conclude;
 use crate::decision::{Decision, Work, telling};
 use certificate::Certificate;
 use flat_net::FlatNet;
+use hardened_pair::harden;
 use schedule_replay::{Outcome, Schedule, replay_wide};
 use std::alloc::Global;
 use tmr_base::OutOfMemory;
@@ -26,7 +27,7 @@ use tmr_outside::Files;
 use tmr_texts::{FormNumbers, counted, form_lines, greatest_depth, join};
 use tmr_trial::{design, schedule};
 use tmr_words::TrialWords;
-use triplicate::{Hardened, harden};
+use triplicate::Hardened;
 use validator::check;
 
 /// Over all runs: the upsets, the differences of outputs, the wrong outputs and the late copies.
@@ -50,7 +51,7 @@ fn draw_design(alloc: Global, words: &TrialWords) -> Result<FlatNet, OutOfMemory
 #[tactic(auto, using(crate::proofs::TrialLaws::few_enough))]
 fn harden_drawn(alloc: Global, words: &TrialWords, n: &FlatNet) -> Result<Hardened, OutOfMemory>
     requires { n.now.net ≡ design_of words.now.number words.now.nodes }
-    ensures { IfOk result (λ made. IsHardened n.now.net 64 made) }
+    ensures { IfOk result (λ made. IsHardenedPair n.now.net 64 made) }
 {
     let made = harden(alloc, n, 64)?;
     Ok(made)
@@ -59,7 +60,7 @@ fn harden_drawn(alloc: Global, words: &TrialWords, n: &FlatNet) -> Result<Harden
 /// The check of a hardened form, which no hardened form fails.
 #[tactic(auto, using(crate::proofs::TrialLaws::checks))]
 fn pass_check(n: &FlatNet, made: &Hardened)
-    requires { IsHardened n.now.net 64 made.now }
+    requires { IsHardenedPair n.now.net 64 made.now }
     ensures { Masks n.now.net made.now.net.net made.now.cert }
 {
     match check(n, &made.net, &made.cert) {
@@ -115,7 +116,7 @@ fn replay_all(
     made: &Hardened,
     list: &[Schedule],
 ) -> Result<Vec<Outcome>, OutOfMemory>
-    requires hardened { IsHardened n.now.net 64 made.now }
+    requires hardened { IsHardenedPair n.now.net 64 made.now }
     requires many { length list.now ≡ 64 }
     requires runnable { All (λ s. IsRunnable n.now.net made.now.net.net made.now.cert s) list.now }
     ensures replays { IfOk result (λ outcomes. AreReplaysOf n.now.net made.now.net.net made.now.cert list.now outcomes.items) }
@@ -174,7 +175,7 @@ fn sum_runs(list: &[Schedule], outcomes: &[Outcome]) -> RunSums
 /// What all runs on a hardened form come to.
 #[tactic(auto, using(crate::proofs::TrialLaws::runs))]
 fn run_all(alloc: Global, number: u64, n: &FlatNet, made: &Hardened) -> Result<RunSums, OutOfMemory>
-    requires { IsHardened n.now.net 64 made.now }
+    requires { IsHardenedPair n.now.net 64 made.now }
     ensures { IfOk result (λ sums. AreSums number n.now.net made.now.net.net made.now.cert sums) }
 {
     let list = draw_schedules(alloc, number, n, &made.net, &made.cert)?;
@@ -184,7 +185,7 @@ fn run_all(alloc: Global, number: u64, n: &FlatNet, made: &Hardened) -> Result<R
 
 /// The numbers that are told of a hardened form.
 fn told_numbers(n: &FlatNet, made: &Hardened) -> FormNumbers
-    requires { IsHardened n.now.net 64 made.now }
+    requires { IsHardenedPair n.now.net 64 made.now }
     ensures { result ≡ form_numbers n.now.net 64 made.now.net.net made.now.cert made.now.minimal }
 {
     FormNumbers {

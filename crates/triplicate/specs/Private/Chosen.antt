@@ -1,4 +1,4 @@
--- What partitioning gives for a form.
+-- Only private functions cite this: what partitioning gives for a form.
 use Rattle.std.specs.Prelude.{◌≡◌, ◌↔◌, ℕ, IsTrue, length}
 use Rattle.tmr_base.specs.Parts.{AreParts}
 use Rattle.flat_net.specs.Net.{Net}

@@ -1,4 +1,4 @@
--- How the partitions that need voters are noted: partition by partition, node by node, pin by pin.
+-- Only private functions cite this: how the partitions that need voters are noted: partition by partition, node by node, pin by pin.
 use Rattle.std.specs.Prelude.{ℕ, zero, suc, ◌==◌, Bool, List, [], ◌∷◌, length, filter, slice_index, if◌then◌else◌}
 use Rattle.std.specs.List.{range_with_len}
 use Rattle.tmr_base.specs.Parts.{PlainParts}
@@ -6,15 +6,11 @@ use Rattle.flat_net.specs.Net.{Net, net_count}
 use Rattle.feedback_cut.specs.Inner.{node_pins}
 use Rattle.node_reads.specs.Noting.{noted}
 use Rattle.node_reads.specs.Private.Marking.{ListsMarked}
-use Rattle.triplicate.specs.Voting.{needs_voter}
+use Rattle.triplicate.specs.Starts.{needs}
 
 -- node y stands in partition p
 abbrev pub is_in : PlainParts → ℕ → ℕ → Bool
 is_in parts y p = slice_index parts.of y == p
-
--- partition p needs a voter of net x
-abbrev pub needs : Net → PlainParts → (ℕ → ℕ → Bool) → ℕ → ℕ → Bool
-needs n parts voted p x = needs_voter n parts voted x p
 
 -- pin j of node y
 unfoldable pub pin_noted : Net → PlainParts → (ℕ → ℕ → Bool) → ℕ → ℕ → List (List ℕ) → List (List ℕ)

@@ -1,6 +1,6 @@
 use Rattle.std.proofs.Common.{◌+◌, length, ap, ◌∙◌, arith, rules}
-use Rattle.triplicate.specs.Private.Pins.{pin_is_voted}
-use Rattle.triplicate.specs.Private.Numbers.{block_start}
+use Rattle.triplicate.specs.Pins.{pin_is_voted}
+use Rattle.triplicate.specs.Numbers.{block_start}
 use Rattle.std.proofs.lemmas.List.{length_push}
 use Rattle.triplicate.proofs.Places.{pushed_all, start_none}
 use Rattle.triplicate.proofs.blocks.block_starts.Goals as goal

@@ -1,7 +1,7 @@
 use Rattle.std.proofs.Common.{◌≡◌, ◌<◌, ℕ, length}
 use Rattle.std.specs.Prelude.{slice_index}
-use Rattle.triplicate.specs.Private.Pins.{pin_is_voted}
-use Rattle.triplicate.specs.Private.Numbers.{block_start}
+use Rattle.triplicate.specs.Pins.{pin_is_voted}
+use Rattle.triplicate.specs.Numbers.{block_start}
 use Rattle.triplicate.proofs.blocks.block_starts.Given as goal
 
 abbrev pub invariant-loop-x : goal.invariant-loop-x

@@ -1,6 +1,6 @@
 use Rattle.std.proofs.Common.{◌∙◌, ap, arith}
-use Rattle.triplicate.specs.Private.Pins.{pin_is_voted}
-use Rattle.triplicate.specs.Private.Numbers.{block_start}
+use Rattle.triplicate.specs.Pins.{pin_is_voted}
+use Rattle.triplicate.specs.Numbers.{block_start}
 use Rattle.triplicate.proofs.Places.{start_none, start_all}
 use Rattle.triplicate.proofs.blocks.hardened_nets.Goals as goal
 

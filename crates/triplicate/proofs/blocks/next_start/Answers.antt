@@ -1,5 +1,5 @@
 use Rattle.std.proofs.Common.{◌≡◌, ◌+◌, length, ap, ◌∙◌, arith}
-use Rattle.triplicate.specs.Private.Pins.{pin_is_voted}
+use Rattle.triplicate.specs.Pins.{pin_is_voted}
 use Rattle.triplicate.specs.Voting.{voting_parts}
 use Rattle.triplicate.proofs.Places.{start_more, start_few}
 use Rattle.triplicate.proofs.blocks.next_start.Goals as goal

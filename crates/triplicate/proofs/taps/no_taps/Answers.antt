@@ -2,7 +2,7 @@ use Rattle.std.proofs.Common.{◌≡◌, ◌+◌, ◌<◌, ℕ, suc, length, ref
 use Rattle.std.proofs.lemmas.List.{length_push, length-replicate}
 use Rattle.flat_net.specs.Net.{node_of, pins_at}
 use Rattle.feedback_cut.specs.Inner.{node_pins}
-use Rattle.triplicate.specs.Private.Taps.{tap_start}
+use Rattle.triplicate.specs.Private.Places.{tap_start}
 use Rattle.triplicate.proofs.PinSums.{start_few, start_more}
 use Rattle.triplicate.proofs.TapLaws.{firsts_more}
 use Rattle.triplicate.proofs.taps.no_taps.Goals as goal

@@ -1,6 +1,6 @@
 use Rattle.std.proofs.Common.{◌≡◌, ◌<◌, ℕ, length}
 use Rattle.std.specs.Prelude.{slice_index}
-use Rattle.triplicate.specs.Private.Taps.{tap_start}
+use Rattle.triplicate.specs.Private.Places.{tap_start}
 use Rattle.triplicate.proofs.taps.no_taps.Given as goal
 
 abbrev pub invariant-loop-y : goal.invariant-loop-y

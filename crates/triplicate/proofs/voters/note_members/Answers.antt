@@ -2,9 +2,10 @@ use Rattle.std.proofs.Common.{◌≡◌, ◌+◌, ◌<◌, ◌≤◌, ◌⊎◌,
 use Rattle.std.specs.Prelude.{slice_index}
 use Rattle.std.proofs.lemmas.List.{get_or_default}
 use Rattle.feedback_cut.specs.Inner.{node_pins}
-use Rattle.triplicate.specs.Private.Pins.{pin_is_voted}
+use Rattle.triplicate.specs.Pins.{pin_is_voted}
 use Rattle.triplicate.specs.Private.Noted.{pins_noted, IsNoting}
-use Rattle.triplicate.specs.Private.Taps.{HasPlaces, IsTapped}
+use Rattle.triplicate.specs.Taps.{IsTapped}
+use Rattle.triplicate.specs.Private.Places.{HasPlaces}
 use Rattle.triplicate.specs.declared.taps.Taps.{Taps}
 use Rattle.triplicate.proofs.VoterRows.{nodes_none, nodes_step}
 use Rattle.triplicate.proofs.TapLaws.{places_kept, tap_room, tapped_kept, tapped_more}

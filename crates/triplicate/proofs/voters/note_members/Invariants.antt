@@ -1,7 +1,8 @@
 use Rattle.std.proofs.Common.{◌≡◌, ◌<◌, ℕ, length, take, All}
-use Rattle.triplicate.specs.Private.Pins.{pin_is_voted}
+use Rattle.triplicate.specs.Pins.{pin_is_voted}
 use Rattle.triplicate.specs.Private.Noted.{nodes_noted, IsNoting}
-use Rattle.triplicate.specs.Private.Taps.{HasPlaces, IsTapped}
+use Rattle.triplicate.specs.Taps.{IsTapped}
+use Rattle.triplicate.specs.Private.Places.{HasPlaces}
 use Rattle.triplicate.proofs.voters.note_members.Given as goal
 
 abbrev pub invariant-loop-y : goal.invariant-loop-y

@@ -2,9 +2,9 @@ use Rattle.std.proofs.Common.{◌≡◌, ◌+◌, [], ℕ, suc, List, length, ge
 use Rattle.std.specs.Prelude.{slice_index}
 use Rattle.flat_net.specs.Net.{node_of, pins_at}
 use Rattle.feedback_cut.specs.Inner.{node_pins}
-use Rattle.triplicate.specs.Private.Pins.{pin_is_voted}
+use Rattle.triplicate.specs.Pins.{pin_is_voted}
 use Rattle.triplicate.specs.Private.Noted.{IsNoting}
-use Rattle.triplicate.specs.Private.Numbers.{voter_rank}
+use Rattle.triplicate.specs.Numbers.{voter_rank}
 use Rattle.triplicate.proofs.VoterRows.{pin_passed, pin_is_noted}
 use Rattle.triplicate.proofs.TapLaws.{noting_more, noted_place, rank_few, tap_is}
 use Rattle.triplicate.proofs.voters.note_pin.Goals as goal

@@ -2,9 +2,9 @@ use Rattle.std.proofs.Common.{◌≡◌, ◌+◌, ◌<◌, ℕ, length, refl, sy
 use Rattle.std.proofs.lemmas.List.{length-set}
 use Rattle.flat_net.specs.Net.{node_of, pins_at}
 use Rattle.feedback_cut.specs.Inner.{node_pins}
-use Rattle.triplicate.specs.Private.Pins.{pin_is_voted}
+use Rattle.triplicate.specs.Pins.{pin_is_voted}
 use Rattle.triplicate.specs.Private.Noted.{pin_noted}
-use Rattle.triplicate.specs.Private.Taps.{tap_of}
+use Rattle.triplicate.specs.Taps.{tap_of}
 use Rattle.triplicate.proofs.VoterRows.{pins_none, pins_step}
 use Rattle.triplicate.proofs.TapLaws.{places_more, places_others}
 use Rattle.triplicate.proofs.voters.note_pins.Goals as goal

@@ -1,9 +1,9 @@
 use Rattle.std.proofs.Common.{◌≡◌, ◌+◌, ◌<◌, ◌≤◌, ◌⊎◌, ℕ, length}
 use Rattle.std.specs.Prelude.{slice_index}
 use Rattle.feedback_cut.specs.Inner.{node_pins}
-use Rattle.triplicate.specs.Private.Pins.{pin_is_voted}
+use Rattle.triplicate.specs.Pins.{pin_is_voted}
 use Rattle.triplicate.specs.Private.Noted.{pins_noted, IsNoting}
-use Rattle.triplicate.specs.Private.Taps.{tap_of}
+use Rattle.triplicate.specs.Taps.{tap_of}
 use Rattle.triplicate.proofs.voters.note_pins.Given as goal
 
 abbrev pub invariant-loop-j : goal.invariant-loop-j

@@ -2,9 +2,10 @@ use Rattle.std.proofs.Common.{◌≡◌, ◌+◌, ◌<◌, ℕ, List, [], length
 use Rattle.std.specs.Prelude.{slice_index}
 use Rattle.flat_net.specs.Net.{net_count}
 use Rattle.node_reads.specs.Noting.{Lists}
-use Rattle.triplicate.specs.Private.Pins.{pin_is_voted}
-use Rattle.triplicate.specs.Private.Noted.{needs, members, nodes_noted, parts_noted}
-use Rattle.triplicate.specs.Private.Taps.{IsTapped}
+use Rattle.triplicate.specs.Pins.{pin_is_voted}
+use Rattle.triplicate.specs.Private.Noted.{members, nodes_noted, parts_noted}
+use Rattle.triplicate.specs.Starts.{needs}
+use Rattle.triplicate.specs.Taps.{IsTapped}
 use Rattle.triplicate.proofs.VoterRows.{parts_none, parts_step, members_below, rows_listed, none_listed, pin_in_range}
 use Rattle.triplicate.proofs.TapLaws.{noting_start, members_own, parts_tapped}
 use Rattle.triplicate.proofs.voters.noted_parts.Goals as goal

@@ -1,9 +1,10 @@
 use Rattle.std.proofs.Common.{◌≡◌, ◌<◌, ℕ, [], length, replicate}
 use Rattle.std.specs.Prelude.{slice_index}
 use Rattle.flat_net.specs.Net.{net_count}
-use Rattle.triplicate.specs.Private.Pins.{pin_is_voted}
+use Rattle.triplicate.specs.Pins.{pin_is_voted}
 use Rattle.triplicate.specs.Private.Noted.{parts_noted}
-use Rattle.triplicate.specs.Private.Taps.{HasPlaces, IsTapped}
+use Rattle.triplicate.specs.Taps.{IsTapped}
+use Rattle.triplicate.specs.Private.Places.{HasPlaces}
 use Rattle.triplicate.proofs.voters.noted_parts.Given as goal
 
 abbrev pub invariant-loop-p : goal.invariant-loop-p

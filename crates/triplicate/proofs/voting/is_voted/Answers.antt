@@ -1,7 +1,7 @@
 use Rattle.std.proofs.Common.{arith}
 use Rattle.std.proofs.lemmas.Grind.{common_steps}
 use Rattle.std.proofs.lemmas.Bool.Decides.{nat_tests}
-use Rattle.triplicate.specs.Private.Pins.{pin_is_voted}
+use Rattle.triplicate.specs.Pins.{pin_is_voted}
 use Rattle.triplicate.proofs.voting.is_voted.Goals as goal
 
 pub returns-then-x-inputs : goal.returns-then-x-inputs

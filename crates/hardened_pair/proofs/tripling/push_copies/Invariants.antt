@@ -1,0 +1,11 @@
+use Rattle.std.proofs.Common.{◌≡◌, ◌++◌, take}
+use Rattle.certificate.specs.declared.role.Role.TheVariants.{Copy}
+use Rattle.triplicate.specs.Blocks.{threefold}
+use Rattle.hardened_pair.specs.Private.Made.{IsMade}
+use Rattle.hardened_pair.proofs.tripling.push_copies.Given as goal
+
+abbrev pub invariant-loop-c : goal.invariant-loop-c
+invariant-loop-c l = record {
+  made : IsMade l.layout l.made;
+  roles : l.made.roles.items ≡ l.fn.made.roles.items ++ take l.c-index (threefold (Copy l.x));
+}
