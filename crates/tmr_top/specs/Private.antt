@@ -8,5 +8,4 @@ pub mod Refused
 pub mod PairFiles
 pub mod Replaying
 pub mod GraphCounted
-pub mod Trying
 pub mod Certifying

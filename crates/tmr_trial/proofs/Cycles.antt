@@ -93,7 +93,7 @@ cycle_drawn number n h k t state after strikes next old new row is inputs starts
     earlier : All (λ u. u.cycle < t + 1) old.upsets
     earlier i d l = let e = is.earlier i d l in omega (arith, e)
 
-after_row : (old new : PlainSchedule) (row : List Bool) → new ≡ record old { rows = old.rows ++ row ∷ [] } → (new.inputs ≡ old.inputs) × (new.rows ≡ old.rows ++ row ∷ []) × (new.upsets ≡ old.upsets) × (new.starts ≡ old.starts)
+pub after_row : (old new : PlainSchedule) (row : List Bool) → new ≡ record old { rows = old.rows ++ row ∷ [] } → (new.inputs ≡ old.inputs) × (new.rows ≡ old.rows ++ row ∷ []) × (new.upsets ≡ old.upsets) × (new.starts ≡ old.starts)
 after_row old new row e = (ap (λ (s : PlainSchedule). s.inputs) e, ap (λ (s : PlainSchedule). s.rows) e, ap (λ (s : PlainSchedule). s.upsets) e, ap (λ (s : PlainSchedule). s.starts) e)
 
 -- a cycle of a design without nodes

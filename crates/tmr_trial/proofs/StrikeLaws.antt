@@ -6,12 +6,12 @@ use Rattle.std.proofs.lemmas.Bool.Decides.{nat_tests}
 use Rattle.std.proofs.lemmas.List.{get_or-set_same, get_or-set_other, get_or-replicate, get_or_past, length-set, length-replicate}
 use Rattle.std.proofs.lemmas.List.Elements.{All-contains, Contains-append_left, Contains-append_right, Contains-append_cases}
 use Rattle.tmr_base.specs.declared.copies.CopyNo.{CopyNo}
-use Rattle.tmr_base.specs.declared.copies.CopyNo.TheVariants.{First, Second, Third}
 use Rattle.tmr_base.specs.declared.ids.Upset.{Upset}
 use Rattle.tmr_base.specs.Copies.{copy_number}
 use Rattle.certificate.specs.Cert.{PlainCert, depth_of, part_depth}
 use Rattle.certificate.specs.Schedules.{IsIn, Allowed}
 use Rattle.schedule_replay.proofs.Apart.{one_domain}
+use Rattle.tmr_trial.proofs.MemberLaws.{same_copy}
 use Rattle.tmr_trial.specs.declared.strikes.Strike.{Strike}
 use Rattle.tmr_trial.specs.Schedules.{IsAdded}
 use Rattle.tmr_trial.specs.Strikes.{strike_at, is_near, IsStrike, IsNoLater, AreStrikes}
@@ -29,17 +29,6 @@ far_cases a b x t e = go (cases_eq a b) (cases_lt x t)
     go (inl same) late = inl same
     go (inr apart) (inl late) = inr late
     go (inr apart) (inr soon) = absurd (grind (arith, nat_tests))
-
-same_copy : (c d : CopyNo) → copy_number c ≡ copy_number d → c ≡ d
-same_copy First First e = refl
-same_copy First Second e = absurd (omega arith)
-same_copy First Third e = absurd (omega arith)
-same_copy Second First e = absurd (omega arith)
-same_copy Second Second e = refl
-same_copy Second Third e = absurd (omega arith)
-same_copy Third First e = absurd (omega arith)
-same_copy Third Second e = absurd (omega arith)
-same_copy Third Third e = refl
 
 some_same : {A : Type 0} (a b : A) → Some a ≡ Some b → a ≡ b
 some_same a b e = cc
