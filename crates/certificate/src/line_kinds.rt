@@ -1,9 +1,9 @@
 //! The kinds of lines: their first and last, partitions, nodes and voters.
-ghost use Rattle.std.specs.Prelude.{◌≡◌, ◌+◌, ◌<◌, ◌≤◌, Some, None, length, IfOk};
-ghost use Rattle.flat_net.specs.Net.{net_count};
+ghost use Rattle.std.specs.Prelude.{◌≡◌, ◌+◌, ◌<◌, ◌≤◌, Some, None, length, IfOk, IsTrue};
+ghost use Rattle.flat_net.specs.Net.{net_count, name_of, IsDesign};
 ghost use Rattle.flat_net.specs.Nodes.{number_of};
 ghost use Rattle.certificate.specs.Gives.{Gives};
-ghost use Rattle.certificate.specs.Plain.{texts, plain_line, AreNodes, IsVoted};
+ghost use Rattle.certificate.specs.Plain.{texts, plain_line, IsNode, AreNodes, IsVoted};
 ghost use Rattle.certificate.specs.Threes.{three_of, three_ids};
 ghost use Rattle.certificate.specs.Folding.{version_named, first_line, last_line, read_parts, read_part, known, voted, known_three, three_numbers, node_numbers, read_node, copy_named, voter_numbers, read_voter, parts_line};
 
@@ -90,11 +90,24 @@ pub fn read_part(alloc: Global, p: u32, text: &[u8], line: u32) -> Result<u32, C
     Ok(depth)
 }
 
-/// The node with this name.
+/// Whether net x is a node and has this name.
+fn is_node_called(net: &FlatNet, x: NetId, name: &[u8]) -> bool
+    ensures node { IsTrue result → IsNode net.now.net x.0 }
+    ensures named { IsTrue result → name.now ≡ name_of net.now.net x.0 }
+    ensures design { IsDesign net.now }
+{
+    let inputs = net.input_count();
+    if x.0 < inputs || x.0 - inputs >= net.node_count() {
+        return false;
+    }
+    net.name(x).bytes() == name
+}
+
+/// The node with this name, by the table of names.
 #[tactic(auto, using(crate::proofs::Names::names), unfolding(crate::specs::Folding::known))]
-fn known(alloc: Global, net: &FlatNet, name: &[u8], line: u32) -> Result<NetId, CertFault>
+fn looked_up(alloc: Global, net: &FlatNet, name: &[u8], line: u32) -> Result<NetId, CertFault>
     ensures node { Gives number_of result (known net.now.net name.now line) }
-    ensures range { IfOk result (λ x. (length net.now.net.inputs ≤ x.0) × (x.0 < net_count net.now.net)) }
+    ensures range { IfOk result (λ x. IsNode net.now.net x.0) }
 {
     let inputs = net.input_count();
     match Name::read(alloc, name) {
@@ -112,9 +125,27 @@ fn known(alloc: Global, net: &FlatNet, name: &[u8], line: u32) -> Result<NetId, 
     }
 }
 
-/// The net with this name, if there may be voters of it: in version 1 it is a node.
+/// The node with this name. It is looked at first whether the guessed net is that node: lines name nodes in the order of the
+/// design nearly always, so the table of names is seldom needed.
+fn known(
+    alloc: Global,
+    net: &FlatNet,
+    guess: NetId,
+    name: &[u8],
+    line: u32,
+) -> Result<NetId, CertFault>
+    ensures node { Gives number_of result (known net.now.net name.now line) }
+    ensures range { IfOk result (λ x. IsNode net.now.net x.0) }
+{
+    if is_node_called(net, guess, name) {
+        return Ok(guess);
+    }
+    looked_up(alloc, net, name, line)
+}
+
+/// The net with this name, if there may be voters of it: in version 1 it is a node. This is by the table of names.
 #[tactic(auto, using(crate::proofs::Names::names), unfolding(crate::specs::Folding::voted))]
-fn voted(
+fn looked_up_voted(
     alloc: Global,
     version: u8,
     net: &FlatNet,
@@ -125,7 +156,7 @@ fn voted(
     ensures range { IfOk result (λ x. IsVoted version net.now.net x.0) }
 {
     if version == 1 {
-        return known(alloc, net, name, line);
+        return looked_up(alloc, net, name, line);
     }
     net.input_count();
     match Name::read(alloc, name) {
@@ -138,10 +169,35 @@ fn voted(
     }
 }
 
+/// The same. It is looked at first whether the guessed net is a node of this name.
+fn voted(
+    alloc: Global,
+    version: u8,
+    net: &FlatNet,
+    guess: NetId,
+    name: &[u8],
+    line: u32,
+) -> Result<NetId, CertFault>
+    ensures net { Gives number_of result (voted version net.now.net name.now line) }
+    ensures range { IfOk result (λ x. IsVoted version net.now.net x.0) }
+{
+    if is_node_called(net, guess, name) {
+        return Ok(guess);
+    }
+    looked_up_voted(alloc, version, net, name, line)
+}
+
+/// The net with the next number, as a guess.
+pub fn next_net(x: NetId) -> NetId {
+    NetId(x.0.saturating_add(1))
+}
+
+/// Three nodes with these names. The first is guessed, and of the others that they are next to it.
 #[tactic(auto, unfolding(crate::specs::Folding::known_three))]
 fn known_three(
     alloc: Global,
     net: &FlatNet,
+    guess: NetId,
     a: &[u8],
     b: &[u8],
     c: &[u8],
@@ -150,9 +206,9 @@ fn known_three(
     ensures nodes { Gives three_ids result (known_three net.now.net a.now b.now c.now line) }
     ensures range { IfOk result (λ t. AreNodes net.now.net (three_ids t)) }
 {
-    let first = known(alloc, net, a, line)?;
-    let second = known(alloc, net, b, line)?;
-    let third = known(alloc, net, c, line)?;
+    let first = known(alloc, net, guess, a, line)?;
+    let second = known(alloc, net, next_net(first), b, line)?;
+    let third = known(alloc, net, next_net(second), c, line)?;
     Ok([first, second, third])
 }
 
@@ -187,13 +243,14 @@ pub fn parts_line(alloc: Global, lines: &mut Lines<'_>) -> Result<u32, CertFault
     read_parts(alloc, text, line)
 }
 
-/// The line of original node x, where there are so many partitions.
+/// The line of original node x, where there are so many partitions. Its first copy is guessed.
 #[tactic(auto, unfolding(crate::specs::Folding::read_node))]
 pub fn read_node(
     alloc: Global,
     n: &FlatNet,
     h: &FlatNet,
     x: NetId,
+    guess: NetId,
     parts: u32,
     text: &[u8],
     line: u32,
@@ -203,8 +260,8 @@ pub fn read_node(
 {
     let words = form_words(alloc, text, 9, b"node", line)?;
     let (part, labels) = node_numbers(&words, line)?;
-    let named = known(alloc, n, words[1], line)?;
-    let copies = known_three(alloc, h, words[3], words[4], words[5], line)?;
+    let named = known(alloc, n, x, words[1], line)?;
+    let copies = known_three(alloc, h, guess, words[3], words[4], words[5], line)?;
     if named.0 != x.0 {
         return Err(CertFault::Order(line));
     }
@@ -247,7 +304,7 @@ fn voter_numbers(words: &[&[u8]], line: u32) -> Result<(u32, CopyNo), CertFault>
     }
 }
 
-/// The line of the voter at hardened node g.
+/// The line of the voter at hardened node g. The net that it votes on is guessed.
 #[tactic(auto, unfolding(crate::specs::Folding::read_voter))]
 pub fn read_voter(
     alloc: Global,
@@ -255,6 +312,7 @@ pub fn read_voter(
     n: &FlatNet,
     h: &FlatNet,
     g: NetId,
+    guess: NetId,
     parts: u32,
     text: &[u8],
     line: u32,
@@ -263,8 +321,8 @@ pub fn read_voter(
 {
     let words = form_words(alloc, text, 5, b"voter", line)?;
     let (part, copy) = voter_numbers(&words, line)?;
-    let named = known(alloc, h, words[1], line)?;
-    let node = voted(alloc, version, n, words[2], line)?;
+    let named = known(alloc, h, g, words[1], line)?;
+    let node = voted(alloc, version, n, guess, words[2], line)?;
     if named.0 != g.0 {
         return Err(CertFault::Order(line));
     }

@@ -10,7 +10,9 @@ ghost use Rattle.certificate.specs.Folding.{give, give_copies, part_step, node_s
 ghost use Rattle.std.specs.Prelude.{◌^◌, IfErr};
 ghost use Rattle.certificate.specs.declared.fault.CertFault.TheVariants.{Memory};
 
-use crate::line_kinds::{first_line, last_line, parts_line, read_node, read_part, read_voter};
+use crate::line_kinds::{
+    first_line, last_line, next_net, parts_line, read_node, read_part, read_voter,
+};
 use crate::lines::next_line;
 use crate::{CertDraft, CertFault, Role};
 use flat_net::FlatNet;
@@ -98,6 +100,14 @@ fn part_step(alloc: Global, depths: &mut Vec<u32>, lines: &mut Lines<'_>) -> Res
     Ok(())
 }
 
+/// The net that is likely to be the first copy of the next node: that behind the copies so far.
+fn likely_copy(h: &FlatNet, copies: &[[NetId; 3]]) -> NetId {
+    match copies.last() {
+        Some(last) => next_net(last[2]),
+        None => NetId(h.input_count()),
+    }
+}
+
 /// The next node's line.
 #[tactic(auto, unfolding(crate::specs::Folding::node_step))]
 fn node_step(
@@ -117,7 +127,8 @@ fn node_step(
     let line = lines.number();
     let text = next_line(lines)?;
     let x = NetId(n.input_count() + nodes.part.len() as u32);
-    let node = read_node(alloc, n, h, x, parts, text, line)?;
+    let guess = likely_copy(h, &nodes.copies);
+    let node = read_node(alloc, n, h, x, guess, parts, text, line)?;
     give_copies(&mut nodes.roles, h.input_count(), x, node.copies, line)?;
     nodes.part.push(node.part)?;
     nodes.copies.push(node.copies)?;
@@ -172,6 +183,14 @@ fn read_nodes(
     Ok(nodes)
 }
 
+/// The net that the next voter is likely to vote on: that of the hardened node before it.
+fn likely_voted(roles: &[Role]) -> NetId {
+    match roles.last() {
+        Some(Role::Copy { node, .. } | Role::Voter { node, .. }) => *node,
+        None => NetId(0),
+    }
+}
+
 /// The role of the next hardened node: the one that is given, or the next voter's line.
 #[tactic(auto, unfolding(crate::specs::Folding::voter_step))]
 fn voter_step(
@@ -196,7 +215,8 @@ fn voter_step(
             let line = lines.number();
             let text = next_line(lines)?;
             let g = NetId(inputs + roles.len() as u32);
-            let role = read_voter(alloc, version, n, h, g, parts, text, line)?;
+            let guess = likely_voted(roles);
+            let role = read_voter(alloc, version, n, h, g, guess, parts, text, line)?;
             roles.push(role)?;
         }
     }

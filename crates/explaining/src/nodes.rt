@@ -10,11 +10,11 @@ ghost use Rattle.explaining.specs.Private.Pieces.{HasNets, AllReach, PinLabelFai
 
 use crate::covers::cover_reason;
 use crate::pins::pin_reason;
-use crate::reading::count;
 use crate::reason::Reason;
 use certificate::Certificate;
 use flat_net::{FlatNet, Kind};
 use tmr_base::{CopyNo, NetId, PartId};
+use validator::reading::count;
 
 /// Why g does not copy a table x.
 #[tactic(auto, using(crate::proofs::Differs::tables))]

@@ -6,11 +6,11 @@ ghost use Rattle.certificate.specs.Rules.{PinsRead};
 ghost use Rattle.explaining.specs.Reasons.{PinFails};
 ghost use Rattle.explaining.specs.Private.Pieces.{HasNets};
 
-use crate::reading::reads;
 use crate::reason::Reason;
 use certificate::Certificate;
 use flat_net::FlatNet;
 use tmr_base::{CopyNo, NetId, PartId};
+use validator::reading::reads;
 
 /// The first pin of g that does not read the pin of x at its place for partition p and copy d.
 pub fn pin_reason<'a>(

@@ -31,7 +31,7 @@ module _ (s : List Upset) (k : PlainCert) where
       go (inr soon) (inl earlier) = inr earlier
       go (inr soon) (inr late) = absurd (none u v in_u in_v (record { part = p; one = c; other = d; one_struck = u_in; other_struck = v_in; differ = differ; not_before = soon; not_after = late }))
 
-same_copy : (c d : CopyNo) → copy_number c ≡ copy_number d → c ≡ d
+pub same_copy : (c d : CopyNo) → copy_number c ≡ copy_number d → c ≡ d
 same_copy First First e = refl
 same_copy First Second e = absurd (omega arith)
 same_copy First Third e = absurd (omega arith)
@@ -71,7 +71,7 @@ module _ (k : PlainCert) (h p : ℕ) (c : CopyNo) where
   pub counted_is_in : (r : Role) → role_of k h ≡ Some r → IsTrue (is_of k p c r) ↔ IsIn k h (Some p) c
   counted_is_in r e = (λ b. subst (λ (o : Option Role). RoleIsIn k o h (Some p) c) (sym e) (is_in r b), λ i. in_is r (subst (λ (o : Option Role). RoleIsIn k o h (Some p) c) e i))
 
-few_copies : (c : CopyNo) → copy_number c < 3
+pub few_copies : (c : CopyNo) → copy_number c < 3
 few_copies First = omega arith
 few_copies Second = omega arith
 few_copies Third = omega arith

@@ -11,6 +11,6 @@ mod lines;
 mod nearness;
 mod text;
 
-pub use laws::{allowed_where_none_too_near, counts_are_of_nets};
+pub use laws::{allowed_where_none_too_near, counts_are_of_nets, near_counts_strikes};
 pub use nearness::near;
 pub use text::exposure;

@@ -1,3 +1,4 @@
+pub mod FirstRun
 pub mod Lanes
 pub mod Literals
 pub mod MarkLaws
@@ -5,6 +6,7 @@ pub mod Nodes
 pub mod OneCycle
 pub mod Ordering
 pub mod Settling
+pub mod ShortTables
 pub mod Triples
 pub mod TruthLaws
 pub mod TruthTables

@@ -76,7 +76,8 @@ row_is_cycle n ins s tr (suc t) is l = record {
       ∙ later_forced_value (node_of n x) (upset_at s (suc t) x) t (row_at ins (suc t)) (row_at tr t) (row_at tr (suc t)) x);
 }
 
-forced_alike : (n : Net) (last : Option (List Bool)) (ins : List Bool) (f g : ℕ → Option Bool) (v : List Bool) → ((x : ℕ) → x < net_count n → f x ≡ g x) → IsCycle n last ins f v → IsCycle n last ins g v
+-- what is forced may be told in another way
+pub forced_alike : (n : Net) (last : Option (List Bool)) (ins : List Bool) (f g : ℕ → Option Bool) (v : List Bool) → ((x : ℕ) → x < net_count n → f x ≡ g x) → IsCycle n last ins f v → IsCycle n last ins g v
 forced_alike n last ins f g v same is = record {
   wide = is.wide;
   equations = λ x h. subst (λ (u : Option Bool). bit v x ≡ forced_value (node_of n x) u (cycle_after last) ins (values_of last) v x) (same x h) (is.equations x h);

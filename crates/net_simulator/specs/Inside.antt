@@ -1,5 +1,6 @@
 -- Only private functions cite this: what the fields of the two simulators hold.
-use Rattle.std.specs.Prelude.{◌≡◌, length}
+use Rattle.std.specs.Prelude.{◌≡◌, length, option_map}
+use Rattle.table_cover.specs.Words.{bits_of}
 use Rattle.flat_net.specs.Net.{net_count}
 use Rattle.net_simulator.specs.Cycle.{Run, WideRun}
 use Rattle.net_simulator.specs.Settled.{last_of, AreMarks}
@@ -9,15 +10,11 @@ use Rattle.net_simulator.specs.declared.sim.Sim.TheInside as single
 use Rattle.net_simulator.specs.declared.wide.WideSim.TheInside as wide
 
 abbrev pub run_of : single.Inside → Run
-run_of s = record { net = s.net.now.net; last = last_of s.started s.bits.items }
+run_of s = record { net = s.wide.net; last = option_map (bits_of 0) s.wide.last }
 
--- there is a bit for each net in two cycles, and what is forced on each in the next
+-- there is a word for each input
 pub record IsSim (s : single.Inside) : Type 0 where
-  pub bits : length s.bits.items ≡ net_count s.net.now.net
-  pub before : length s.before.items ≡ net_count s.net.now.net
-  pub forced : length s.forced.items ≡ net_count s.net.now.net
-  pub tables : AreTables s.net.now.net s.tables
-  pub truths : AreTruths s.net.now.net (entry_nets s.tables.entries.items) s.truths
+  pub row : length s.row.items ≡ length s.wide.net.inputs
 
 abbrev pub wide_run_of : wide.Inside → WideRun
 wide_run_of s = record { net = s.net.now.net; last = last_of s.started s.words.items }
@@ -28,3 +25,4 @@ pub record IsWideSim (s : wide.Inside) : Type 0 where
   pub before : length s.before.items ≡ net_count s.net.now.net
   pub marks : AreMarks (net_count s.net.now.net) s.marks
   pub tables : AreTables s.net.now.net s.tables
+  pub truths : AreTruths s.net.now.net (entry_nets s.tables.entries.items) s.truths

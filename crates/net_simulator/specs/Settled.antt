@@ -1,5 +1,5 @@
 -- Only private functions cite this: a cycle of which some nets have their values already.
-use Rattle.std.specs.Prelude.{◌≡◌, ℕ, ◌<◌, Bool, false, List, length, Option, Some, None, slice_index, slice_index_or, if◌then◌else◌}
+use Rattle.std.specs.Prelude.{◌≡◌, ℕ, ◌<◌, Bool, false, List, length, Option, Some, None, slice_index, if◌then◌else◌}
 use Rattle.table_cover.specs.Words.{word_bit}
 use Rattle.flat_net.specs.Net.{Net, Node, net_count, node_of, IsTable, IsRegister}
 use Rattle.net_meaning.specs.Meaning.{bit, node_value}
@@ -45,10 +45,6 @@ pub record AreMarks (count : ℕ) (m : Marks) : Type 0 where
   pub forced : length m.forced.items ≡ count
   pub masks : length m.masks.items ≡ count
   pub values : length m.values.items ≡ count
-
--- what is forced on net x
-abbrev pub forced_at : List (Option Bool) → ℕ → Option Bool
-forced_at forced x = slice_index_or forced x None
 
 -- the first cycle has the number 0, and each later one counts as 1
 abbrev pub number_of_cycle : Bool → ℕ

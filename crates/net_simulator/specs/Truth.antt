@@ -1,5 +1,5 @@
 -- Only private functions cite this: the tables of few pins, each as one word that tells its values.
-use Rattle.std.specs.Prelude.{◌≡◌, ℕ, ◌+◌, ◌*◌, ◌<◌, ◌≤◌, Bool, nat_le, List, [], ◌∷◌, length, map, slice_index, Option, Some, None, if◌then◌else◌}
+use Rattle.std.specs.Prelude.{◌≡◌, ℕ, ◌+◌, ◌-◌, ◌*◌, ◌<◌, ◌≤◌, Bool, nat_le, List, [], ◌∷◌, length, map, slice_index, Option, Some, None, if◌then◌else◌}
 use Rattle.std.specs.List.{flat_map}
 use Rattle.tmr_base.specs.declared.ids.NetId.{NetId}
 use Rattle.table_cover.specs.Cover.{PlainCover, cover_value}
@@ -19,6 +19,10 @@ number_from high (b ∷ bits) = number_from (2 * high + (if b then 1 else 0)) bi
 abbrev pub places : List ℕ
 places = 18446744069414584320 ∷ 18446462603027742720 ∷ 18374966859414961920 ∷ 17361641481138401520
     ∷ 14757395258967641292 ∷ 12297829382473034410 ∷ []
+
+-- what two neighbours of a word's bits leave of a pin with this word, by the number that they are
+abbrev pub ends_of : ℕ → List ℕ
+ends_of x = 0 ∷ (18446744073709551615 - x) ∷ x ∷ 18446744073709551615 ∷ []
 
 -- the value on some bits is the word's bit at their number
 abbrev pub Tells : PlainCover → ℕ → ℕ → Type 0

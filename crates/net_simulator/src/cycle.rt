@@ -5,12 +5,16 @@ ghost use Rattle.flat_net.specs.Net.{net_count};
 ghost use Rattle.std.specs.Option.{unwrap_or};
 ghost use Rattle.net_simulator.specs.Settled.{IsSettled, IsInput, IsNoTable, IsAnyNet, marked, AreMarks, number_of_cycle, last_of};
 ghost use Rattle.net_simulator.specs.Registers.{AreRegisters};
-ghost use Rattle.net_simulator.specs.Tables.{AreTables};
+ghost use Rattle.net_meaning.specs.Meaning.{bit};
+ghost use Rattle.net_simulator.specs.Tables.{AreTables, entry_nets};
+ghost use Rattle.net_simulator.specs.Truth.{AreTruths, short_value};
 ghost use Rattle.net_simulator.specs.Cycle.{IsCycle};
 
 use crate::marks::{Marks, word_of};
 use crate::registers::{Held, held_at};
-use crate::tables::{Tables, entry_at, table_word, word_at};
+use crate::short::short_word;
+use crate::tables::{Entry, Literal, Tables, entry_at, rows_word, word_at};
+use crate::truth::{Truths, word_at_place};
 use flat_net::FlatNet;
 use tmr_base::NetId;
 
@@ -49,16 +53,30 @@ fn set_registers(
     }
 }
 
+/// The word of a table, by the word that tells it if it is short, or else by its literals.
+fn table_word(entry: Entry, word: u64, pins: &[NetId], literals: &[Literal], now: &[u64]) -> u64
+    requires { length pins.now ≤ 6 }
+    ensures { (j : ℕ) → j < 64 → word_bit j result ≡ short_value entry word pins.now literals.now (bit (bits_of j now.now)) }
+{
+    if entry.is_short {
+        short_word(word, pins, now)
+    } else {
+        rows_word(entry, literals, now)
+    }
+}
+
 /// Gives all tables their values, each after the tables that it reads.
 fn set_tables(
     net: &FlatNet,
     tables: &Tables,
+    truths: &Truths,
     started: bool,
     before: &[u64],
     marks: &Marks,
     now: &mut [u64],
 )
     requires tables { AreTables net.now.net tables.now }
+    requires truths { AreTruths net.now.net (entry_nets tables.now.entries.items) truths.now }
     requires marks { AreMarks (net_count net.now.net) marks.now }
     requires now { length now.old ≡ net_count net.now.net }
     ensures { (j : ℕ) (ins : List Bool) → j < 64 →
@@ -67,11 +85,16 @@ fn set_tables(
 {
     let _inputs = net.input_count();
     let mut rest = tables.literals.as_slice();
+    let mut rest_pins = truths.pins.as_slice();
     for i in 0..tables.entries.len() {
         let entry = entry_at(net, tables, i);
-        let (own, others) = rest.split_at(entry.count);
-        now[entry.net.0 as usize] = marks.word(table_word(entry, own, now), entry.net);
+        let (literals, others) = rest.split_at(entry.count);
+        let (pins, other_pins) = rest_pins.split_at(entry.pins as usize);
+        let word = word_at_place(&truths.words, i);
+        let own = table_word(entry, word, pins, literals, now);
+        now[entry.net.0 as usize] = marks.word(own, entry.net);
         rest = others;
+        rest_pins = other_pins;
     }
 }
 
@@ -91,6 +114,7 @@ fn set_inputs(ins: &[u64], marks: &Marks, now: &mut [u64])
 pub fn run_cycle(
     net: &FlatNet,
     tables: &Tables,
+    truths: &Truths,
     started: bool,
     ins: &[u64],
     before: &[u64],
@@ -101,10 +125,11 @@ pub fn run_cycle(
     requires marks { AreMarks (net_count net.now.net) marks.now }
     requires now { length now.old ≡ net_count net.now.net }
     requires tables { AreTables net.now.net tables.now }
+    requires truths { AreTruths net.now.net (entry_nets tables.now.entries.items) truths.now }
     ensures { (j : ℕ) → j < 64 → IsCycle net.now.net (last_of started (bits_of j before.now)) (bits_of j ins.now) (marked marks.now j) (bits_of j now.new) }
 {
     let _inputs = net.input_count();
     set_inputs(ins, marks, now);
     set_registers(net, &tables.registers, started, before, marks, now);
-    set_tables(net, tables, started, before, marks, now);
+    set_tables(net, tables, truths, started, before, marks, now);
 }

@@ -4,10 +4,10 @@
 //! each net meets its equation but for those that are forced; a step takes no memory.
 #![tactic(auto)]
 
-mod bits;
 mod cycle;
 mod marks;
 mod registers;
+mod short;
 mod sim;
 mod tables;
 mod truth;

@@ -1,29 +1,22 @@
 //! One run of a design.
-ghost use Rattle.std.specs.Prelude.{◌≡◌, ◌<◌, ℕ, All, IfOk, IfSome, IsSome, IsSomeAnd, None, length};
+ghost use Rattle.std.specs.Prelude.{◌≡◌, ◌<◌, ℕ, All, IfOk, IfSome, IsSome, IsSomeAnd, None, length, option_map};
+ghost use Rattle.table_cover.specs.Words.{word_bit, bits_of};
 ghost use Rattle.flat_net.specs.Net.{net_count};
 ghost use Rattle.net_meaning.specs.Meaning.{bit};
 ghost use Rattle.net_simulator.specs.Cycle.{IsCycle, forced_to};
-ghost use Rattle.net_simulator.specs.Settled.{forced_at};
 
-use crate::bits::{bit_at, run_bits};
-use crate::tables::{Tables, tables_of};
-use crate::truth::{Truths, truths_of};
+use crate::marks::word_of;
+use crate::wide::WideSim;
 use flat_net::FlatNet;
 use std::alloc::Global;
 use std::marker::Model;
-use std::mem;
 use tmr_base::{NetId, OutOfMemory};
 
-/// A simulator of one run of a design.
+/// A simulator of one run of a design: 64 runs that are all alike, of which the first is read.
 #[derive(Drop)]
 pub struct Sim<'a> {
-    net: &'a FlatNet,
-    started: bool,
-    bits: Vec<bool>,
-    before: Vec<bool>,
-    forced: Vec<Option<bool>>,
-    tables: Tables,
-    truths: Truths,
+    wide: WideSim<'a>,
+    row: Vec<u64>,
 }
 
 impl<'a> Model for Sim<'a> {
@@ -38,18 +31,42 @@ impl<'a> Model for Sim<'a> {
     ghost invariant = { IsSim };
 }
 
-/// Forces what the pairs say, and nothing else.
-fn force(forced: &mut [Option<bool>], pairs: &[(NetId, bool)])
-    requires { All (λ f. f.0.0 < length forced.old) pairs.now }
-    ensures forced { (x : ℕ) → forced_at forced.new x ≡ forced_to pairs.now x }
-    ensures long { length forced.new ≡ length forced.old }
+/// Writes the bits, the same in all runs.
+fn write_row(ins: &[bool], row: &mut [u64])
+    requires { length row.old ≡ length ins.now }
+    ensures row { bits_of 0 row.new ≡ ins.now }
+    ensures long { length row.new ≡ length row.old }
 {
-    forced.fill(None);
-    let count = pairs.len();
-    for i in 0..count {
-        let (x, value) = pairs[count - 1 - i];
-        forced[x.0 as usize] = Some(value);
+    for i in 0..ins.len() {
+        row[i] = word_of(ins[i]);
     }
+}
+
+/// The bit of the first run.
+#[tactic(auto, using(crate::proofs::FirstRun::first_runs))]
+fn first_bit(word: u64) -> bool
+    ensures { result ≡ word_bit 0 word }
+{
+    word % 2 == 1
+}
+
+/// Runs the next cycle of all runs, and so of the first.
+fn step_first(wide: &mut WideSim, row: &[u64], forced: &[(NetId, bool)])
+    requires ins { length row.now ≡ length wide.old.net.inputs }
+    requires forced { All (λ f. f.0.0 < net_count wide.old.net) forced.now }
+    ensures cycle { IsSomeAnd (option_map (bits_of 0) wide.new.last) (λ v. IsCycle wide.old.net (option_map (bits_of 0) wide.old.last) (bits_of 0 row.now) (forced_to forced.now) v) }
+    ensures net { wide.new.net ≡ wide.old.net }
+{
+    wide.step_alike(row, forced);
+}
+
+/// The value of net x in the first run.
+fn first_value(wide: &WideSim, x: NetId) -> bool
+    requires started { IsSome wide.now.last }
+    requires range { x.0 < net_count wide.now.net }
+    ensures { IfSome (option_map (bits_of 0) wide.now.last) (λ row. result ≡ bit row x.0) }
+{
+    first_bit(wide.value(x))
 }
 
 impl<'a> Sim<'a> {
@@ -58,21 +75,9 @@ impl<'a> Sim<'a> {
         ensures net { IfOk result (λ s. s.net ≡ net.now.net) }
         ensures last { IfOk result (λ s. s.last ≡ None) }
     {
-        let nets = net.input_count() as usize + net.node_count() as usize;
-        let bits = Vec::from_elem(alloc, false, nets)?;
-        let before = Vec::from_elem(alloc, false, nets)?;
-        let forced = Vec::from_elem(alloc, None, nets)?;
-        let tables = tables_of(alloc, net)?;
-        let truths = truths_of(alloc, net, &tables)?;
-        Ok(Sim {
-            net,
-            started: false,
-            bits,
-            before,
-            forced,
-            tables,
-            truths,
-        })
+        let row = Vec::from_elem(alloc, 0, net.input_count() as usize)?;
+        let wide = WideSim::new(alloc, net)?;
+        Ok(Sim { wide, row })
     }
 
     /// Runs the next cycle, and takes no memory.
@@ -85,19 +90,8 @@ impl<'a> Sim<'a> {
         ensures cycle { IsSomeAnd self.new.last (λ row. IsCycle self.old.net self.old.last ins.now (forced_to forced.now) row) }
         ensures net { self.new.net ≡ self.old.net }
     {
-        force(&mut self.forced, forced);
-        mem::swap(&mut self.bits, &mut self.before);
-        run_bits(
-            self.net,
-            &self.tables,
-            &self.truths,
-            self.started,
-            ins,
-            &self.before,
-            &self.forced,
-            &mut self.bits,
-        );
-        self.started = true;
+        write_row(ins, &mut self.row);
+        step_first(&mut self.wide, &self.row, forced);
     }
 
     /// The value of net x in the last cycle; before the first cycle there is none. It takes no memory.
@@ -106,6 +100,6 @@ impl<'a> Sim<'a> {
         requires range { x.0 < net_count self.now.net }
         ensures { IfSome self.now.last (λ row. result ≡ bit row x.0) }
     {
-        bit_at(&self.bits, x)
+        first_value(&self.wide, x)
     }
 }

@@ -249,7 +249,7 @@ fn some_row(literals: &[Literal], always: bool, now: &[u64]) -> u64
 }
 
 /// The word of a table with these literals.
-pub fn table_word(entry: Entry, literals: &[Literal], now: &[u64]) -> u64
+pub fn rows_word(entry: Entry, literals: &[Literal], now: &[u64]) -> u64
     ensures { (j : ℕ) → j < 64 → word_bit j result ≡ entry_value entry (bit (bits_of j now.now)) literals.now }
 {
     let some = some_row(literals, entry.always, now);

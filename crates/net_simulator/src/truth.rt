@@ -1,15 +1,11 @@
 //! Tables of at most six pins, each as one word that tells its values.
 //!
-//! A step then reads a value of each pin and one bit of the word, however many rows the table has.
-ghost use Rattle.std.specs.Prelude.{◌≡◌, ◌<◌, ◌≤◌, ◌++◌, ℕ, List, Bool, length, map, drop, slice_index, OnOk, IfOk, IsTrue, if◌then◌else◌};
-ghost use Rattle.table_cover.specs.Cover.{cover_value};
-ghost use Rattle.table_cover.specs.Words.{word_bit};
+//! A step then reads a value of each pin and the word, however many rows the table has.
+ghost use Rattle.std.specs.Prelude.{◌≡◌, ◌<◌, ◌≤◌, ◌++◌, length, slice_index, OnOk, IfOk};
 ghost use Rattle.flat_net.specs.Net.{net_count, node_of, IsTable};
-ghost use Rattle.net_meaning.specs.Meaning.{bit};
 ghost use Rattle.net_simulator.specs.Tables.{AreTables, entry_nets};
-ghost use Rattle.net_simulator.specs.Truth.{number_from, Tells, TellsNode, short_pins, AreTruths};
+ghost use Rattle.net_simulator.specs.Truth.{Tells, TellsNode, short_pins, AreTruths};
 
-use crate::bits::bit_at;
 use crate::tables::{Tables, entry_at, pins_in_word};
 use flat_net::FlatNet;
 use std::alloc::Global;
@@ -89,26 +85,6 @@ pub fn truths_of(alloc: Global, net: &FlatNet, tables: &Tables) -> Result<Truths
     Ok(Truths { words, pins })
 }
 
-/// The bit as a number.
-fn digit_of(bit: bool) -> u64
-    ensures { result ≡ (if bit then 1 else 0) }
-{
-    u64::from(bit)
-}
-
-/// The number whose binary digits are the values of these nets, the first one the highest.
-fn number_of(pins: &[NetId], now: &[bool]) -> u64
-    requires { length pins.now ≤ 6 }
-    ensures number { result ≡ number_from 0 (map (λ p. bit now.now p.0) pins.now) }
-    ensures below { result < 64 }
-{
-    let mut number = 0;
-    for i in 0..pins.len() {
-        number = 2 * number + digit_of(bit_at(now, pins[i]));
-    }
-    number
-}
-
 /// The word at place i.
 pub fn word_at_place(words: &[u64], i: usize) -> u64
     ensures { result ≡ slice_index words.now i }
@@ -117,13 +93,4 @@ pub fn word_at_place(words: &[u64], i: usize) -> u64
         Some(word) => *word,
         None => 0,
     }
-}
-
-/// The value of a table with this word and these pins.
-#[tactic(auto, unfolding(table_cover::specs::Words::word_bit))]
-pub fn word_value(word: u64, pins: &[NetId], now: &[bool]) -> bool
-    requires { length pins.now ≤ 6 }
-    ensures { result ≡ word_bit (number_from 0 (map (λ p. bit now.now p.0) pins.now)) word }
-{
-    (word >> number_of(pins, now)) % 2 == 1
 }

@@ -3,10 +3,7 @@
 use crate::keeping::{Texts, keep};
 use crate::stop::{Stop, bad_case};
 use crate::words::first_word;
-use crate::{
-    certificates, covers, cuts, designs, drafts, finding, hardenings, lines, names, partitions,
-    reading,
-};
+use crate::{certificates, covers, cuts, designs, drafts, hardenings, names, partitions, reading};
 use std::alloc::Global;
 
 /// What the case of this line answers. A line without words and one of `#` answer nothing.
@@ -23,7 +20,6 @@ pub fn answer(alloc: Global, texts: &mut Texts, line: &str) -> Result<String, St
 fn small_answer(alloc: Global, texts: &Texts, verb: &str, rest: &str) -> Result<String, Stop> {
     match verb {
         "name" | "voter" | "number" => names::answer(alloc, verb, rest),
-        "line" => lines::answer(alloc, texts, rest),
         "cover" | "same" | "wide" | "majority" => covers::answer(alloc, verb, rest),
         "draft" => drafts::answer(alloc, rest),
         "read" | "cuts" | "feed" => reading::answer(alloc, texts, verb, rest),
@@ -42,11 +38,10 @@ fn design_answer(alloc: Global, texts: &Texts, verb: &str, rest: &str) -> Result
         ),
         "partition" => partitions::answer(alloc, texts, rest),
         "clusters" => partitions::cluster_answer(alloc, texts, rest),
-        "harden_free" | "harden_deep" | "sweep" => { hardenings::answer(alloc, texts, verb, rest) }
-        "cert" | "certheads" | "check" | "exposure" | "explain" | "least" | "picture" => {
+        "harden_free" | "harden_deep" => hardenings::answer(alloc, texts, verb, rest),
+        "cert" | "certheads" | "check" | "least" => {
             certificates::answer(alloc, texts, verb, rest)
         }
-        "certify" => finding::answer(alloc, texts, rest),
         _ => Err(bad_case(alloc)),
     }
 }

@@ -7,7 +7,7 @@ use crate::designs::{MOST, free_of, node_id, put_change, put_net};
 use crate::escapes::put_bytes;
 use crate::faults::cert_fault;
 use crate::keeping::Texts;
-use crate::pairs::{check_text, explain_text, exposed_text, least_text, picture_text};
+use crate::pairs::{check_text, least_text};
 use crate::stop::Stop;
 use crate::words::first_word;
 use certificate::{CertFault, Certificate, Role, read_cert, write_cert};
@@ -221,9 +221,6 @@ fn answer_of(
         "cert" => read_text(alloc, bytes, n.net(), h.net()),
         "certheads" => heads_text(alloc, bytes, n.net(), h.net()),
         "check" => check_text(alloc, n, h, bytes),
-        "exposure" => exposed_text(alloc, n.net(), h.net(), bytes),
-        "explain" => explain_text(alloc, n, h, bytes),
-        "picture" => picture_text(alloc, n.net(), h.net(), bytes),
         _ => least_text(alloc, n.net(), h.net(), bytes),
     }
 }
@@ -260,8 +257,7 @@ fn answer_in(
     answer_with(alloc, texts, &n, hardened, bytes, verb)
 }
 
-/// `cert`, `certheads`, `check`, `exposure`, `explain`, `least` and `picture` of `TEXT TEXT TEXT`: an original, a hardened design and a
-/// certificate.
+/// `cert`, `certheads`, `check` and `least` of `TEXT TEXT TEXT`: an original, a hardened design and a certificate.
 pub fn answer(alloc: Global, texts: &Texts, verb: &str, rest: &str) -> Result<String, Stop> {
     let (original, rest) = first_word(rest);
     let (hardened, cert) = first_word(rest);

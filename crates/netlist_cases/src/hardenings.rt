@@ -13,8 +13,7 @@ use blif_writer::write_free;
 use certificate::write_cert;
 use flat_net::FreeNet;
 use std::alloc::Global;
-use sweep::sweep;
-use triplicate::{Form, HardenedFree, harden_deep, harden_free};
+use triplicate::{HardenedFree, harden_deep, harden_free};
 
 /// Nets and pins are few enough to be hardened.
 fn is_small(n: &FreeNet) -> bool
@@ -99,48 +98,10 @@ fn deep_answer(alloc: Global, texts: &Texts, rest: &str) -> Result<String, Stop>
     pair_text(alloc, &n, &pair)
 }
 
-/// The text of a sweep over sizes.
-fn swept_text(
-    alloc: Global,
-    n: &FreeNet,
-    form: Form,
-    version: u8,
-    most: u32,
-) -> Result<Vec<u8>, Stop>
-    requires { (version ≡ 1) ⊎ (version ≡ 2) }
-{
-    if most == 0 || !is_small(n) {
-        return Err(bad_case(alloc));
-    }
-    let text = sweep(alloc, n, form, version, most)?;
-    Ok(text)
-}
-
-/// `sweep FORM VERSION MOST TEXT`, where FORM is `plain` or `lean`.
-fn sweep_answer(alloc: Global, texts: &Texts, rest: &str) -> Result<String, Stop> {
-    let (form, rest) = first_word(rest);
-    let (version, rest) = first_word(rest);
-    let (most, text) = first_word(rest);
-    let form = if form == "lean" {
-        Form::Lean
-    } else {
-        Form::Plain
-    };
-    let version = if version == "2" { 2 } else { 1 };
-    let most = number(alloc, most)?;
-    let bytes = texts.bytes_of(text)?;
-    let n = free_of(alloc, bytes.as_slice(), MOST)?;
-    let swept = swept_text(alloc, &n, form, version, most)?;
-    let mut shown = String::new(alloc);
-    put_bytes(&mut shown, swept.as_slice())?;
-    Ok(shown)
-}
-
-/// All three, by the verb: of a hardened pair what is told, the flat text of the design, and the certificate; or a sweep.
+/// By the verb: of a hardened pair what is told, the flat text of the design, and the certificate.
 pub fn answer(alloc: Global, texts: &Texts, verb: &str, rest: &str) -> Result<String, Stop> {
     match verb {
         "harden_free" => free_answer(alloc, texts, rest),
-        "sweep" => sweep_answer(alloc, texts, rest),
         _ => deep_answer(alloc, texts, rest),
     }
 }

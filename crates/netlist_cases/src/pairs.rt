@@ -1,4 +1,4 @@
-//! The check of pairs, their least depths, and their pictures.
+//! The check of pairs, and their least depths.
 
 ghost use Rattle.std.specs.Prelude.{◌≡◌, [], IfOk};
 ghost use Rattle.certificate.specs.Cert.{Fits};
@@ -10,10 +10,7 @@ use crate::escapes::put_bytes;
 use crate::faults::cert_fault;
 use crate::stop::{Stop, stopped};
 use certificate::Certificate;
-use explaining::explain;
-use exposure::exposure;
 use flat_net::{FlatNet, FreeNet};
-use partition_graph::picture;
 use recovery_depth::{Deep, least};
 use std::alloc::{AllocError, Global};
 use tmr_base::NetId;
@@ -106,32 +103,6 @@ pub fn check_text(alloc: Global, n: &FreeNet, h: &FreeNet, bytes: &[u8]) -> Resu
     Ok(checked_text(alloc, n, h, &c)?)
 }
 
-/// Puts lines of bytes.
-fn put_lines(text: &mut String, bytes: &[u8]) -> Result<(), AllocError> {
-    for line in bytes.split(|b| *b == b'\n') {
-        put_bytes(text, line)?;
-        text.push('\n')?;
-    }
-    Ok(())
-}
-
-/// The lines of an explanation, or that there is none.
-fn lines_text(alloc: Global, bytes: &[u8]) -> Result<String, AllocError> {
-    let mut text = String::new(alloc);
-    match bytes {
-        [] => text.push_str("accepted")?,
-        [lines @ .., _] => put_lines(&mut text, lines)?,
-    }
-    Ok(text)
-}
-
-/// All places at which a rule fails, and why, by the certificate of these bytes.
-pub fn explain_text(alloc: Global, n: &FreeNet, h: &FreeNet, bytes: &[u8]) -> Result<String, Stop> {
-    let c = cert_in(alloc, n.net(), h.net(), bytes)?;
-    let lines = explain(alloc, n, h, &c)?;
-    Ok(lines_text(alloc, lines.as_slice())?)
-}
-
 /// Puts the depth of a partition, and the names of its chain, as a line.
 fn put_deep(text: &mut String, n: &FlatNet, deep: &Deep) -> Result<(), AllocError> {
     write!(text, "{}", deep.depth)?;
@@ -185,29 +156,4 @@ pub fn least_text(alloc: Global, n: &FlatNet, h: &FlatNet, bytes: &[u8]) -> Resu
         return Err(stopped(alloc, "version 2"));
     }
     plain_least(alloc, n, h, &c)
-}
-
-/// The exposure of a hardened design by the certificate of these bytes. The rules are not checked.
-pub fn exposed_text(alloc: Global, n: &FlatNet, h: &FlatNet, bytes: &[u8]) -> Result<String, Stop> {
-    let c = cert_in(alloc, n, h, bytes)?;
-    let text = exposure(alloc, n, h, &c)?;
-    let mut shown = String::new(alloc);
-    put_bytes(&mut shown, text.as_slice())?;
-    Ok(shown)
-}
-
-/// The text of the picture of a pair.
-fn drawn(alloc: Global, n: &FlatNet, h: &FlatNet, c: &Certificate) -> Result<Vec<u8>, Stop>
-    requires { Fits n.now.net h.now.net c.now }
-{
-    Ok(picture(alloc, n, h, c)?)
-}
-
-/// The text of the picture of two designs and the certificate of these bytes.
-pub fn picture_text(alloc: Global, n: &FlatNet, h: &FlatNet, bytes: &[u8]) -> Result<String, Stop> {
-    let c = cert_in(alloc, n, h, bytes)?;
-    let drawn = drawn(alloc, n, h, &c)?;
-    let mut text = String::new(alloc);
-    put_bytes(&mut text, drawn.as_slice())?;
-    Ok(text)
 }

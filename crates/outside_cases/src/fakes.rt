@@ -7,7 +7,7 @@ use std::cell::Cell;
 use std::fmt::Display;
 use std::io;
 use std::io::{ErrorKind, Read};
-use tmr_outside::{LONGEST_PIECE, Sink, StdSink, Taker, hand_out_within};
+use tmr_outside::{Counted, LONGEST_PIECE, Sink, StdSink, Taker, hand_out_within};
 
 /// Counts the bytes that it takes, and the pieces that are as long as a piece may be, and keeps none of them.
 #[derive(Drop)]
@@ -34,16 +34,17 @@ impl Taker for ByteCount {
     }
 }
 
-/// Gives four bytes at a time, is interrupted before its last read, and fails after `left` reads.
+/// Gives four bytes at a time, is interrupted before its last read, and fails in this way after `left` reads.
 #[derive(Drop)]
 struct FailingReader {
     left: u64,
+    failure: ErrorKind,
 }
 
 impl Read for FailingReader {
     fn read(&mut self, buffer: &mut [u8]) -> io::Result<usize> {
         if self.left == 0 {
-            return Err(io::Error::from(ErrorKind::Other));
+            return Err(io::Error::from(self.failure));
         }
         self.left -= 1;
         if self.left == 1 {
@@ -53,15 +54,23 @@ impl Read for FailingReader {
     }
 }
 
-/// What is answered where a reader fails after so many reads, and how many bytes were handed out.
-pub fn read_in_the_middle(alloc: Global, reads: u64, limit: u64) -> Result<String, AllocError> {
-    let mut file = FailingReader { left: reads };
+/// What is answered where a reader fails after so many reads, for want of memory or otherwise, and how many bytes were handed out.
+pub fn read_in_the_middle(
+    alloc: Global,
+    reads: u64,
+    limit: u64,
+    failure: &str,
+) -> Result<String, AllocError> {
+    let file = FailingReader {
+        left: reads,
+        failure: refusal(failure).unwrap_or(ErrorKind::Other),
+    };
     let mut taken = ByteCount {
         count: 0,
         room: limit,
         full: 0,
     };
-    let text = match hand_out_within(&mut file, limit, &mut taken) {
+    let text = match hand_out_within(&mut Counted::new(file), limit, &mut taken) {
         Ok(()) => "whole",
         Err(fault) => load_fault(fault),
     };

@@ -76,7 +76,7 @@ pub fn real_file<R: rt::Files>(
     count: u64,
     limit: u64,
 ) -> Result<String, AllocError> {
-    let mut files = DiskFiles::new(rt);
+    let mut files = DiskFiles::new(alloc, rt);
     let bytes = vec![in alloc; 7u8; count.min(1_000_000) as usize]?;
     let saved = if count == 0 {
         "not saved"

@@ -138,7 +138,7 @@ pub fn answer<R: rt::Files>(
             hold_long(alloc, &mut room.files, name, number(line, 2)),
         ),
         "pieces" => full_pieces(alloc, &mut room.files, name, number(line, 2)),
-        "read" => read_in_the_middle(alloc, number(line, 1), number(line, 2)),
+        "read" => read_in_the_middle(alloc, number(line, 1), number(line, 2), word(line, 3)),
         "out" => part_of_a_put(alloc, name, word(line, 2)),
         "disk" => real_file(rt, alloc, name, number(line, 2), number(line, 3)),
         _ => String::from_str(alloc, "no call"),

@@ -21,11 +21,11 @@ within test hay k e h = subst (λ n. cond (ltb n (length hay)) (Some n) None ≡
     below : ltb k (length hay) ≡ true
     below = grind (arith, h)
 
-no_place : (test : ℕ → Bool) (hay : List ℕ) → IsFirstByte test hay None → position_or_len test hay ≡ length hay
+pub no_place : (test : ℕ → Bool) (hay : List ℕ) → IsFirstByte test hay None → position_or_len test hay ≡ length hay
 no_place test hay h =
     position_or_len_is test hay (length hay) 0 (omega arith) (λ k below. not_true _ (h k (omega arith) below)) (λ below. absurd (omega (arith, below)))
 
-place : (test : ℕ → Bool) (hay : List ℕ) (k : ℕ) → IsFirstByte test hay (Some k) → position_or_len test hay ≡ k
+pub place : (test : ℕ → Bool) (hay : List ℕ) (k : ℕ) → IsFirstByte test hay (Some k) → position_or_len test hay ≡ k
 place test hay k h = position_or_len_is test hay k 0 (omega (arith, h.0.high)) (λ i below. not_true _ (h.0.before i (omega arith) below)) (λ _. h.1)
 
 pub first_byte : (test : ℕ → Bool) (hay : List ℕ) (r : Option ℕ) → IsFirstByte test hay r → r ≡ position test hay
@@ -40,3 +40,5 @@ pub before_none : (test : ℕ → Bool) (hay : List ℕ) → IsFirstByte test ha
 before_none test hay h = sym (take_all (position_or_len test hay) hay (omega (arith, no_place test hay h)))
 
 pub ruleset byte_stands = (before_byte, before_none)
+
+pub ruleset first_places = (place, no_place)

@@ -1,2 +1,3 @@
 pub mod FirstByte
 pub mod NextLine
+pub mod TokenSteps

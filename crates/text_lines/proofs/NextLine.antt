@@ -32,7 +32,7 @@ behind_end bytes end e = ap (λ (n : ℕ). drop (n + 1) bytes) (sym (found bytes
 pub before_all : (bytes : List ℕ) (n : ℕ) → position is_line_feed bytes ≡ None → n ≡ length bytes → take n bytes ≡ before_first is_line_feed bytes
 before_all bytes n e long = take_all n bytes (omega (arith, long)) ∙ sym (take_all (position_or_len is_line_feed bytes) bytes (missing bytes e))
 
-nothing_left : (n : ℕ) (bytes : List ℕ) → length bytes ≤ n → drop n bytes ≡ []
+pub nothing_left : (n : ℕ) (bytes : List ℕ) → length bytes ≤ n → drop n bytes ≡ []
 nothing_left n bytes le = nil_from_length (drop n bytes) (let l = length-drop n bytes in omega (arith, l, le))
 
 pub behind_all : (bytes : List ℕ) (n : ℕ) → position is_line_feed bytes ≡ None → n ≡ length bytes → drop n bytes ≡ after_first is_line_feed bytes

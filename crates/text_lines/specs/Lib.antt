@@ -1,3 +1,4 @@
 pub mod Lines
 pub mod Joined
 pub mod Pending
+pub mod Tokens

@@ -40,13 +40,16 @@ fn exit_code(status: Status) -> ExitCode
     ExitCode::from(status.code())
 }
 
+/// Runs the program over real files and standard output, and hands on nothing of what it promises.
+fn run_words(rt: &HostRuntime, words: &[String]) -> Status {
+    let mut files = DiskFiles::new(rt.alloc(), rt);
+    let mut out = StdSink::new(rt);
+    run(rt.alloc(), words, &mut files, &mut out)
+}
+
 fn main(rt: HostRuntime) -> ExitCode {
     let status = match words(&rt) {
-        Ok(words) => {
-            let mut files = DiskFiles::new(&rt);
-            let mut out = StdSink::new(&rt);
-            run(rt.alloc(), words.as_slice(), &mut files, &mut out)
-        }
+        Ok(words) => run_words(&rt, words.as_slice()),
         Err(error) => status_without_words(&error),
     };
     exit_code(status)

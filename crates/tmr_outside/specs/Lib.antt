@@ -1,3 +1,4 @@
+pub mod Beside
 pub mod Contents
 pub mod Counts
 pub mod FailedCalls

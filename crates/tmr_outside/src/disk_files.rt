@@ -4,19 +4,24 @@ ghost use Rattle.tmr_outside.specs.Pieces.{TakesFile};
 
 use crate::fault_count::FaultCount;
 use crate::gathered::Gathered;
-use crate::reading::{hand_out_within, load_fault};
+use crate::reading::hand_out_within;
+use crate::saving::save_file;
+use crate::source::{Counted, load_fault};
 use crate::{Files, LoadFault, SaveFault, Taker};
 use std::alloc::Global;
-use std::io::{ErrorKind, Write};
 use std::marker::Model;
 use std::{fs, rt};
 
 /// Real files, as the runtime has them. They tell nothing of what they hold, and are never steady. One
 /// count serves the loads and the saves of all names, and each refusal raises it. They are seen as this
 /// count.
+///
+/// A save replaces the whole file at once, where that can be done: what is saved is written beside it, synced and renamed. Elsewhere
+/// the file is written where it stands. No clause says so.
 #[derive(Drop)]
 pub struct DiskFiles<'a, R: rt::Files> {
     rt: &'a R,
+    alloc: Global,
     faults: FaultCount,
 }
 
@@ -30,11 +35,12 @@ impl<'a, R: rt::Files> Model for DiskFiles<'a, R> {
 
 impl<'a, R: rt::Files> DiskFiles<'a, R> {
     /// The files of this runtime, without faults.
-    pub fn new(rt: &'a R) -> Self
+    pub fn new(alloc: Global, rt: &'a R) -> Self
         ensures { result ≡ 0 }
     {
         DiskFiles {
             rt,
+            alloc,
             faults: FaultCount::new(),
         }
     }
@@ -51,7 +57,7 @@ fn read_file<R: rt::Files, T: Taker>(
     ensures { TakesFile (T.stands to.old) (T.stands to.new) (T.room to.old) (T.room to.new) limit None name.now (IsOk result) }
 {
     match fs::open(rt, name) {
-        Ok(mut file) => hand_out_within(&mut file, limit, to),
+        Ok(file) => hand_out_within(&mut Counted::new(file), limit, to),
         Err(e) => Err(load_fault(&e)),
     }
 }
@@ -71,25 +77,6 @@ fn gather_file<R: rt::Files>(
         Ok(gathered.bytes)
     } else {
         Err(LoadFault::Memory)
-    }
-}
-
-/// Writes a file anew. A refusal for want of memory comes only where the file was not yet opened, so that
-/// it is as before.
-fn write_anew<R: rt::Files>(rt: &R, name: &str, bytes: &[u8]) -> Result<(), SaveFault> {
-    let mut file = match fs::create(rt, name) {
-        Ok(file) => file,
-        Err(e) => {
-            return Err(if e.kind() == ErrorKind::OutOfMemory {
-                SaveFault::Memory
-            } else {
-                SaveFault::Failed
-            });
-        }
-    };
-    match file.write_all(bytes) {
-        Ok(()) => Ok(()),
-        Err(_) => Err(SaveFault::Failed),
     }
 }
 
@@ -125,7 +112,7 @@ impl<R: rt::Files> Files for DiskFiles<'_, R> {
     }
 
     fn save(&mut self, name: &str, bytes: &[u8]) -> Result<(), SaveFault> {
-        let outcome = write_anew(self.rt, name, bytes);
+        let outcome = save_file(self.rt, self.alloc, name, bytes);
         self.faults.raise_if(outcome.is_err());
         outcome
     }

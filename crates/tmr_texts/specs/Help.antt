@@ -219,7 +219,8 @@ exposure_help = joined (
     ∷ codes "          CERT: its certificate, at most 1073741824 bytes\n"
     ∷ codes "writes    nothing\n"
     ∷ codes "options   none\n"
-    ∷ codes "prints    part P copies N N N depth D near X for each partition with nodes\n"
+    ∷ codes "prints    inputs copies I I I depth 0 near X, with a certificate of version 2\n"
+    ∷ codes "          part P copies N N N depth D near X for each partition with nodes\n"
     ∷ codes "          near X\n"
     ∷ codes "          or: not accepted: rule R at PLACE\n"
     ∷ codes "statuses  0 done, 1 not accepted, 2 usage, 3 fault, 4 refused, 5 want of memory\n"
@@ -252,6 +253,7 @@ explain_help = joined (
     ∷ codes "prints    rule R at PLACE: WHY for each of the first 100 places\n"
     ∷ codes "          and N more, where there are more\n"
     ∷ codes "          or, where all rules hold, what validate prints\n"
+    ∷ codes "          behind a refusal that names a line of a file: that line\n"
     ∷ codes "statuses  0 done, 1 not accepted, 2 usage, 3 fault, 4 refused, 5 want of memory\n"
     ∷ codes "example   tmr explain and.blif and.hard.blif and.cert\n"
     ∷ [])

@@ -293,7 +293,8 @@ fn exposure_help() -> &'static str
         "          CERT: its certificate, at most 1073741824 bytes\n",
         "writes    nothing\n",
         "options   none\n",
-        "prints    part P copies N N N depth D near X for each partition with nodes\n",
+        "prints    inputs copies I I I depth 0 near X, with a certificate of version 2\n",
+        "          part P copies N N N depth D near X for each partition with nodes\n",
         "          near X\n",
         "          or: not accepted: rule R at PLACE\n",
         "statuses  0 done, 1 not accepted, 2 usage, 3 fault, 4 refused, 5 want of memory\n",
@@ -336,6 +337,7 @@ fn explain_help() -> &'static str
         "prints    rule R at PLACE: WHY for each of the first 100 places\n",
         "          and N more, where there are more\n",
         "          or, where all rules hold, what validate prints\n",
+        "          behind a refusal that names a line of a file: that line\n",
         "statuses  0 done, 1 not accepted, 2 usage, 3 fault, 4 refused, 5 want of memory\n",
         "example   tmr explain and.blif and.hard.blif and.cert\n",
     )

@@ -3,6 +3,7 @@ pub mod LoadLaws
 pub mod SaveLaws
 pub mod DesignLaws
 pub mod PairLaws
+pub mod ShownLaws
 pub mod PerformLaws
 pub mod RoomLaws
 pub mod ReplayLaws

@@ -31,6 +31,7 @@ use Rattle.schedule_replay.specs.declared.fault.ScheduleFault.{ScheduleFault}
 use Rattle.schedule_replay.specs.Document.{Listed, sched_of}
 use Rattle.certificate.specs.Starts.{counted}
 use Rattle.tmr_top.proofs.PairLaws.{one_pair, unread_pair, agrees}
+use Rattle.tmr_top.proofs.ShownLaws.{unshown_pair}
 use Rattle.tmr_top.proofs.GraphReadLaws.{one_graph_read}
 use Rattle.tmr_top.proofs.TrialVerdicts.{one_tried}
 use Rattle.tmr_texts.specs.Help.{help_text, version_text}
@@ -208,10 +209,10 @@ one_explained p held NotAccepted NotAccepted s t x y one other = refl
 one_explained p held Refused Refused s t x y one other = refl
 one_explained p held Done NotAccepted s t x y one other = absurd (explained_agrees held p one.0.pair y one.0.holds one.0.accepts other)
 one_explained p held NotAccepted Done s t x y one other = absurd (explained_agrees held p other.0.pair x other.0.holds other.0.accepts one)
-one_explained p held Done Refused s t x y one other = absurd (unread_pair held p y one.0.pair other one.0.holds)
-one_explained p held Refused Done s t x y one other = absurd (unread_pair held p x other.0.pair one other.0.holds)
-one_explained p held NotAccepted Refused s t x y one other = absurd (unread_pair held p y one.pair other one.holds)
-one_explained p held Refused NotAccepted s t x y one other = absurd (unread_pair held p x other.pair one other.holds)
+one_explained p held Done Refused s t x y one other = absurd (unshown_pair held p y one.0.pair other one.0.holds)
+one_explained p held Refused Done s t x y one other = absurd (unshown_pair held p x other.0.pair one other.0.holds)
+one_explained p held NotAccepted Refused s t x y one other = absurd (unshown_pair held p y one.pair other one.holds)
+one_explained p held Refused NotAccepted s t x y one other = absurd (unshown_pair held p x other.pair one other.holds)
 
 one_campaigned : (q : Campaigning) (held : Contents) (v w : Verdict) (s t : List (List ℕ)) (x y : List ℕ) → Campaigned q held v s x → Campaigned q held w t y → v ≡ w
 one_campaigned q held Done Done s t x y one other = refl

@@ -42,6 +42,14 @@ pair_files p = original_file p.original ∷ hardened_file p.hardened ∷ certifi
 abbrev pub replay_files : Replaying → List Load
 replay_files w = pair_files w.pair ++ schedule_file w.schedule ∷ []
 
+-- a file whose bytes are kept
+abbrev pub kept_file : Load → Load
+kept_file load = record { name = load.name; limit = load.limit; kind = Bytes }
+
+-- the three files of a pair, all kept, so that a line of them can be shown
+abbrev pub kept_pair_files : Pair → List Load
+kept_pair_files p = kept_file (original_file p.original) ∷ kept_file (hardened_file p.hardened) ∷ certificate_file p.certificate ∷ []
+
 -- the name that waves are saved under, where there is one
 abbrev pub wave_names : Option (List ℕ) → List (List ℕ)
 wave_names None = []
@@ -62,7 +70,7 @@ loads_of (TryOut t) = []
 loads_of (Certify w) = original_file w.original ∷ hardened_file w.hardened ∷ []
 loads_of (Exposure p) = pair_files p
 loads_of (Sweep w) = original_file w.original ∷ []
-loads_of (Explain p) = pair_files p
+loads_of (Explain p) = kept_pair_files p
 loads_of (Campaign w) = pair_files w.pair
 loads_of (Picture w) = pair_files w.pair
 loads_of (Help topic) = []

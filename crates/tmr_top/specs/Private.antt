@@ -9,3 +9,4 @@ pub mod PairFiles
 pub mod Replaying
 pub mod GraphCounted
 pub mod Certifying
+pub mod Shown

@@ -64,7 +64,7 @@ fn reason_of(alloc: Global, fault: FlatFault) -> Result<Vec<u8>, OutOfMemory>
 }
 
 /// The design of a library, where its flat text keeps the limit.
-fn design_of<'a>(
+pub fn design_of<'a>(
     alloc: Global,
     name: &str,
     library: Library,

@@ -14,6 +14,7 @@ mod pairs;
 mod performing;
 mod program;
 mod saves;
+mod shown_pairs;
 mod status;
 mod taker;
 

@@ -18,6 +18,20 @@ pub struct PairFiles {
     pub certificate: Vec<u8>,
 }
 
+/// The bytes of an original design and of one that was made of it.
+#[derive(Drop)]
+pub struct DesignBytes {
+    pub original: Vec<u8>,
+    pub hardened: Vec<u8>,
+}
+
+/// The bytes of a pair and its certificate.
+#[derive(Drop)]
+pub struct PairBytes {
+    pub designs: DesignBytes,
+    pub certificate: Vec<u8>,
+}
+
 /// An original design, and one that was made of it.
 #[derive(Drop)]
 pub struct Designs {

@@ -137,7 +137,7 @@ fn read_certificate<'a>(
 }
 
 /// Two designs with their certificate.
-fn join_pair(designs: Designs, certificate: Certificate) -> PairRead
+pub fn join_pair(designs: Designs, certificate: Certificate) -> PairRead
     ensures original { result.original ≡ designs.original }
     ensures hardened { result.hardened ≡ designs.hardened }
     ensures certificate { result.certificate ≡ certificate }

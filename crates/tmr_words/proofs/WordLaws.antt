@@ -5,13 +5,14 @@ use Rattle.std.specs.Option.{option_map, option_and_then}
 use Rattle.std.specs.declared.alloc.Global.{Global}
 use Rattle.std.proofs.lemmas.List.{nil_from_length, length-drop, append-nil}
 use Rattle.tmr_words.specs.declared.words.Mode.{Mode}
-use Rattle.tmr_words.specs.Words.{texts, Words, no_words, both, Taken, take_word, at_end, words_from}
+use Rattle.tmr_words.specs.Words.{texts, Words, no_words, both}
+use Rattle.tmr_words.specs.Private.WordByWord.{Taken, take_word, at_end, words_from}
 
 -- these words, and behind them what is still to be read
 abbrev pub behind : Words → Option Words → Option Words
 behind done rest = option_map (both done) rest
 
-both_assoc : (a b c : Words) → both (both a b) c ≡ both a (both b c)
+pub both_assoc : (a b c : Words) → both (both a b) c ≡ both a (both b c)
 both_assoc a b c = rw (append_assoc a.plain b.plain c.plain, append_assoc a.sizes b.sizes c.sizes, append_assoc a.versions b.versions c.versions, append_assoc a.depths b.depths c.depths, append_assoc a.forms b.forms c.forms) refl
 
 pub both_none : (a : Words) → both a no_words ≡ a
@@ -27,11 +28,11 @@ next i words d h = ap texts (let e : drop i words ≡ get_or words i d ∷ drop 
 all_done : (i : ℕ) (words : List (String Global)) → length words ≤ i → texts (drop i words) ≡ []
 all_done i words h = ap texts (nil_from_length (drop i words) (omega (arith, length-drop i words)))
 
-step : (mode : Mode) (word : List ℕ) (rest : List (List ℕ)) → words_from mode (word ∷ rest) ≡ option_and_then (λ taken. option_map (both taken.adds) (words_from taken.next rest)) (take_word mode word)
+pub step : (mode : Mode) (word : List ℕ) (rest : List (List ℕ)) → words_from mode (word ∷ rest) ≡ option_and_then (λ taken. option_map (both taken.adds) (words_from taken.next rest)) (take_word mode word)
 unfolding words_from
 step mode word rest = refl
 
-at_last : (mode : Mode) → words_from mode [] ≡ at_end mode
+pub at_last : (mode : Mode) → words_from mode [] ≡ at_end mode
 unfolding words_from
 at_last mode = refl
 

@@ -1,8 +1,7 @@
 -- What the words of a command show of where they lie.
-use Rattle.std.specs.Prelude.{ℕ, List, map, Option, Vec}
+use Rattle.std.specs.Prelude.{ℕ, List, map, Option}
 use Rattle.std.specs.Borrow.{Bor}
 use Rattle.std.specs.Option.{option_map}
-use Rattle.std.specs.declared.alloc.Global.{Global}
 use Rattle.tmr_words.specs.declared.line.PairWords.{PairWords}
 use Rattle.tmr_words.specs.declared.line.FlatWords.{FlatWords}
 use Rattle.tmr_words.specs.declared.replay_words.ReplayWords.{ReplayWords}

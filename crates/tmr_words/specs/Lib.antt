@@ -5,4 +5,4 @@ pub mod Topics
 pub mod TrialWords
 pub mod Trials
 pub mod Words
-pub mod WordsRead
+pub mod Private

@@ -195,7 +195,15 @@ said read default (value ∷ other ∷ values) = None
 unfoldable pub hardening_with : Form → ℕ → ℕ → ℕ → List (List ℕ) → Option Command
 hardening_with form size version most (original ∷ hardened ∷ certificate ∷ []) =
     if is_file original && is_file hardened && is_file certificate && not (bytes_eq hardened certificate)
-    then Some (Harden (record { original = original; hardened = hardened; certificate = certificate; form = form; size = size; version = version; most = most }))
+    then Some (Harden (record {
+      original = original;
+      hardened = hardened;
+      certificate = certificate;
+      form = form;
+      size = size;
+      version = version;
+      most = most;
+    }))
     else None
 hardening_with form size version most words = None
 

@@ -1,13 +1,11 @@
 -- How the words behind a command word are read.
 use Rattle.std.specs.Prelude.{ℕ, ◌==◌, ◌&&◌, nat_lt, Bool, List, [], ◌∷◌, ◌++◌, map, length, take, drop, Option}
 use Rattle.std.specs.Prelude.{Some, None, codes, slice_index, string_bytes, String, if◌then◌else◌}
-use Rattle.std.specs.Option.{option_map, option_and_then}
+use Rattle.std.specs.Option.{option_map}
 use Rattle.std.specs.Str.{bytes_eq}
 use Rattle.std.specs.declared.alloc.Global.{Global}
 use Rattle.tmr_words.specs.declared.words.Setting.{Setting}
 use Rattle.tmr_words.specs.declared.words.Setting.TheVariants.{Size, Version, Depth, Form}
-use Rattle.tmr_words.specs.declared.words.Mode.{Mode}
-use Rattle.tmr_words.specs.declared.words.Mode.TheVariants.{Options, Value, Plain}
 
 -- the words as lists of bytes
 abbrev pub texts : List (String Global) → List (List ℕ)
@@ -80,42 +78,69 @@ has_dash word = slice_index word 0 == 45
 abbrev pub is_option : List ℕ → Bool
 is_option word = nat_lt 1 (length word) && has_dash word
 
--- what a word adds to those that are read, and how the next word is read
-pub record Taken : Type 0 where
-  pub adds : Words
-  pub next : Mode
+-- What a word before the first `--` is: an option whose value is the next word, or what it adds by itself, or a word that cannot stand there.
+pub data Kind : Type 0 where
+  Awaits : Setting → Kind
+  Adds : Words → Kind
+  Unknown : Kind
 
--- `--size` waits for the next word, which is its value, and `--size=VALUE` has its value; so it is for each option
-abbrev pub take_setting : Setting → List ℕ → Option Taken → Option Taken
-take_setting setting word otherwise =
-    if bytes_eq word (setting_text setting) then Some (record { adds = no_words; next = Value setting })
-    else if begins_with (equals_text setting) word then Some (record { adds = given_value setting (drop (length (equals_text setting)) word); next = Options })
+-- `--size` has its value in the next word, and `--size=VALUE` has it with it; so it is for each option
+abbrev pub as_option : Setting → List ℕ → Kind → Kind
+as_option setting word otherwise =
+    if bytes_eq word (setting_text setting) then Awaits setting
+    else if begins_with (equals_text setting) word then Adds (given_value setting (drop (length (equals_text setting)) word))
     else otherwise
 
--- one of the four options
-unfoldable pub take_option : List ℕ → Option Taken
-take_option word = take_setting Size word (take_setting Version word (take_setting Depth word (take_setting Form word None)))
+-- one of the four options, or a plain word
+unfoldable pub kind : List ℕ → Kind
+kind word =
+    if is_option word
+    then as_option Size word (as_option Version word (as_option Depth word (as_option Form word Unknown)))
+    else Adds (plain_word word)
 
--- Before the first `--` a word may be an option, or the value that the option before it waits for, which does not begin with `-`. That
--- `--` adds nothing, and behind it all words are plain.
-unfoldable pub take_word : Mode → List ℕ → Option Taken
-take_word Plain word = Some (record { adds = plain_word word; next = Plain })
-take_word (Value setting) word = if has_dash word then None else Some (record { adds = given_value setting word; next = Options })
-take_word Options word =
-    if bytes_eq word (codes "--") then Some (record { adds = no_words; next = Plain })
-    else if is_option word then take_option word
-    else Some (record { adds = plain_word word; next = Options })
+-- The value of an option that awaits it. It does not begin with `-`.
+abbrev pub value_in : Setting → List ℕ → Option Words
+value_in setting word = if has_dash word then None else Some (given_value setting word)
 
--- all words are read; no option may still wait for its value
-abbrev pub at_end : Mode → Option Words
-at_end Options = Some no_words
-at_end (Value setting) = None
-at_end Plain = Some no_words
+-- these words and those behind them, where all can stand where they do
+abbrev pub joined : Option Words → Option Words → Option Words
+joined None behind = None
+joined (Some these) behind = option_map (both these) behind
 
-unfoldable pub words_from : Mode → List (List ℕ) → Option Words
-words_from mode [] = at_end mode
-words_from mode (word ∷ words) = option_and_then (λ taken. option_map (both taken.adds) (words_from taken.next words)) (take_word mode word)
+-- a last word, which awaits nothing
+abbrev pub last_word : Kind → Option Words
+last_word (Awaits setting) = None
+last_word (Adds these) = Some these
+last_word Unknown = None
 
--- the words behind a command word
+-- A word, the word behind it, what is behind both, and what is behind the first.
+abbrev pub first_words : Kind → List ℕ → Option Words → Option Words → Option Words
+first_words (Awaits setting) value behind_both behind = joined (value_in setting value) behind_both
+first_words (Adds these) next behind_both behind = joined (Some these) behind
+first_words Unknown next behind_both behind = None
+
+-- words among which there is no `--`
+unfoldable pub mixed_words : List (List ℕ) → Option Words
+mixed_words [] = Some no_words
+mixed_words (word ∷ []) = last_word (kind word)
+mixed_words (word ∷ next ∷ words) = first_words (kind word) next (mixed_words words) (mixed_words (next ∷ words))
+
+abbrev pub is_dashes : List ℕ → Bool
+is_dashes word = bytes_eq word (codes "--")
+
+-- the words before the first `--`, or all
+unfoldable pub before_dashes : List (List ℕ) → List (List ℕ)
+before_dashes [] = []
+before_dashes (word ∷ words) = if is_dashes word then [] else word ∷ before_dashes words
+
+-- the words behind the first `--`, or none
+unfoldable pub behind_dashes : List (List ℕ) → List (List ℕ)
+behind_dashes [] = []
+behind_dashes (word ∷ words) = if is_dashes word then words else behind_dashes words
+
+abbrev pub plain_words : List (List ℕ) → Words
+plain_words words = record { plain = words; sizes = []; versions = []; depths = []; forms = [] }
+
+-- The words behind a command word. Before the first `--` options and plain words are mixed. Behind it all words are plain.
 abbrev pub words_of : List (List ℕ) → Option Words
-words_of words = words_from Options words
+words_of words = joined (mixed_words (before_dashes words)) (Some (plain_words (behind_dashes words)))

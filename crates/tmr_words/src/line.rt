@@ -2,7 +2,7 @@
 ghost use Rattle.std.specs.Prelude.{◌≡◌, ◌∷◌, [], IfOk};
 ghost use Rattle.std.specs.Option.{option_map};
 ghost use Rattle.tmr_words.specs.Words.{texts};
-ghost use Rattle.tmr_words.specs.WordsRead.{words_in};
+ghost use Rattle.tmr_words.specs.Private.WordsRead.{words_in};
 ghost use Rattle.tmr_words.specs.Line.{Validate, Report, Guard, CheckGuard, Exposure, Explain, Campaign, Picture, is_file, pair_of, over_pair, over_trial, over_help, version_of, flattening_of, guarding_of, over_guarding, graphing_of, graph_reading_of, replay_over, replaying_of, waving_of, campaigning_of, picturing_of, plain_meaning, meaning_of, line_of};
 ghost use Rattle.tmr_words.specs.FileWords.{pair_in, word_in, guarding_in, command_in, read_words as read_texts};
 

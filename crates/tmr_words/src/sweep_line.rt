@@ -1,7 +1,7 @@
 //! What the words behind `sweep` mean.
 ghost use Rattle.std.specs.Prelude.{◌≡◌, ◌<◌};
 ghost use Rattle.std.specs.Option.{option_map};
-ghost use Rattle.tmr_words.specs.WordsRead.{words_in};
+ghost use Rattle.tmr_words.specs.Private.WordsRead.{words_in};
 ghost use Rattle.tmr_words.specs.Line.{sweeping_with, sweeping_as, sweeping_of};
 ghost use Rattle.tmr_words.specs.FileWords.{sweeping_in, read_words as read_texts};
 

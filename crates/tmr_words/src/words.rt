@@ -1,8 +1,9 @@
 //! The words behind the command word: plain words and options.
 ghost use Rattle.std.specs.Prelude.{◌≡◌, IfOk, OnOk};
 ghost use Rattle.std.specs.Option.{option_map};
-ghost use Rattle.tmr_words.specs.Words.{texts, has_no_options, has_versions_alone, has_no_sizes, setting_text, equals_text, has_dash, is_option, take_setting, take_option, take_word, at_end, both, words_of};
-ghost use Rattle.tmr_words.specs.WordsRead.{words_in, item_in, taken_in};
+ghost use Rattle.tmr_words.specs.Words.{texts, has_no_options, has_versions_alone, has_no_sizes, setting_text, equals_text, has_dash, is_option, both, words_of};
+ghost use Rattle.tmr_words.specs.Private.WordByWord.{take_setting, take_option, take_word, at_end};
+ghost use Rattle.tmr_words.specs.Private.WordsRead.{words_in, item_in, taken_in};
 
 use std::alloc::{AllocError, Global};
 
@@ -112,7 +113,7 @@ fn take_one<'a>(
 }
 
 /// What an option says, or nothing where it is none that is known.
-#[tactic(auto, unfolding(crate::specs::Words::take_option))]
+#[tactic(auto, unfolding(crate::specs::Private::WordByWord::take_option))]
 fn take_known<'a>(word: &'a str) -> Option<TakenWord<'a>>
     ensures { option_map taken_in result ≡ take_option word.now }
 {
@@ -138,7 +139,7 @@ fn is_option_word(word: &str) -> bool
 }
 
 /// What a word adds, and how the next one is read, or nothing where it cannot stand there.
-#[tactic(auto, unfolding(crate::specs::Words::take_word))]
+#[tactic(auto, unfolding(crate::specs::Private::WordByWord::take_word))]
 fn next_word<'a>(mode: Mode, word: &'a str) -> Option<TakenWord<'a>>
     ensures { option_map taken_in result ≡ take_word mode word.now }
 {

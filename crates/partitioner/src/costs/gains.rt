@@ -161,8 +161,9 @@ fn count_readers(n: &FlatNet, p: &Partitioning, gains: &mut Gains, i: u32)
     }
 }
 
-/// Counts where node i is read, and then the nodes that it reads, from the first to one that has over eight
-/// times more readers than node i reads nodes, or until turns run out.
+/// Counts where node i is read, and then the nodes that it reads, from the first to one that has over 16 readers and more than one for
+/// eight partitions, or until turns run out. Such a node is read in many partitions: to look it up in those that are tried takes less
+/// time than to go through its readers.
 pub fn count_gains(n: &FlatNet, p: &Partitioning, gains: &mut Gains, i: u32)
     requires tracks { Tracks n.now.net p.now }
     requires node { i < length n.now.net.nodes }
@@ -173,9 +174,10 @@ pub fn count_gains(n: &FlatNet, p: &Partitioning, gains: &mut Gains, i: u32)
     let _nodes = nodes_of(n);
     count_readers(n, p, gains, i);
     let row = p.sources.row(i);
+    let most = (p.count / 8).max(16) as usize;
     for x in row {
         let readers = p.readers.row(*x);
-        if readers.len() / 8 > row.len() || gains.turn == u32::MAX {
+        if readers.len() > most || gains.turn == u32::MAX {
             return;
         }
         gains.turn += 1;

@@ -1,4 +1,4 @@
-//! `explain ORIG HARD CERT`: every place at which a rule fails, and why. It saves nothing.
+//! `explain ORIG HARD CERT`: every place at which a rule fails, and why; or the line of a file for which that file is refused. It saves nothing.
 ghost use Rattle.std.specs.Prelude.{IfOk};
 ghost use Rattle.tmr_words.specs.Line.{Explain};
 ghost use Rattle.tmr_words.specs.FileWords.{pair_in};
@@ -11,7 +11,8 @@ use crate::conclusion::conclude;
 use crate::decision::{Decision, Work, denying, telling};
 use crate::loads::stopped;
 use crate::pair_files::PairRead;
-use crate::pairs::{accepted_text, check_pair, open_pair};
+use crate::pairs::{accepted_text, check_pair};
+use crate::shown_pairs::open_shown_pair;
 use explaining::explain;
 use std::alloc::Global;
 use tmr_base::OutOfMemory;
@@ -45,7 +46,7 @@ pub fn perform<F: Files>(
     ensures { Performed (Explain (pair_in words.now)) (F.seen files.old) (F.seen files.new)
         (F.steady files.old) (F.steady files.new) result }
 {
-    match open_pair(alloc, words, files) {
+    match open_shown_pair(alloc, words, files) {
         Ok(pair) => conclude(alloc, tell(alloc, words, &pair), files),
         Err(stop) => stopped(alloc, stop),
     }

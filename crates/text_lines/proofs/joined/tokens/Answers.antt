@@ -1,20 +1,14 @@
-use Rattle.std.proofs.Common.{ap, ◌∙◌, ◌==◌, not, length}
-use Rattle.std.specs.Slice.Iter.{split_rest, split_done, split_callee}
-use Rattle.std.proofs.lemmas.Iterator.Consumers.{map_from_collect, YieldsList-from_filter}
-use Rattle.std.proofs.lemmas.Iterator.Splits.{YieldsList-from_slice_split}
-use Rattle.std.proofs.Common.{rules, tests}
-use Rattle.text_lines.specs.Joined.{is_blank, tokens}
+use Rattle.std.proofs.Common.{take, refl}
+use Rattle.text_lines.specs.Tokens.{plain}
+use Rattle.text_lines.specs.Joined.{tokens}
+use Rattle.text_lines.proofs.TokenSteps.{found_more, all_found, is_nothing}
 use Rattle.text_lines.proofs.joined.tokens.Goals as goal
 
+pub loop-rest-preserved : goal.loop-rest-preserved
+loop-rest-preserved c =
+    found_more (tokens c.args.text.now) (plain c.loop-rest.found.items) (plain c.push_token.new.found.items) c.loop-rest.rest.now c.behind-rest.result.now
+    c.word_end-end.result (take c.word_end-end.result c.loop-rest.rest.now)
+    c.loop-rest.invariant c.in_ok-push_token.ensures c.word_end-end.ensures refl c.behind-rest.ensures
+
 pub returns : goal.returns
-unfolding tokens
-returns c =
-    map_from_collect _ c.collect.ensures.ran
-    (YieldsList-from_filter _ (λ token. not (length token == 0))
-    (YieldsList-from_slice_split _ is_blank c.args.text.now
-    (ap split_rest c.filter.ensures.source ∙ c.split.ensures.rest)
-    (ap split_done c.filter.ensures.source ∙ c.split.ensures.done)
-    (ap split_callee c.filter.ensures.source ∙ c.split.ensures.closure)
-    (λ x r q k. search (rules, tests)))
-    c.filter.ensures.closure
-    (λ x r q k. search (rules, tests)))
+returns c = all_found (tokens c.args.text.now) (plain c.loop-rest.found.items) c.loop-rest.rest.now c.loop-rest.invariant (is_nothing c.loop-rest.rest.now c.loop-rest-test.ensures)

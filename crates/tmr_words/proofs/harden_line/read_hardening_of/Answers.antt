@@ -1,6 +1,6 @@
 use Rattle.std.proofs.Common.{List, ℕ, ◌∙◌, sym, ap}
 use Rattle.std.specs.Borrow.{Bor}
-use Rattle.tmr_words.specs.WordsRead.{words_in}
+use Rattle.tmr_words.specs.Private.WordsRead.{words_in}
 use Rattle.tmr_words.specs.FileWords.{read_words}
 use Rattle.tmr_words.specs.Line.{said, positive_number, version_number, hardening_with}
 use Rattle.tmr_words.proofs.LineLaws.{all_said}

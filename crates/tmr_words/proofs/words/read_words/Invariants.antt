@@ -1,6 +1,7 @@
 use Rattle.std.proofs.Common.{◌≡◌, drop}
-use Rattle.tmr_words.specs.Words.{texts, words_from, words_of}
-use Rattle.tmr_words.specs.WordsRead.{words_in}
+use Rattle.tmr_words.specs.Words.{texts, words_of}
+use Rattle.tmr_words.specs.Private.WordByWord.{words_from}
+use Rattle.tmr_words.specs.Private.WordsRead.{words_in}
 use Rattle.tmr_words.proofs.WordLaws.{behind}
 use Rattle.tmr_words.proofs.words.read_words.Given as goal
 

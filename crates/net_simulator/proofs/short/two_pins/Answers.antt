@@ -1,0 +1,10 @@
+use Rattle.std.proofs.Common.{◌∙◌, ◌∷◌, []}
+use Rattle.table_cover.specs.Words.{word_bit}
+use Rattle.net_simulator.proofs.ShortTables.{chosen_half}
+use Rattle.net_simulator.proofs.short.two_pins.Goals as goal
+
+pub returns : goal.returns
+returns c = λ x j is h l.
+    c.merged.ensures j l
+    ∙ chosen_half (word_bit j c.args.a) (word_bit j c.one_pin-zero.result) (word_bit j c.one_pin-one.result) c.args.word c.args.high (word_bit j x ∷ [])
+    (c.one_pin-zero.ensures x j is h l) (c.one_pin-one.ensures x j is h l)
