@@ -1,19 +1,18 @@
 -- One cycle more of a schedule of pairs is drawn.
-use Rattle.std.proofs.Common.{◌≡◌, ◌≢◌, ℕ, zero, suc, ◌+◌, ◌*◌, ◌<◌, ◌≤◌, ◌⊎◌, inl, inr, Bool, true, false, cond, ◌&&◌, List, [], ◌∷◌, ◌++◌, length, map, get_or, Option, Some, None, refl, sym, ◌∙◌, ap, subst, arith, append_assoc, All}
+use Rattle.std.proofs.Common.{◌≡◌, ◌≢◌, ℕ, zero, suc, ◌+◌, ◌<◌, ◌≤◌, ◌⊎◌, inl, inr, Bool, true, false, cond, ◌&&◌, List, [], ◌∷◌, ◌++◌, length, map, Option, Some, None, refl, sym, ◌∙◌, ap, subst, arith, append_assoc, All}
 use Rattle.std.specs.Prelude.{◌==◌, ◌-◌, nat_lt, nat_le, slice_get, IfSome, Contains}
 use Rattle.std.specs.List.{range_with_len, flat_map, list_all}
 use Rattle.std.proofs.lemmas.Bool.{cases_lt, cases_eq, eq-eqb, ne_eqb, cond-true, cond-false}
 use Rattle.std.proofs.lemmas.Bool.Decides.{nat_tests}
-use Rattle.std.proofs.lemmas.Grind.{flat_map-append}
 use Rattle.std.proofs.lemmas.List.{length-append, flat_map_more}
-use Rattle.std.proofs.lemmas.List.Elements.{All-append, All-push, All-weaker, Contains-append_left, Contains-append_right}
+use Rattle.std.proofs.lemmas.List.Elements.{All-append, All-push, Contains-append_left}
 use Rattle.std.proofs.lemmas.List.Folds.{list_all-append}
 use Rattle.std.proofs.lemmas.List.FromFn.{map-range_with_len_more}
 use Rattle.tmr_base.specs.declared.copies.CopyNo.{CopyNo}
 use Rattle.tmr_base.specs.declared.ids.Upset.{Upset}
 use Rattle.flat_net.specs.Net.{Net}
 use Rattle.flat_net.proofs.Slots.{slot_within}
-use Rattle.certificate.specs.Cert.{PlainCert, Fits, depth_of, part_depth}
+use Rattle.certificate.specs.Cert.{PlainCert, depth_of}
 use Rattle.certificate.specs.Schedules.{IsIn, Allowed}
 use Rattle.schedule_replay.specs.Schedule.{PlainSchedule, IsBefore}
 use Rattle.schedule_replay.proofs.Apart.{one_domain}
@@ -21,10 +20,10 @@ use Rattle.tmr_trial.specs.declared.near_pairs.NearPair.{NearPair}
 use Rattle.tmr_trial.specs.Numbers.{state_after}
 use Rattle.tmr_trial.specs.Schedules.{cycle_draws, state_before, row_drawn}
 use Rattle.tmr_trial.specs.NearDrawing.{HasRows, HasPairs}
-use Rattle.tmr_trial.specs.NearSchedules.{IsTooNear, IsNearSchedule, first_drawn, pair_drawn, pair_state, pairs_until, with_pair, is_turned, pair_upsets}
+use Rattle.tmr_trial.specs.NearSchedules.{IsTooNear, IsNearSchedule, pair_drawn, pair_state, pairs_until, with_pair, is_turned, pair_upsets}
 use Rattle.tmr_trial.proofs.Cycles.{after_row, draws_alone, draws_upset}
-use Rattle.tmr_trial.proofs.MemberLaws.{HasRole, role_in}
-use Rattle.tmr_trial.proofs.PairLaws.{IsPairOf, pair_facts}
+use Rattle.tmr_trial.proofs.MemberLaws.{role_in}
+use Rattle.tmr_trial.proofs.PairLaws.{pair_facts}
 
 -- ---- the rows
 
@@ -374,7 +373,7 @@ module _ (k : PlainCert) where
       go (inr l) = omega (arith, l, near.apart)
 
   some_refuted : (pairs : List NearPair) → All (IsTooNear k) pairs → 0 < length (flat_map pair_upsets pairs) → Allowed (flat_map pair_upsets pairs) k → ⊥
-  some_refuted [] near some = absurd (omega arith)
+  some_refuted [] near some allowed = omega (arith, some)
   some_refuted (q ∷ pairs) near some allowed = pair_refutes q (flat_map pair_upsets pairs) (near zero q (omega arith)) allowed
 
   pub near_refused : (number : ℕ) (n h : Net) (cycles : ℕ) (s : PlainSchedule) → IsNearSchedule number n h k cycles s → 0 < length s.upsets → Allowed s.upsets k → ⊥

@@ -1,10 +1,9 @@
 -- A schedule of pairs that is being drawn. Private functions alone cite it.
-use Rattle.std.specs.Prelude.{◌≡◌, ◌*◌, ℕ, ◌+◌, ◌<◌, ◌≤◌, nat_lt, nat_le, List, [], length, map, All}
+use Rattle.std.specs.Prelude.{◌≡◌, ◌*◌, ℕ, ◌<◌, ◌≤◌, nat_lt, nat_le, [], length, map, All}
 use Rattle.std.specs.List.{range_with_len, flat_map, list_all}
 use Rattle.flat_net.specs.Net.{Net}
 use Rattle.certificate.specs.Cert.{PlainCert}
 use Rattle.schedule_replay.specs.Schedule.{PlainSchedule}
-use Rattle.tmr_trial.specs.declared.near_pairs.NearPair.{NearPair}
 use Rattle.tmr_trial.specs.NearSchedules.{pair_state, pairs_until, pair_upsets}
 use Rattle.tmr_trial.specs.Schedules.{row_drawn, state_before}
 

@@ -1,4 +1,4 @@
-use Rattle.std.proofs.Common.{ap, ◌+◌, sym, arith}
+use Rattle.std.proofs.Common.{arith}
 use Rattle.tmr_trial.proofs.MemberLaws.{one_more}
 use Rattle.tmr_trial.proofs.members.members_of.Goals as goal
 

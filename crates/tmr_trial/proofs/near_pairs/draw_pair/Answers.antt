@@ -1,4 +1,4 @@
-use Rattle.std.proofs.Common.{◌≡◌, List, length, ℕ, ap, ◌∙◌, arith}
+use Rattle.std.proofs.Common.{◌≡◌, length, ap, ◌∙◌, arith}
 use Rattle.tmr_base.specs.declared.copies.CopyNo.{CopyNo}
 use Rattle.tmr_trial.specs.NearSchedules.{nodes_among}
 use Rattle.tmr_trial.proofs.MemberLaws.{few_listed}
