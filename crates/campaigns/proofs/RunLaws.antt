@@ -1,7 +1,8 @@
 -- What the runs of a campaign come to.
-use Rattle.std.proofs.Common.{◌≡◌, ℕ, zero, suc, ◌+◌, ◌*◌, ◌<◌, ◌≤◌, ◌⊎◌, inl, inr, List, [], ◌∷◌, ◌++◌, length, get_or, take, slice_get, Option, Some, None, refl, sym, ap, subst, ◌∙◌, arith}
+use Rattle.std.proofs.Common.{◌≡◌, ℕ, zero, suc, ◌+◌, ◌*◌, ◌<◌, ◌≤◌, ◌⊎◌, inl, inr, List, [], ◌∷◌, ◌++◌, length, get_or, take, slice_get, Option, Some, None, refl, sym, ap, subst, ◌∙◌, append_assoc, arith}
 use Rattle.std.specs.Prelude.{◌%◌, ◌^◌, All, Bool, true, false, sum_by, slice_index, filter, IfSome, if◌then◌else◌}
-use Rattle.std.proofs.lemmas.List.{length-append}
+use Rattle.std.specs.List.{flat_map}
+use Rattle.std.proofs.lemmas.List.{length-append, flat_map_more}
 use Rattle.std.proofs.lemmas.List.Elements.{All-append, All-filter, All-take, All-weaker}
 use Rattle.std.proofs.lemmas.List.FromFn.{length-map-range_with_len}
 use Rattle.std.proofs.lemmas.List.Sums.{length-filter, count_by-le-length, sum_by_more, sum_by-le}
@@ -28,8 +29,9 @@ use Rattle.tmr_trial.specs.Schedules.{IsDrawnSchedule}
 use Rattle.tmr_trial.specs.NearSchedules.{IsNearSchedule}
 use Rattle.campaigns.specs.declared.first_wrong.WrongOutput.{WrongOutput}
 use Rattle.campaigns.specs.declared.sums.CampaignSums.{CampaignSums}
-use Rattle.campaigns.specs.Campaign.{AreCampaignSchedules, AreSumsOf, IsCampaign}
-use Rattle.campaigns.specs.NearCampaign.{IsKeptWrong, IsFirst}
+use Rattle.certificate.specs.Text.{line_text}
+use Rattle.campaigns.specs.Campaign.{AreCampaignSchedules, AreSumsOf, IsCampaign, campaign_lines, campaign_text}
+use Rattle.campaigns.specs.NearCampaign.{IsKeptWrong, IsFirst, first_wrong_line, near_lines}
 use Rattle.campaigns.specs.Private.Running.{IsRunnable, IsBounded}
 
 -- ---- the schedules
@@ -225,3 +227,24 @@ campaign_is number cycles n h k list outcomes sums masks drawn run replays are =
       none_wrong = are.wrong ∙ none.0;
       none_late = are.late ∙ none.1;
     }
+
+-- ---- the lines
+
+-- five pieces put one behind the other
+pub three_words : (old first second third fourth new a x y z : List ℕ) → first ≡ old ++ a → second ≡ first ++ (32 ∷ x) → third ≡ second ++ (32 ∷ y) → fourth ≡ third ++ (32 ∷ z) → new ≡ fourth ++ (10 ∷ []) → new ≡ old ++ (a ++ ((32 ∷ (x ++ (32 ∷ (y ++ (32 ∷ z))))) ++ (10 ∷ [])))
+three_words old first second third fourth new a x y z e1 e2 e3 e4 e5 =
+    let words : fourth ≡ first ++ (32 ∷ (x ++ (32 ∷ (y ++ (32 ∷ z))))) =
+    e4 ∙ (ap (λ (m : List ℕ). m ++ (32 ∷ z)) e3 ∙ (append_assoc second (32 ∷ y) (32 ∷ z) ∙ (ap (λ (m : List ℕ). m ++ (32 ∷ (y ++ (32 ∷ z)))) e2 ∙ append_assoc first (32 ∷ x) (32 ∷ (y ++ (32 ∷ z)))))) in
+    e5
+    ∙ (ap (λ (m : List ℕ). m ++ (10 ∷ [])) words
+    ∙ (append_assoc first (32 ∷ (x ++ (32 ∷ (y ++ (32 ∷ z))))) (10 ∷ [])
+    ∙ (ap (λ (m : List ℕ). m ++ ((32 ∷ (x ++ (32 ∷ (y ++ (32 ∷ z))))) ++ (10 ∷ []))) e1 ∙ append_assoc old a ((32 ∷ (x ++ (32 ∷ (y ++ (32 ∷ z))))) ++ (10 ∷ [])))))
+
+pub near_told : (n : Net) (sums : CampaignSums) (first : Option WrongOutput) (w : WrongOutput) (old new : List ℕ) → first ≡ Some w → old ≡ campaign_text sums → new ≡ old ++ line_text (first_wrong_line n w) → new ≡ flat_map line_text (near_lines n sums first)
+near_told n sums first w old new is before more =
+    more
+    ∙ (ap (λ (text : List ℕ). text ++ line_text (first_wrong_line n w)) before
+    ∙ (flat_map_more line_text [] (campaign_lines sums) (first_wrong_line n w) ∙ ap (λ (o : Option WrongOutput). flat_map line_text (near_lines n sums o)) (sym is)))
+
+pub five_told : (n : Net) (sums : CampaignSums) (first : Option WrongOutput) (text : List ℕ) → first ≡ None → text ≡ campaign_text sums → text ≡ flat_map line_text (near_lines n sums first)
+five_told n sums first text is told = told ∙ ap (λ (o : Option WrongOutput). flat_map line_text (near_lines n sums o)) (sym is)

@@ -146,7 +146,7 @@ module _ (outcomes : List Outcome) (j i : ℕ) (o : Outcome) (d : Difference) (o
   as_new u v (inr (same, inr (here, run))) is = inr (same ∙ sym is.cycle, inr (here ∙ sym is.output, omega (arith, run, is.run)))
 
   add_none : (first : Option WrongOutput) → is_wrong d ≡ false → IsFirst (IsSeenWrong outcomes j i) first → IsFirst (IsSeenWrong outcomes j (i + 1)) first
-  add_none first no is = first_same (IsSeenWrong outcomes j i) (IsSeenWrong outcomes j (i + 1)) older back first is
+  add_none first test is = first_same (IsSeenWrong outcomes j i) (IsSeenWrong outcomes j (i + 1)) older back first is
     where
       back : (w : WrongOutput) → IsSeenWrong outcomes j (i + 1) w → IsSeenWrong outcomes j i w
       back w seen = go (newer w seen)

@@ -1,5 +1,5 @@
 //! The first wrong output of several runs.
-ghost use Rattle.std.specs.Prelude.{◌≡◌, ◌+◌, ◌<◌, ◌≤◌, length};
+ghost use Rattle.std.specs.Prelude.{◌≡◌, ◌+◌, ◌<◌, ◌≤◌, Some, length, slice_get};
 ghost use Rattle.schedule_replay.specs.Outcome.{is_wrong};
 ghost use Rattle.campaigns.specs.NearCampaign.{IsFirst, IsKeptWrong};
 ghost use Rattle.campaigns.specs.Private.Seeking.{IsSeenWrong, is_earlier, earlier_one, with_difference};
@@ -55,6 +55,14 @@ fn with_difference(first: Option<WrongOutput>, run: u32, d: &Difference) -> Opti
     Some(earlier_one(first, w))
 }
 
+/// Difference i.
+fn difference_at(differences: &[Difference], i: usize) -> &Difference
+    requires { i < length differences.now }
+    ensures { slice_get differences.now i ≡ Some result.now }
+{
+    &differences[i]
+}
+
 /// The first one, where the differences of run j are looked at too.
 fn with_run(outcomes: &[Outcome], j: u32, first: Option<WrongOutput>) -> Option<WrongOutput>
     requires within { j < length outcomes.now }
@@ -64,7 +72,8 @@ fn with_run(outcomes: &[Outcome], j: u32, first: Option<WrongOutput>) -> Option<
     let mut found = first;
     let differences = outcomes[j as usize].first.as_slice();
     for i in 0..differences.len() {
-        found = with_difference(found, j, &differences[i]);
+        let d = difference_at(differences, i);
+        found = with_difference(found, j, d);
     }
     found
 }

@@ -38,6 +38,24 @@ pub fn campaign_text(alloc: Global, sums: &CampaignSums) -> Result<Vec<u8>, OutO
     Ok(out)
 }
 
+/// Puts a blank and a word.
+fn put_word(out: &mut Vec<u8>, word: &[u8]) -> Result<(), AllocError>
+    ensures { OnOk result (out.new.items ≡ out.old.items ++ 32 ∷ word.now) }
+{
+    out.push(b' ')?;
+    out.extend_from_slice(word)?;
+    Ok(())
+}
+
+/// Puts a blank and a number.
+fn put_number(alloc: Global, out: &mut Vec<u8>, number: u32) -> Result<(), AllocError>
+    ensures { OnOk result (out.new.items ≡ out.old.items ++ 32 ∷ decimal number) }
+{
+    let digits = number.to_string(alloc)?;
+    put_word(out, digits.as_bytes())?;
+    Ok(())
+}
+
 /// The name of output i.
 #[tactic(auto, using(crate::proofs::RunLaws::names))]
 fn output_name(n: &FlatNet, i: u32) -> &Name
@@ -57,20 +75,17 @@ fn put_first_wrong(
     requires { w.output < length n.now.net.outputs }
     ensures { OnOk result (out.new.items ≡ out.old.items ++ line_text (first_wrong_line n.now.net w)) }
 {
-    let cycle = w.cycle.to_string(alloc)?;
-    let run = w.run.to_string(alloc)?;
     let name = output_name(n, w.output);
-    out.extend_from_slice(b"first wrong ")?;
-    out.extend_from_slice(cycle.as_bytes())?;
-    out.push(b' ')?;
-    out.extend_from_slice(name.bytes())?;
-    out.push(b' ')?;
-    out.extend_from_slice(run.as_bytes())?;
+    out.extend_from_slice(b"first wrong")?;
+    put_number(alloc, out, w.cycle)?;
+    put_word(out, name.bytes())?;
+    put_number(alloc, out, w.run)?;
     out.push(b'\n')?;
     Ok(())
 }
 
 /// The five lines, and a sixth one where a wrong output is known.
+#[tactic(auto, using(crate::proofs::RunLaws::near_told, crate::proofs::RunLaws::five_told))]
 pub fn near_text(
     alloc: Global,
     n: &FlatNet,
@@ -81,8 +96,11 @@ pub fn near_text(
     ensures { IfOk result (λ text. text.items ≡ flat_map line_text (near_lines n.now.net sums.now first)) }
 {
     let mut out = campaign_text(alloc, sums)?;
-    if let Some(w) = first {
-        put_first_wrong(alloc, &mut out, n, w)?;
+    match first {
+        None => Ok(out),
+        Some(w) => {
+            put_first_wrong(alloc, &mut out, n, w)?;
+            Ok(out)
+        }
     }
-    Ok(out)
 }

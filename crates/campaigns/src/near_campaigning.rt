@@ -1,5 +1,5 @@
 //! Campaigns on a pair whose upsets are too near.
-ghost use Rattle.std.specs.Prelude.{◌≡◌, ◌≤◌, ◌*◌, length, IfOk, IfSome};
+ghost use Rattle.std.specs.Prelude.{◌≡◌, ◌<◌, ◌≤◌, ◌*◌, length, IfOk, IfSome};
 ghost use Rattle.certificate.specs.Cert.{Fits};
 ghost use Rattle.certificate.specs.Rules.{FreeCorresponds};
 ghost use Rattle.campaigns.specs.NearCampaign.{IsNearCampaign, IsNearText};

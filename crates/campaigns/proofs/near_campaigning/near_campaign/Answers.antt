@@ -7,8 +7,8 @@ use Rattle.campaigns.specs.NearCampaign.{IsFirst, IsKeptWrong}
 use Rattle.campaigns.proofs.RunLaws.{told_output}
 use Rattle.campaigns.proofs.near_campaigning.near_campaign.Goals as goal
 
-pub first_wrong-requires : goal.first_wrong-requires
-first_wrong-requires c =
+pub first_wrong-first-requires : goal.first_wrong-first-requires
+first_wrong-first-requires c =
     let long = c.in_ok-outcomes.ensures.replays.long in
     omega (arith, ap length c.deref-4.ensures.value, long, ap length c.deref.ensures.value, c.in_ok-list.ensures.drawn.many)
 
