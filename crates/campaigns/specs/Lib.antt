@@ -1,2 +1,3 @@
 pub mod Campaign
+pub mod NearCampaign
 pub mod Private

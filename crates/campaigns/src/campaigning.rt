@@ -17,7 +17,7 @@ use std::alloc::Global;
 use tmr_base::OutOfMemory;
 
 /// What the schedules do to the pair, 64 in a word.
-fn replay_all(
+pub fn replay_all(
     alloc: Global,
     n: &FlatNet,
     h: &FlatNet,
@@ -40,12 +40,33 @@ fn replay_all(
     Ok(outcomes)
 }
 
-/// What 64 runs of so many cycles on a pair come to, of which the eight rules hold. The schedule of run j, counted from
+/// What 64 runs of so many cycles come to on a pair that masks every allowed schedule. The schedule of run j, counted from
 /// 0, is drawn from `number` + j + 1, modulo 2^64: a row of inputs for each cycle, and in each cycle an upset of some
-/// hardened node, which is left out where the certificate would not allow the schedule with it. The certificate may be of
-/// either version; registers begin with their initial values, and with 0 where the value is free, and no input is upset.
-/// The schedules are kept in memory, so they take 64 bytes for each cycle and input of the original, and at most 768 more
-/// for each cycle. The only error is want of memory.
+/// hardened node, which is left out where the certificate would not allow the schedule with it. Registers begin with their
+/// initial values, and no input is upset. The schedules are kept in memory, so they take 64 bytes for each cycle and input of
+/// the original, and at most 768 more for each cycle. The only error is want of memory.
+pub fn masked_campaign(
+    alloc: Global,
+    number: u64,
+    cycles: u32,
+    n: &FlatNet,
+    h: &FlatNet,
+    c: &Certificate,
+) -> Result<CampaignSums, OutOfMemory>
+    requires fits { Fits n.now.net h.now.net c.now }
+    requires inputs { length h.now.net.inputs ≡ 3 * length n.now.net.inputs }
+    requires outputs { length h.now.net.outputs ≡ 3 * length n.now.net.outputs }
+    requires masks { Masks n.now.net h.now.net c.now }
+    requires few { cycles ≤ 100000 }
+    ensures { IfOk result (λ sums. IsCampaign number cycles n.now.net h.now.net c.now sums) }
+{
+    let list = draw_schedules(alloc, number, cycles, n, h, c)?;
+    let outcomes = replay_all(alloc, n, h, c, &list, cycles)?;
+    Ok(sum_runs(&list, &outcomes))
+}
+
+/// What 64 runs of so many cycles on a pair come to, of which the eight rules hold. The certificate may be of either
+/// version; registers begin with their initial values, and with 0 where the value is free.
 pub fn campaign(
     alloc: Global,
     number: u64,
@@ -63,9 +84,8 @@ pub fn campaign(
     let hardened = h.net();
     // What the designs and the certificate keep.
     let _kept = (original.input_count(), hardened.input_count(), c.parts());
-    let list = draw_schedules(alloc, number, cycles, original, hardened, c)?;
-    let outcomes = replay_all(alloc, original, hardened, c, &list, cycles)?;
-    Ok(sum_runs(&list, &outcomes))
+    let sums = masked_campaign(alloc, number, cycles, original, hardened, c)?;
+    Ok(sums)
 }
 
 /// The text of a campaign on a pair, of which the eight rules hold: five lines.

@@ -202,8 +202,8 @@ fn of_designs(
     {
         return Ok(String::from_str(alloc, "no pair")?);
     }
-    if verb == "campaign" {
-        return campaign_text(alloc, n, h, &c, text);
+    if verb == "campaign" || verb == "near" {
+        return campaign_text(alloc, n, h, &c, text, verb == "near");
     }
     of_text(alloc, n, h, &c, verb, text)
 }

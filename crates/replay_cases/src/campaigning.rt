@@ -1,7 +1,7 @@
 //! Campaigns on a pair.
 ghost use Rattle.certificate.specs.Cert.{Fits};
 
-use campaigns::campaign_report;
+use campaigns::{campaign_report, near_report};
 use certificate::Certificate;
 use flat_net::FreeNet;
 use std::alloc::{AllocError, Global};
@@ -29,6 +29,7 @@ fn run_campaign(
     c: &Certificate,
     number: u64,
     cycles: u32,
+    near: bool,
 ) -> Result<String, OutOfMemory>
     requires { Fits n.now.design.net h.now.design.net c.now }
 {
@@ -37,26 +38,31 @@ fn run_campaign(
     }
     match check_free(n, h, c) {
         Ok(()) => {
-            let text = campaign_report(alloc, number, cycles, n, h, c)?;
+            let text = if near {
+                near_report(alloc, number, cycles, n, h, c)?
+            } else {
+                campaign_report(alloc, number, cycles, n, h, c)?
+            };
             Ok(in_one_line(alloc, &text)?)
         }
         Err(_) => Ok(String::from_str(alloc, "not accepted")?),
     }
 }
 
-/// What a campaign of `NUMBER CYCLES` on a pair comes to.
+/// What a campaign of `NUMBER CYCLES` on a pair comes to, or a near one.
 pub fn campaign_text(
     alloc: Global,
     n: &FreeNet,
     h: &FreeNet,
     c: &Certificate,
     words: &str,
+    near: bool,
 ) -> Result<String, OutOfMemory>
     requires { Fits n.now.design.net h.now.design.net c.now }
 {
     let (number, cycles) = words.split_once(' ').unwrap_or((words, ""));
     match (number.parse::<u64>(), cycles.parse::<u32>()) {
-        (Ok(number), Ok(cycles)) => run_campaign(alloc, n, h, c, number, cycles),
+        (Ok(number), Ok(cycles)) => run_campaign(alloc, n, h, c, number, cycles, near),
         _ => Ok(String::from_str(alloc, "no campaign")?),
     }
 }

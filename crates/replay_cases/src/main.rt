@@ -4,7 +4,8 @@
 //! them, with `/` in place of each line's end. The other lines are a verb and a schedule file, written alike: `schedule`
 //! reads it, `allowed` asks the certificate, `replay` and `wave` run it, and `wide` runs all schedules that stand between
 //! `|`. `many COUNT` reads a file with so many rows, and `deep COUNT` one with so many brackets. Each of these is printed
-//! again, and its answer below it. `campaign NUMBER CYCLES` runs 64 schedules on the pair that are drawn from the number.
+//! again, and its answer below it. `campaign NUMBER CYCLES` runs 64 schedules on the pair that are drawn from the number, and
+//! `near NUMBER CYCLES` 64 whose upsets are too near.
 #![tactic(auto)]
 
 mod asking;

@@ -3,7 +3,6 @@ use Rattle.std.proofs.Common.{◌≡◌, ◌≢◌, ℕ, zero, suc, ◌*◌, ◌
 use Rattle.std.specs.Prelude.{IfOk, IfErr, IsTrue, codes, if◌then◌else◌}
 use Rattle.std.specs.Option.{unwrap_or}
 use Rattle.std.proofs.lemmas.Bool.{eq-eqb, ne_eqb}
-use Rattle.std.proofs.lemmas.List.Elements.{All-append, All-filter, All-take, All-weaker}
 use Rattle.tmr_base.specs.declared.ids.Upset.{Upset}
 use Rattle.flat_net.specs.Net.{Net, Design, net_count, node_of}
 use Rattle.flat_net.specs.Free.{node_bit}
@@ -17,11 +16,12 @@ use Rattle.schedule_replay.specs.declared.fault.ScheduleFault.TheVariants as fau
 use Rattle.schedule_replay.specs.declared.outcome.Difference.{Difference}
 use Rattle.schedule_replay.specs.Document.{Listed, sched_of}
 use Rattle.schedule_replay.specs.Gives.{Fails}
-use Rattle.schedule_replay.specs.Outcome.{PlainOutcome, IsReplayOf, IsFreeReplay, outputs_in, outputs_until, output_at, differs}
+use Rattle.schedule_replay.specs.Outcome.{PlainOutcome, IsReplayOf, IsFreeReplay}
 use Rattle.schedule_replay.specs.Reading.{IsNodeOf, IsReadAs}
 use Rattle.schedule_replay.specs.Schedule.{PlainSchedule}
 use Rattle.schedule_replay.specs.Starts.{placed_starts, given_starts}
 use Rattle.schedule_replay.proofs.Quiet.{three_outputs}
+use Rattle.campaigns.proofs.RunLaws.{shown_outputs}
 use Rattle.tmr_outside.specs.Contents.{Contents}
 use Rattle.tmr_words.specs.Line.{Replaying, Replay}
 use Rattle.tmr_top.specs.declared.commands.replay.ReplayRead.{ReplayRead}
@@ -124,37 +124,6 @@ three_inputs n f h g k all = (all 1 0).inputs refl refl
 
 pub outputs_in_threes : (n : Net) (f : List Bool) (h : Net) (g : List Bool) (k : PlainCert) → FreeCorresponds n f h g k → length h.outputs ≡ 3 * length n.outputs
 outputs_in_threes n f h g k all = three_outputs n h k (λ place. (all 8 place).outputs refl)
-
--- a difference is of some output
-abbrev IsOfOutput : ℕ → Difference → Type 0
-IsOfOutput count d = d.output < count
-
-lower : (i : ℕ) (d : Difference) → d.output < i → d.output < suc i
-lower i d l = omega arith
-
-one_more : (i : ℕ) (d : Difference) → d.output ≡ i → All (IsOfOutput (suc i)) (d ∷ [])
-one_more i d e zero x l = omega arith
-one_more i d e (suc j) x l = absurd (omega arith)
-
-shown_in : (n h : Net) (tr ft : List (List Bool)) (t i : ℕ) → All (IsOfOutput i) (outputs_in n h tr ft t i)
-shown_in n h tr ft t zero = λ j x l. absurd (omega arith)
-shown_in n h tr ft t (suc i) =
-    All-append (IsOfOutput (suc i)) (outputs_in n h tr ft t i) (output_at n h tr ft t i ∷ [])
-    (All-weaker (IsOfOutput i) (IsOfOutput (suc i)) (lower i) (outputs_in n h tr ft t i) (shown_in n h tr ft t i))
-    (one_more i (output_at n h tr ft t i) refl)
-
-shown_until : (n h : Net) (tr ft : List (List Bool)) (t : ℕ) → All (IsOfOutput (length n.outputs)) (outputs_until n h tr ft t)
-shown_until n h tr ft zero = λ j x l. absurd (omega arith)
-shown_until n h tr ft (suc t) = All-append (IsOfOutput (length n.outputs)) (outputs_until n h tr ft t) (outputs_in n h tr ft t (length n.outputs)) (shown_until n h tr ft t) (shown_in n h tr ft t (length n.outputs))
-
-pub shown_outputs : (n : Net) (f w : List Bool) (h : Net) (g u : List Bool) (k : PlainCert) (s : PlainSchedule) (o : PlainOutcome) → IsReplayOf n f w h g u k s o → All (λ d. d.output < length n.outputs) o.first
-shown_outputs n f w h g u k s o is =
-    let tr = is.original.trace in
-    let ft = is.hardened.trace in
-    let outcome = is.outcome tr ft is.original.is_trace is.hardened.is_trace in
-    subst (All (IsOfOutput (length n.outputs))) (sym outcome.counts.first_are)
-    (All-take (IsOfOutput (length n.outputs)) 1000 (filter differs (outputs_until n h tr ft (length s.rows)))
-    (All-filter differs (IsOfOutput (length n.outputs)) (outputs_until n h tr ft (length s.rows)) (shown_until n h tr ft (length s.rows))))
 
 pub told : (waves : Option (List ℕ)) (n : Net) (f : List Bool) (h : Net) (g : List Bool) (k : PlainCert) (s : PlainSchedule) (o : PlainOutcome) (saved : List (List ℕ)) (text : List ℕ) → IsFreeReplay n f h g k s o → (IsTrue o.allowed → (o.wrong ≡ 0) × (o.late ≡ 0)) → text ≡ replay_lines n s o → SavesWaves waves (record { original = n; free = f; hardened = h; hardened_free = g; certificate = k }) s saved → IsTold waves (record { original = n; free = f; hardened = h; hardened_free = g; certificate = k }) s saved text
 told waves n f h g k s o saved text replayed masked says saves = record { outcome = o; replayed = replayed; masked = masked; says = says; saves = saves }

@@ -8,6 +8,5 @@ pub mod Refused
 pub mod PairFiles
 pub mod Replaying
 pub mod GraphCounted
-pub mod Trying
 pub mod Certifying
 pub mod Shown

@@ -1,5 +1,5 @@
 -- One cycle more is drawn.
-use Rattle.std.proofs.Common.{◌≡◌, ◌≢◌, ℕ, zero, suc, ◌+◌, ◌<◌, ◌≤◌, ◌⊎◌, inl, inr, Bool, true, false, List, [], ◌∷◌, ◌++◌, length, map, Option, Some, None, refl, sym, ◌∙◌, ap, subst, arith, All, if◌then◌else◌}
+use Rattle.std.proofs.Common.{◌≡◌, ◌≢◌, ℕ, zero, suc, ◌+◌, ◌<◌, ◌≤◌, inl, inr, Bool, List, [], ◌∷◌, ◌++◌, length, map, Option, Some, None, refl, sym, ◌∙◌, ap, subst, arith, All}
 use Rattle.std.specs.Prelude.{◌==◌}
 use Rattle.std.specs.List.{range_with_len}
 use Rattle.std.proofs.lemmas.Bool.{eq-eqb, ne_eqb, cond-true, cond-false}
@@ -13,7 +13,7 @@ use Rattle.certificate.specs.Schedules.{Allowed}
 use Rattle.schedule_replay.specs.Schedule.{PlainSchedule}
 use Rattle.tmr_trial.specs.declared.strikes.Strike.{Strike}
 use Rattle.tmr_trial.specs.Numbers.{next_state, state_after, drawn, draw}
-use Rattle.tmr_trial.specs.Schedules.{cycle_draws, state_before, row_drawn, upset_drawn, IsAdded, AreAdded, IsDrawnSchedule}
+use Rattle.tmr_trial.specs.Schedules.{cycle_draws, state_before, row_drawn, upset_drawn, IsAdded, AreAdded}
 use Rattle.tmr_trial.specs.Strikes.{AreStrikes}
 use Rattle.tmr_trial.specs.Drawing.{IsOfNode, HasDrawn, IsNext}
 
@@ -93,7 +93,7 @@ cycle_drawn number n h k t state after strikes next old new row is inputs starts
     earlier : All (λ u. u.cycle < t + 1) old.upsets
     earlier i d l = let e = is.earlier i d l in omega (arith, e)
 
-after_row : (old new : PlainSchedule) (row : List Bool) → new ≡ record old { rows = old.rows ++ row ∷ [] } → (new.inputs ≡ old.inputs) × (new.rows ≡ old.rows ++ row ∷ []) × (new.upsets ≡ old.upsets) × (new.starts ≡ old.starts)
+pub after_row : (old new : PlainSchedule) (row : List Bool) → new ≡ record old { rows = old.rows ++ row ∷ [] } → (new.inputs ≡ old.inputs) × (new.rows ≡ old.rows ++ row ∷ []) × (new.upsets ≡ old.upsets) × (new.starts ≡ old.starts)
 after_row old new row e = (ap (λ (s : PlainSchedule). s.inputs) e, ap (λ (s : PlainSchedule). s.rows) e, ap (λ (s : PlainSchedule). s.upsets) e, ap (λ (s : PlainSchedule). s.starts) e)
 
 -- a cycle of a design without nodes

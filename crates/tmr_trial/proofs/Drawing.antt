@@ -1,5 +1,5 @@
 -- Numbers that are drawn.
-use Rattle.std.proofs.Common.{◌≡◌, ℕ, ◌/◌, ◌%◌, ◌^◌, ◌<◌, refl, arith}
+use Rattle.std.proofs.Common.{◌≡◌, ℕ, ◌/◌, ◌^◌, ◌<◌, refl, arith}
 use Rattle.tmr_trial.specs.Numbers.{next_state, drawn}
 
 -- the first new state behind 0

@@ -5,3 +5,6 @@ pub mod Valid
 pub mod Making
 pub mod StrikeLaws
 pub mod Cycles
+pub mod MemberLaws
+pub mod PairLaws
+pub mod NearLaws

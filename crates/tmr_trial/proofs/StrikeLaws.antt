@@ -1,17 +1,17 @@
 -- The last upset of each partition decides whether a schedule stays allowed with one more.
-use Rattle.std.proofs.Common.{◌≡◌, ◌≢◌, ℕ, zero, suc, ◌+◌, ◌<◌, ◌≤◌, ◌⊎◌, inl, inr, Bool, true, false, ◌&&◌, not, List, [], ◌∷◌, ◌++◌, length, get_or, slice_set, Option, Some, None, refl, sym, ◌∙◌, ap, subst, arith, All}
+use Rattle.std.proofs.Common.{◌≡◌, ◌≢◌, ℕ, zero, suc, ◌+◌, ◌<◌, ◌≤◌, ◌⊎◌, inl, inr, true, false, ◌&&◌, not, List, [], ◌∷◌, ◌++◌, length, get_or, slice_set, Option, Some, None, refl, sym, ◌∙◌, ap, subst, arith, All}
 use Rattle.std.specs.Prelude.{nat_lt, nat_eq, replicate, Contains}
 use Rattle.std.proofs.lemmas.Bool.{cases_lt, cases_eq}
 use Rattle.std.proofs.lemmas.Bool.Decides.{nat_tests}
 use Rattle.std.proofs.lemmas.List.{get_or-set_same, get_or-set_other, get_or-replicate, get_or_past, length-set, length-replicate}
 use Rattle.std.proofs.lemmas.List.Elements.{All-contains, Contains-append_left, Contains-append_right, Contains-append_cases}
 use Rattle.tmr_base.specs.declared.copies.CopyNo.{CopyNo}
-use Rattle.tmr_base.specs.declared.copies.CopyNo.TheVariants.{First, Second, Third}
 use Rattle.tmr_base.specs.declared.ids.Upset.{Upset}
 use Rattle.tmr_base.specs.Copies.{copy_number}
 use Rattle.certificate.specs.Cert.{PlainCert, depth_of, part_depth}
 use Rattle.certificate.specs.Schedules.{IsIn, Allowed}
 use Rattle.schedule_replay.proofs.Apart.{one_domain}
+use Rattle.tmr_trial.proofs.MemberLaws.{same_copy}
 use Rattle.tmr_trial.specs.declared.strikes.Strike.{Strike}
 use Rattle.tmr_trial.specs.Schedules.{IsAdded}
 use Rattle.tmr_trial.specs.Strikes.{strike_at, is_near, IsStrike, IsNoLater, AreStrikes}
@@ -29,17 +29,6 @@ far_cases a b x t e = go (cases_eq a b) (cases_lt x t)
     go (inl same) late = inl same
     go (inr apart) (inl late) = inr late
     go (inr apart) (inr soon) = absurd (grind (arith, nat_tests))
-
-same_copy : (c d : CopyNo) → copy_number c ≡ copy_number d → c ≡ d
-same_copy First First e = refl
-same_copy First Second e = absurd (omega arith)
-same_copy First Third e = absurd (omega arith)
-same_copy Second First e = absurd (omega arith)
-same_copy Second Second e = refl
-same_copy Second Third e = absurd (omega arith)
-same_copy Third First e = absurd (omega arith)
-same_copy Third Second e = absurd (omega arith)
-same_copy Third Third e = refl
 
 some_same : {A : Type 0} (a b : A) → Some a ≡ Some b → a ≡ b
 some_same a b e = cc

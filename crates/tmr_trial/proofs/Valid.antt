@@ -1,19 +1,18 @@
 -- The design that a number gives is valid.
-use Rattle.std.proofs.Common.{◌≡◌, ◌≢◌, ℕ, ◌+◌, ◌-◌, ◌*◌, ◌<◌, ◌≤◌, ◌⊎◌, inl, inr, Bool, true, false, List, [], ◌∷◌, ◌++◌, length, map, get_or, Option, Some, None, slice_get, refl, sym, ap, ◌∙◌, subst, arith, All, if◌then◌else◌}
-use Rattle.std.specs.Prelude.{◌==◌, codes, count_by, min, slice_index, Contains}
+use Rattle.std.proofs.Common.{◌≡◌, ◌≢◌, ℕ, ◌+◌, ◌-◌, ◌<◌, ◌≤◌, ◌⊎◌, inl, inr, Bool, true, false, List, [], ◌++◌, length, map, get_or, Option, Some, None, slice_get, refl, sym, ap, ◌∙◌, subst, arith, All, if◌then◌else◌}
+use Rattle.std.specs.Prelude.{◌==◌, codes, min, slice_index, Contains}
 use Rattle.std.specs.List.{range_with_len}
 use Rattle.std.proofs.lemmas.Bool.{cases_lt}
 use Rattle.std.proofs.lemmas.Bool.Decides.{nat_tests}
 use Rattle.std.proofs.lemmas.List.{get_or_default}
 use Rattle.std.proofs.lemmas.List.FromFn.{get_or-range_with_len, length-range_with_len, length-map-range_with_len}
-use Rattle.tmr_base.specs.declared.ids.Edge.{Edge}
 use Rattle.tmr_base.specs.declared.ids.Edge.TheVariants.{Rising}
 use Rattle.tmr_base.specs.Names.{is_name}
-use Rattle.flat_net.specs.Net.{Net, Node, net_count, slot, node_of, node_name, net_names, is_register, register_count, table_pins, IsTable, IsWired, IsClockOf, IsOrder, IsValid}
+use Rattle.flat_net.specs.Net.{Node, net_count, node_of, net_names, register_count, table_pins, IsTable, IsWired, IsClockOf, IsOrder, IsValid}
 use Rattle.flat_net.proofs.Slots.{slot_at, slot_within, slot_below}
 use Rattle.flat_net.specs.Private.ByPlace.{ComesBefore}
 use Rattle.flat_net.proofs.ByPlace.{from_places}
-use Rattle.tmr_trial.specs.Designs.{input_text, node_text, node_drawn, node_at, nodes_drawn, state_at, clock_for, trial_outputs, design_of}
+use Rattle.tmr_trial.specs.Designs.{input_text, node_at, nodes_drawn, state_at, clock_for, trial_outputs, design_of}
 use Rattle.tmr_trial.proofs.Texts.{texts, texts_are_names, texts_apart, texts_no_clock, length-texts, clock_is_not_nil}
 use Rattle.tmr_trial.proofs.NodeLaws.{node_wired, table_reads_before, node_there, nodes_named, pins_few}
 

@@ -3,3 +3,6 @@ pub mod Designs
 pub mod Schedules
 pub mod Strikes
 pub mod Drawing
+pub mod NearSchedules
+pub mod Members
+pub mod NearDrawing

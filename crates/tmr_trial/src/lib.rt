@@ -6,11 +6,17 @@
 
 mod designs;
 mod gates;
+mod members;
 mod naming;
+mod near_pairs;
+mod near_schedules;
 mod nodes;
 mod numbers;
 mod schedules;
 mod strikes;
 
 pub use designs::design;
+pub use members::{Members, members_of};
+pub use near_pairs::NearPair;
+pub use near_schedules::near_schedule;
 pub use schedules::schedule;

@@ -16,7 +16,7 @@ use std::alloc::Global;
 use tmr_base::{NetId, OutOfMemory, Upset};
 
 /// Draws the inputs of a cycle.
-fn draw_row(numbers: &mut Numbers, inputs: u32, row: &mut Vec<bool>) -> Result<(), OutOfMemory>
+pub fn draw_row(numbers: &mut Numbers, inputs: u32, row: &mut Vec<bool>) -> Result<(), OutOfMemory>
     ensures row { OnOk result (row.new.items ≡ row_drawn inputs numbers.old.state) }
     ensures state { OnOk result (numbers.new.state ≡ state_after inputs numbers.old.state) }
 {
@@ -30,7 +30,7 @@ fn draw_row(numbers: &mut Numbers, inputs: u32, row: &mut Vec<bool>) -> Result<(
 }
 
 /// Draws the upset of cycle t: a node and its value.
-fn draw_upset(h: &FlatNet, t: u32, numbers: &mut Numbers) -> Upset
+pub fn draw_upset(h: &FlatNet, t: u32, numbers: &mut Numbers) -> Upset
     requires { 0 < length h.now.net.nodes }
     ensures upset { result ≡ record { cycle = t; net = record { 0 = length h.now.net.inputs + draw numbers.old.state 0 (length h.now.net.nodes) }; value = draw numbers.old.state 1 2 == 1 } }
     ensures state { numbers.new.state ≡ state_after 2 numbers.old.state }

@@ -64,7 +64,7 @@ abbrev pub sweeping_in : SweepWords → Sweeping
 sweeping_in words = record { original = words.original.now; form = words.form; version = words.version; most = words.most }
 
 abbrev pub campaigning_in : CampaignWords → Campaigning
-campaigning_in words = record { pair = pair_in words.pair; number = words.number; cycles = words.cycles }
+campaigning_in words = record { pair = pair_in words.pair; number = words.number; cycles = words.cycles; near = words.near }
 
 abbrev pub picturing_in : PictureWords → Picturing
 picturing_in words = record { pair = pair_in words.pair; picture = words.picture.now }

@@ -1,5 +1,5 @@
 -- What the words of a command line mean.
-use Rattle.std.specs.Prelude.{ℕ, ◌&&◌, nat_lt, nat_eq, not, Bool, List, [], ◌∷◌, length, Option, Some, None, codes, String, if◌then◌else◌}
+use Rattle.std.specs.Prelude.{ℕ, ◌&&◌, nat_lt, nat_eq, not, Bool, true, false, List, [], ◌∷◌, length, Option, Some, None, codes, String, if◌then◌else◌}
 use Rattle.std.specs.Option.{option_and_then, option_map}
 use Rattle.std.specs.Str.{bytes_eq}
 use Rattle.std.specs.declared.alloc.Global.{Global}
@@ -69,11 +69,13 @@ pub record Sweeping : Type 0 where
   pub version : ℕ
   pub most : ℕ
 
--- the files of `campaign ORIG HARD CERT NUMBER CYCLES`, the number that schedules are drawn from, and how many cycles each has
+-- the files of `campaign ORIG HARD CERT NUMBER CYCLES`, the number that schedules are drawn from, how many cycles each has, and whether their upsets are
+-- too near, which a sixth word says
 pub record Campaigning : Type 0 where
   pub pair : Pair
   pub number : ℕ
   pub cycles : ℕ
+  pub near : Bool
 
 -- the files of `picture ORIG HARD CERT DOT`, which saves the picture as DOT
 pub record Picturing : Type 0 where
@@ -247,14 +249,17 @@ sweeping_of words =
     if has_no_sizes words then option_and_then (λ form. sweeping_as form words) (said form_named Plain words.forms) else None
 
 -- a campaign over a pair, from a number below 2^64, with 1 to 100,000 cycles
-unfoldable pub campaign_over : Option Pair → List ℕ → List ℕ → Option Campaigning
-campaign_over None number cycles = None
-campaign_over (Some pair) number cycles =
-    option_and_then (λ n. option_map (λ t. record { pair = pair; number = n; cycles = t }) (cycles_number cycles)) (number_of 64 number)
+unfoldable pub campaign_over : Option Pair → List ℕ → List ℕ → Bool → Option Campaigning
+campaign_over None number cycles near = None
+campaign_over (Some pair) number cycles near =
+    option_and_then (λ n. option_map (λ t. record { pair = pair; number = n; cycles = t; near = near }) (cycles_number cycles)) (number_of 64 number)
 
+-- five words, or six where the last one is `near`
 unfoldable pub campaigning_of : List (List ℕ) → Option Campaigning
 campaigning_of (original ∷ hardened ∷ certificate ∷ number ∷ cycles ∷ []) =
-    campaign_over (pair_of (original ∷ hardened ∷ certificate ∷ [])) number cycles
+    campaign_over (pair_of (original ∷ hardened ∷ certificate ∷ [])) number cycles false
+campaigning_of (original ∷ hardened ∷ certificate ∷ number ∷ cycles ∷ word ∷ []) =
+    if bytes_eq word (codes "near") then campaign_over (pair_of (original ∷ hardened ∷ certificate ∷ [])) number cycles true else None
 campaigning_of words = None
 
 unfoldable pub picturing_of : List (List ℕ) → Option Picturing

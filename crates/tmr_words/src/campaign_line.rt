@@ -1,6 +1,7 @@
 //! What the words behind `campaign` mean.
-ghost use Rattle.std.specs.Prelude.{◌≡◌, ◌≤◌, ◌<◌, IfSome};
+ghost use Rattle.std.specs.Prelude.{◌≡◌, ◌≤◌, ◌<◌, codes, IfSome};
 ghost use Rattle.std.specs.Option.{option_map};
+ghost use Rattle.std.specs.Str.{bytes_eq};
 ghost use Rattle.tmr_words.specs.Campaigns.{cycles_number};
 ghost use Rattle.tmr_words.specs.Line.{campaign_over, campaigning_of};
 ghost use Rattle.tmr_words.specs.FileWords.{pair_in, campaigning_in, read_words as read_texts};
@@ -34,9 +35,10 @@ fn campaign_over<'a>(
     pair: Option<PairWords<'a>>,
     number: &str,
     cycles: &str,
+    near: bool,
 ) -> Option<CampaignWords<'a>>
     ensures { option_map campaigning_in result
-        ≡ campaign_over (option_map pair_in pair.entry) number.now cycles.now }
+        ≡ campaign_over (option_map pair_in pair.entry) number.now cycles.now near }
 {
     match pair {
         None => None,
@@ -48,13 +50,24 @@ fn campaign_over<'a>(
                     pair,
                     number,
                     cycles,
+                    near,
                 }),
             },
         },
     }
 }
 
-/// The words of `campaign`, where there are five and they can be read.
+/// The word asks for upsets that are too near.
+fn is_near(word: &str) -> bool
+    ensures { result ≡ bytes_eq word.now (codes "near") }
+{
+    match word {
+        "near" => true,
+        _ => false,
+    }
+}
+
+/// The words of `campaign`, where there are five, or `near` is a sixth one, and they can be read.
 #[tactic(auto, unfolding(crate::specs::Line::campaigning_of))]
 pub fn read_campaigning<'a>(plain: &[&'a str]) -> Option<CampaignWords<'a>>
     ensures { option_map campaigning_in result ≡ campaigning_of (read_texts plain.now) }
@@ -62,7 +75,14 @@ pub fn read_campaigning<'a>(plain: &[&'a str]) -> Option<CampaignWords<'a>>
     match plain {
         [original, hardened, certificate, number, cycles] => {
             let pair = pair_with(*original, *hardened, *certificate);
-            campaign_over(pair, *number, *cycles)
+            campaign_over(pair, *number, *cycles, false)
+        }
+        [original, hardened, certificate, number, cycles, word] => {
+            if !is_near(*word) {
+                return None;
+            }
+            let pair = pair_with(*original, *hardened, *certificate);
+            campaign_over(pair, *number, *cycles, true)
         }
         _ => None,
     }

@@ -103,7 +103,7 @@ pub fn call_of(command: Topic) -> &'static str
         Topic::Exposure => "exposure ORIG HARD CERT",
         Topic::Sweep => "sweep ORIG [--cert V] [--depth D] [--form F]",
         Topic::Explain => "explain ORIG HARD CERT",
-        Topic::Campaign => "campaign ORIG HARD CERT NUMBER CYCLES",
+        Topic::Campaign => "campaign ORIG HARD CERT NUMBER CYCLES [near]",
         Topic::Picture => "picture ORIG HARD CERT DOT",
         Topic::Help => "help [COMMAND]",
         Topic::Version => "version",

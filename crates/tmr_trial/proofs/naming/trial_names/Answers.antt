@@ -1,4 +1,4 @@
-use Rattle.std.proofs.Common.{◌≡◌, ◌+◌, ◌<◌, ◌≤◌, ap, ◌∙◌, arith, take}
+use Rattle.std.proofs.Common.{◌≡◌, ◌+◌, ap, ◌∙◌, arith, take}
 use Rattle.std.proofs.lemmas.List.{take_all}
 use Rattle.tmr_trial.specs.Designs.{input_text, node_text}
 use Rattle.tmr_trial.proofs.Texts.{texts, length-texts, input_at, node_at, input_is_name, node_is_name}

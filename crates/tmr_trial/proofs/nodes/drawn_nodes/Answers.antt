@@ -1,4 +1,4 @@
-use Rattle.std.proofs.Common.{◌≡◌, ◌+◌, ◌*◌, ◌≤◌, ap, sym, ◌∙◌, arith}
+use Rattle.std.proofs.Common.{ap, sym, ◌∙◌, arith}
 use Rattle.tmr_trial.specs.Designs.{state_behind}
 use Rattle.tmr_trial.proofs.Making.{state_none, state_more, packs_next, no_pins}
 use Rattle.tmr_trial.proofs.nodes.drawn_nodes.Goals as goal

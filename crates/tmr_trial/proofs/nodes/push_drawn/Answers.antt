@@ -1,4 +1,4 @@
-use Rattle.std.proofs.Common.{◌++◌, [], ◌∷◌, ◌+◌, ℕ, List, subst}
+use Rattle.std.proofs.Common.{◌++◌, [], ◌∷◌, subst}
 use Rattle.flat_net.specs.Net.{Node}
 use Rattle.flat_net.specs.Packs.{Packs}
 use Rattle.tmr_trial.proofs.NodeLaws.{drawn_register, drawn_table}

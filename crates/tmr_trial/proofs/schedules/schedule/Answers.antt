@@ -1,6 +1,5 @@
-use Rattle.std.proofs.Common.{◌≡◌, ◌≤◌, ◌∙◌, ℕ, ap, subst, arith}
+use Rattle.std.proofs.Common.{◌∙◌, ap}
 use Rattle.schedule_replay.specs.Schedule.{PlainSchedule}
-use Rattle.tmr_trial.specs.Drawing.{HasDrawn}
 use Rattle.tmr_trial.proofs.Cycles.{drawn_none}
 use Rattle.tmr_trial.proofs.schedules.schedule.Goals as goal
 
