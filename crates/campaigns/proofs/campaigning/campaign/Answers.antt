@@ -1,4 +1,4 @@
-use Rattle.std.proofs.Common.{◌*◌, List, length, sym, ap, ◌∙◌, subst}
+use Rattle.std.proofs.Common.{◌*◌, length, sym, ap, ◌∙◌, subst}
 use Rattle.flat_net.specs.Net.{Design, IsValid}
 use Rattle.validator.specs.Masking.{Masks}
 use Rattle.campaigns.specs.Campaign.{IsCampaign}

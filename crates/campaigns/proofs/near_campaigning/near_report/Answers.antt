@@ -1,4 +1,4 @@
-use Rattle.std.proofs.Common.{◌≡◌, ℕ, ◌*◌, List, length, sym, ap, ◌∙◌, subst}
+use Rattle.std.proofs.Common.{◌*◌, length, sym, ap, ◌∙◌, subst}
 use Rattle.std.specs.List.{flat_map}
 use Rattle.flat_net.specs.Net.{Design}
 use Rattle.certificate.specs.Text.{line_text}

@@ -7,7 +7,8 @@ use Rattle.schedule_replay.specs.Starts.{given_starts}
 use Rattle.tmr_words.specs.FileWords.{word_in}
 use Rattle.tmr_top.specs.Private.Works.{save_texts}
 use Rattle.tmr_texts.specs.ReplayText.{replay_lines}
-use Rattle.tmr_top.proofs.ReplayLaws.{three_inputs, outputs_in_threes, shown_outputs, told}
+use Rattle.campaigns.proofs.RunLaws.{shown_outputs}
+use Rattle.tmr_top.proofs.ReplayLaws.{three_inputs, outputs_in_threes, told}
 use Rattle.tmr_top.proofs.commands.replay.replay_accepted.Goals as goal
 
 pub replay_of-requires-clause-inputs : goal.replay_of-requires-clause-inputs
