@@ -21,7 +21,7 @@ use Rattle.aag_text.specs.Aig.{PlainAig, literal_value, IsMet, positive}
 use Rattle.aag_text.specs.Traces.{start_value, latch_value, IsAigTrace}
 use Rattle.aag_text.specs.Same.{registers, registers_from, latch_bits, AgreesAt, register_start}
 use Rattle.aag_text.specs.Private.Gates.{AreMet}
-use Rattle.aag_text.specs.Private.Nets.{literal_at, first_literals, input_literals, node_literals, is_register_at, IsCycle, IsMade, table_value, pin_of, latch_at, IsGraphOf}
+use Rattle.aag_text.specs.Private.Nets.{literal_at, first_literals, input_literals, node_literals, is_register_at, IsCycle, IsMade, table_value, pin_of, latch_at, IsMadeGraph}
 
 pub met_from : (values : ℕ → Bool) (gates : List Gate) → ((k : ℕ) (h : Gate) → slice_get gates k ≡ Some h → IsMet values h) → AreMet values gates
 unfolding AreMet
@@ -106,7 +106,7 @@ pub map_map : {A B C : Type 0} (f : B → C) (g : A → B) (xs : List A) → map
 map_map f g [] = refl
 map_map f g (x ∷ xs) = ap (λ (r : List _). f (g x) ∷ r) (map_map f g xs)
 
-module _ (n : FreeDesign) (is_design : IsDesign n.design) (a : PlainAig) (g : IsGraphOf n a) (w : List Bool) (ins rows : List (List Bool)) (is : IsFreeTrace n.design.net n.free w ins rows) (tr : ℕ → ℕ → Bool) (it : IsAigTrace a (latch_bits n.design.net w) ins tr) where
+module _ (n : FreeDesign) (is_design : IsDesign n.design) (a : PlainAig) (g : IsMadeGraph n a) (w : List Bool) (ins rows : List (List Bool)) (is : IsFreeTrace n.design.net n.free w ins rows) (tr : ℕ → ℕ → Bool) (it : IsAigTrace a (latch_bits n.design.net w) ins tr) where
   -- what is known of the cycle before
   abbrev Past : ℕ → Type 0
   Past zero = Unit {0}

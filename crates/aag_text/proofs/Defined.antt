@@ -16,7 +16,7 @@ use Rattle.aag_text.specs.Aig.{PlainAig, ReadsLesser, IsGreaterFirst}
 use Rattle.aag_text.specs.Variables.{defined, is_among, read_variables, is_undefined, IsDefinedOnce, IsDefined}
 use Rattle.aag_text.specs.Written.{IsWellDefined}
 use Rattle.aag_text.specs.Private.Gates.{next_of, AreStacked}
-use Rattle.aag_text.specs.Private.Nets.{IsGraphOf}
+use Rattle.aag_text.specs.Private.Nets.{IsMadeGraph}
 use Rattle.aag_text.proofs.Exist.{latch_numbered}
 use Rattle.aag_text.proofs.Spelling.{IsWithin, AreLatches, AreLiterals, AreGates}
 use Rattle.aag_text.proofs.Within.{within, top, input_count}
@@ -134,7 +134,7 @@ greater_all next [] s k d lt = absurd (omega (arith, lt))
 greater_all next (g ∷ gates) s zero d lt = s.3
 greater_all next (g ∷ gates) s (suc k) d lt = greater_all (suc next) gates s.4 k d (omega (arith, lt))
 
-module _ (n : FreeDesign) (a : PlainAig) (v : IsValid n.design.net) (g : IsGraphOf n a) (few : net_count n.design.net ≤ 16777216) (small : row_total n.design.net ≤ 16777216) where
+module _ (n : FreeDesign) (a : PlainAig) (v : IsValid n.design.net) (g : IsMadeGraph n a) (few : net_count n.design.net ≤ 16777216) (small : row_total n.design.net ≤ 16777216) where
   abbrev m : ℕ
   m = length a.inputs + length a.latches + length a.gates
 

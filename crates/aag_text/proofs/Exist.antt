@@ -16,7 +16,7 @@ use Rattle.aag_text.specs.Aig.{PlainAig, literal_value, IsMet, positive}
 use Rattle.aag_text.specs.Traces.{start_value, latch_value, IsAigTrace}
 use Rattle.aag_text.specs.Same.{registers, registers_from, latch_bits}
 use Rattle.aag_text.specs.Private.Gates.{AreMet, AreStacked}
-use Rattle.aag_text.specs.Private.Nets.{literal_at, first_literals, input_literals, node_literals, latch_at, IsGraphOf}
+use Rattle.aag_text.specs.Private.Nets.{literal_at, first_literals, input_literals, node_literals, latch_at, IsMadeGraph}
 use Rattle.aag_text.proofs.Firsts.{firsts_below}
 use Rattle.aag_text.proofs.Agree.{registers_are, node_there}
 
@@ -122,7 +122,7 @@ pub record Numbered (count first j : ℕ) (l : Latch) : Type 0 where
   pub variable : l.variable ≡ count + 1 + j
   pub below : l.variable < first
 
-module _ (n : FreeDesign) (a : PlainAig) (g : IsGraphOf n a) (w : List Bool) (ins : List (List Bool)) where
+module _ (n : FreeDesign) (a : PlainAig) (g : IsMadeGraph n a) (w : List Bool) (ins : List (List Bool)) where
   abbrev pub count : ℕ
   count = length n.design.net.inputs
 

@@ -20,7 +20,7 @@ use Rattle.aag_text.specs.Same.{registers, registers_from}
 use Rattle.aag_text.specs.Text.{header, symbol_lines, design_symbols, aag_text}
 use Rattle.aag_text.specs.Lines.{AreSymbols, IsFile}
 use Rattle.aag_text.specs.Private.Gates.{next_of, AreStacked, AreBelow}
-use Rattle.aag_text.specs.Private.Nets.{literal_at, latch_at, IsGraphOf}
+use Rattle.aag_text.specs.Private.Nets.{literal_at, latch_at, IsMadeGraph}
 use Rattle.aag_text.proofs.Agree.{registers_are}
 use Rattle.aag_text.proofs.Exist.{latch_numbered}
 use Rattle.aag_text.proofs.Spelling.{IsWord, AreWords, AreLines, AreVariables, AreLatches, AreLiterals, AreGates, IsWithin, lines_join, map_both, symbols_plain, symbols_are, symbols_both, file_spelled}
@@ -106,7 +106,7 @@ gates_from m next [] some within stacked = tt
 gates_from m next (g ∷ gates) some within stacked =
     (omega (arith, some, stacked.0), omega (arith, within, stacked.0), omega (arith, within, stacked.1), omega (arith, within, stacked.2), gates_from m (suc next) gates (omega (arith, some)) (omega (arith, within)) stacked.4)
 
-module _ (n : FreeDesign) (a : PlainAig) (v : IsValid n.design.net) (g : IsGraphOf n a) (few : net_count n.design.net ≤ 16777216) (small : row_total n.design.net ≤ 16777216) where
+module _ (n : FreeDesign) (a : PlainAig) (v : IsValid n.design.net) (g : IsMadeGraph n a) (few : net_count n.design.net ≤ 16777216) (small : row_total n.design.net ≤ 16777216) where
   abbrev m : ℕ
   m = length a.inputs + length a.latches + length a.gates
 

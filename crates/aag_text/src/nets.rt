@@ -8,7 +8,7 @@ ghost use Rattle.aag_text.specs.Same.{registers, register_start};
 ghost use Rattle.hierarchy.specs.Sizes.{row_total};
 ghost use Rattle.aag_text.specs.Private.Gates.{next_of, AreBelow, Grows, rows_at, gates_at};
 ghost use Rattle.aag_text.specs.Taken.{gate_total};
-ghost use Rattle.aag_text.specs.Private.Nets.{literal_at, is_register_at, input_literals, first_literals, IsMadeAt, AreRight, OnlyTables, latch_at, latches_at, HasLiterals, IsGraphOf};
+ghost use Rattle.aag_text.specs.Private.Nets.{literal_at, is_register_at, input_literals, first_literals, IsMadeAt, AreRight, OnlyTables, latch_at, latches_at, HasLiterals, IsMadeGraph};
 ghost use Rattle.aag_text.specs.Aig.{plain_aig};
 
 use crate::gates::{Gates, table_literal};
@@ -287,7 +287,7 @@ fn all_literals(alloc: Global, n: &FlatNet) -> Result<(Vec<Literal>, Gates), Out
 pub fn aig_of(alloc: Global, n: &FreeNet) -> Result<Aig, OutOfMemory>
     requires few { net_count n.now.design.net ≤ 16777216 }
     requires small { row_total n.now.design.net ≤ 16777216 }
-    ensures { IfOk result (λ a. IsGraphOf n.now (plain_aig a)) }
+    ensures { IfOk result (λ a. IsMadeGraph n.now (plain_aig a)) }
 {
     let net = n.net();
     let (literals, gates) = all_literals(alloc, net)?;

@@ -14,7 +14,7 @@ use Rattle.tmr_top.specs.Pairs.{ReadPair, HoldsPair, HoldsCertificate}
 use Rattle.tmr_texts.specs.Texts.{accepted_line}
 use Rattle.tmr_top.specs.Causes.{Where, Succeeds}
 use Rattle.tmr_top.specs.Saves.{with_texts, IsDone, Completes}
-use Rattle.tmr_top.specs.HardenedFiles.{pair_of, LeavesHardened}
+use Rattle.tmr_top.specs.HardenedFiles.{written_pair, LeavesHardened}
 
 module _ (w : Hardening) (held now : Contents) (text : List ℕ) (differ : w.hardened ≢ w.certificate) (is : IsDone (Harden w) held (Some now) text) where
   abbrev design : List ℕ
@@ -64,10 +64,10 @@ module _ (w : Hardening) (held now : Contents) (text : List ℕ) (differ : w.har
       certificate = is.outcome.certificate;
     }
 
-    holds : HoldsPair now (pair_of w) pair
+    holds : HoldsPair now (written_pair w) pair
     holds = record { original_read = original_read; hardened_read = hardened_read; certificate_read = certificate_read }
 
-    validates : Succeeds (Validate (pair_of w)) now
+    validates : Succeeds (Validate (written_pair w)) now
     validates = record {
       fine = (
         record { bytes = original_read.bytes; there = original_read.there; short = original_read.short; fact = tt },

@@ -14,8 +14,8 @@ use Rattle.tmr_top.specs.Certified.{certified_pair, HeldDesigns}
 use Rattle.tmr_top.specs.Causes.{Succeeds}
 
 -- the same three files
-abbrev pub pair_of : Hardening → Pair
-pair_of w = record { original = w.original; hardened = w.hardened; certificate = w.certificate }
+abbrev pub written_pair : Hardening → Pair
+written_pair w = record { original = w.original; hardened = w.hardened; certificate = w.certificate }
 
 -- ORIG held a design, and HARD and CERT now hold a hardened form of it; where ORIG is neither HARD nor CERT, `validate` of the three
 -- files comes to Done
@@ -29,7 +29,7 @@ pub record LeavesHardened (w : Hardening) (held now : Contents) : Type 0 where
   pub form : BoundedForm w.form original free w.size w.version w.most hardened marks certificate
   pub hardened_read : HoldsDesign now (hardened_file w.hardened) hardened marks
   pub certificate_read : HoldsCertificate now (certificate_file w.certificate) original hardened certificate
-  pub validates : w.original ≢ w.hardened → w.original ≢ w.certificate → Succeeds (Validate (pair_of w)) now
+  pub validates : w.original ≢ w.hardened → w.original ≢ w.certificate → Succeeds (Validate (written_pair w)) now
 
 -- ORIG held a design, and GUARDED now holds the guarded design of it, within the limit of such a file; where ORIG is not GUARDED,
 -- `guarded` of the two files comes to Done

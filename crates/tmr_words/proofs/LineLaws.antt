@@ -13,7 +13,7 @@ use Rattle.tmr_words.specs.declared.topic.Topic.TheVariants as topic
 use Rattle.tmr_words.specs.Topics.{topic_of, help_of}
 use Rattle.tmr_words.specs.Line.{Command, Pair, Hardening, Certifying, Validate, Harden, Flatten, Replay, Report, Guard, CheckGuard, WriteGraph, ReadGraph, TryOut, Help, Version}
 use Rattle.tmr_words.specs.Line.{Certify, Exposure, Sweep, Explain, Campaign, Picture}
-use Rattle.tmr_words.specs.Line.{is_file, said, positive_number, version_number, form_named, pair_of, version_of, flattening_of, guarding_of, graphing_of, graph_reading_of, replay_over, replaying_of, waving_of}
+use Rattle.tmr_words.specs.Line.{is_file, said, positive_number, version_number, form_named, pair_named, version_of, flattening_of, guarding_of, graphing_of, graph_reading_of, replay_over, replaying_of, waving_of}
 use Rattle.tmr_words.specs.Line.{hardening_with, hardening_as, hardening_of, certifying_with, certifying_of, sweeping_of, campaigning_of, picturing_of, plain_meaning, meaning_of, line_of}
 
 pub all_said : (form : Form) (words : Words) (size version most : ℕ) → said positive_number 64 words.sizes ≡ Some size → said version_number 1 words.versions ≡ Some version → said positive_number 4294967295 words.depths ≡ Some most → hardening_as form words ≡ hardening_with form size version most words.plain
@@ -90,7 +90,7 @@ replaying_keeps [] = tt
 replaying_keeps (a ∷ []) = tt
 replaying_keeps (a ∷ b ∷ []) = tt
 replaying_keeps (a ∷ b ∷ c ∷ []) = tt
-replaying_keeps (a ∷ b ∷ c ∷ d ∷ []) = replay_keeps (pair_of (a ∷ b ∷ c ∷ [])) d None
+replaying_keeps (a ∷ b ∷ c ∷ d ∷ []) = replay_keeps (pair_named (a ∷ b ∷ c ∷ [])) d None
 replaying_keeps (a ∷ b ∷ c ∷ d ∷ e ∷ words) = tt
 
 waving_keeps : (words : List (List ℕ)) → Keeps (waving_of words)
@@ -100,7 +100,7 @@ waving_keeps (a ∷ []) = tt
 waving_keeps (a ∷ b ∷ []) = tt
 waving_keeps (a ∷ b ∷ c ∷ []) = tt
 waving_keeps (a ∷ b ∷ c ∷ d ∷ []) = tt
-waving_keeps (a ∷ b ∷ c ∷ d ∷ e ∷ []) = choice (is_file e) _ _ (replay_keeps (pair_of (a ∷ b ∷ c ∷ [])) d (Some e)) tt
+waving_keeps (a ∷ b ∷ c ∷ d ∷ e ∷ []) = choice (is_file e) _ _ (replay_keeps (pair_named (a ∷ b ∷ c ∷ [])) d (Some e)) tt
 waving_keeps (a ∷ b ∷ c ∷ d ∷ e ∷ f ∷ words) = tt
 
 first_of : (x y : Bool) → (x && y) ≡ true → x ≡ true
@@ -202,11 +202,11 @@ found_keeps (Some w) apart = apart
 
 plain_keeps : (name : Topic) (words : List (List ℕ)) → Keeps (plain_meaning name words)
 unfolding plain_meaning
-plain_keeps topic.Validate words = mapped Validate (λ p. tt) (pair_of words)
+plain_keeps topic.Validate words = mapped Validate (λ p. tt) (pair_named words)
 plain_keeps topic.Harden words = tt
 plain_keeps topic.Flatten words = flattening_keeps words
 plain_keeps topic.Replay words = replaying_keeps words
-plain_keeps topic.Report words = mapped Report (λ p. tt) (pair_of words)
+plain_keeps topic.Report words = mapped Report (λ p. tt) (pair_named words)
 plain_keeps topic.Trial words = mapped TryOut (λ t. tt) (trial_of words)
 plain_keeps topic.Guard words = mapped Guard (λ g. tt) (guarding_of words)
 plain_keeps topic.CheckGuard words = mapped CheckGuard (λ g. tt) (guarding_of words)
@@ -214,9 +214,9 @@ plain_keeps topic.WriteGraph words = graphing_keeps words
 plain_keeps topic.ReadGraph words = graph_reading_keeps words
 plain_keeps topic.Wave words = waving_keeps words
 plain_keeps topic.Certify words = tt
-plain_keeps topic.Exposure words = mapped Exposure (λ p. tt) (pair_of words)
+plain_keeps topic.Exposure words = mapped Exposure (λ p. tt) (pair_named words)
 plain_keeps topic.Sweep words = tt
-plain_keeps topic.Explain words = mapped Explain (λ p. tt) (pair_of words)
+plain_keeps topic.Explain words = mapped Explain (λ p. tt) (pair_named words)
 plain_keeps topic.Campaign words = mapped Campaign (λ w. tt) (campaigning_of words)
 plain_keeps topic.Picture words = mapped Picture (λ w. tt) (picturing_of words)
 plain_keeps topic.Help words = mapped Help (λ t. tt) (help_of words)

@@ -107,16 +107,17 @@ pub data Command : Type 0 where
 abbrev pub is_file : List ℕ → Bool
 is_file word = nat_lt 0 (length word)
 
-unfoldable pub pair_of : List (List ℕ) → Option Pair
-pair_of (original ∷ hardened ∷ certificate ∷ []) =
+-- the pair of files that three words name
+unfoldable pub pair_named : List (List ℕ) → Option Pair
+pair_named (original ∷ hardened ∷ certificate ∷ []) =
     if is_file original && is_file hardened && is_file certificate
     then Some (record { original = original; hardened = hardened; certificate = certificate })
     else None
-pair_of words = None
+pair_named words = None
 
 -- a command over a pair
 abbrev pub over_pair : (Pair → Command) → List (List ℕ) → Option Command
-over_pair command words = option_map command (pair_of words)
+over_pair command words = option_map command (pair_named words)
 
 abbrev pub over_trial : List (List ℕ) → Option Command
 over_trial words = option_map TryOut (trial_of words)
@@ -165,12 +166,12 @@ replay_over None schedule waves = None
 replay_over (Some pair) schedule waves = if is_file schedule then Some (Replay (record { pair = pair; schedule = schedule; waves = waves })) else None
 
 unfoldable pub replaying_of : List (List ℕ) → Option Command
-replaying_of (original ∷ hardened ∷ certificate ∷ schedule ∷ []) = replay_over (pair_of (original ∷ hardened ∷ certificate ∷ [])) schedule None
+replaying_of (original ∷ hardened ∷ certificate ∷ schedule ∷ []) = replay_over (pair_named (original ∷ hardened ∷ certificate ∷ [])) schedule None
 replaying_of words = None
 
 unfoldable pub waving_of : List (List ℕ) → Option Command
 waving_of (original ∷ hardened ∷ certificate ∷ schedule ∷ waves ∷ []) =
-    if is_file waves then replay_over (pair_of (original ∷ hardened ∷ certificate ∷ [])) schedule (Some waves) else None
+    if is_file waves then replay_over (pair_named (original ∷ hardened ∷ certificate ∷ [])) schedule (Some waves) else None
 waving_of words = None
 
 -- a number from 1 to 4,294,967,295, decimal and without leading zeros
@@ -257,15 +258,15 @@ campaign_over (Some pair) number cycles near =
 -- five words, or six where the last one is `near`
 unfoldable pub campaigning_of : List (List ℕ) → Option Campaigning
 campaigning_of (original ∷ hardened ∷ certificate ∷ number ∷ cycles ∷ []) =
-    campaign_over (pair_of (original ∷ hardened ∷ certificate ∷ [])) number cycles false
+    campaign_over (pair_named (original ∷ hardened ∷ certificate ∷ [])) number cycles false
 campaigning_of (original ∷ hardened ∷ certificate ∷ number ∷ cycles ∷ word ∷ []) =
-    if bytes_eq word (codes "near") then campaign_over (pair_of (original ∷ hardened ∷ certificate ∷ [])) number cycles true else None
+    if bytes_eq word (codes "near") then campaign_over (pair_named (original ∷ hardened ∷ certificate ∷ [])) number cycles true else None
 campaigning_of words = None
 
 unfoldable pub picturing_of : List (List ℕ) → Option Picturing
 picturing_of (original ∷ hardened ∷ certificate ∷ picture ∷ []) =
     if is_file picture
-    then option_map (λ pair. record { pair = pair; picture = picture }) (pair_of (original ∷ hardened ∷ certificate ∷ []))
+    then option_map (λ pair. record { pair = pair; picture = picture }) (pair_named (original ∷ hardened ∷ certificate ∷ []))
     else None
 picturing_of words = None
 

@@ -3,7 +3,7 @@ ghost use Rattle.std.specs.Prelude.{◌≡◌, ◌∷◌, [], IfOk};
 ghost use Rattle.std.specs.Option.{option_map};
 ghost use Rattle.tmr_words.specs.Words.{texts};
 ghost use Rattle.tmr_words.specs.Private.WordsRead.{words_in};
-ghost use Rattle.tmr_words.specs.Line.{Validate, Report, Guard, CheckGuard, Exposure, Explain, Campaign, Picture, is_file, pair_of, over_pair, over_trial, over_help, version_of, flattening_of, guarding_of, over_guarding, graphing_of, graph_reading_of, replay_over, replaying_of, waving_of, campaigning_of, picturing_of, plain_meaning, meaning_of, line_of};
+ghost use Rattle.tmr_words.specs.Line.{Validate, Report, Guard, CheckGuard, Exposure, Explain, Campaign, Picture, is_file, pair_named, over_pair, over_trial, over_help, version_of, flattening_of, guarding_of, over_guarding, graphing_of, graph_reading_of, replay_over, replaying_of, waving_of, campaigning_of, picturing_of, plain_meaning, meaning_of, line_of};
 ghost use Rattle.tmr_words.specs.FileWords.{pair_in, word_in, guarding_in, command_in, read_words as read_texts};
 
 use crate::campaign_line::read_campaigning;
@@ -83,13 +83,13 @@ pub enum CommandWords<'a> {
 }
 
 /// A pair of these files, where none is empty.
-#[tactic(auto, unfolding(crate::specs::Line::pair_of))]
+#[tactic(auto, unfolding(crate::specs::Line::pair_named))]
 pub fn pair_with<'a>(
     original: &'a str,
     hardened: &'a str,
     certificate: &'a str,
 ) -> Option<PairWords<'a>>
-    ensures { option_map pair_in result ≡ pair_of (original.now ∷ hardened.now ∷ certificate.now ∷ []) }
+    ensures { option_map pair_in result ≡ pair_named (original.now ∷ hardened.now ∷ certificate.now ∷ []) }
 {
     if original.is_empty() || hardened.is_empty() || certificate.is_empty() {
         return None;
@@ -102,9 +102,9 @@ pub fn pair_with<'a>(
 }
 
 /// A pair, where there are three words and none is empty.
-#[tactic(auto, unfolding(crate::specs::Line::pair_of))]
+#[tactic(auto, unfolding(crate::specs::Line::pair_named))]
 fn read_pair<'a>(plain: &[&'a str]) -> Option<PairWords<'a>>
-    ensures { option_map pair_in result ≡ pair_of (read_texts plain.now) }
+    ensures { option_map pair_in result ≡ pair_named (read_texts plain.now) }
 {
     match plain {
         [original, hardened, certificate] => pair_with(*original, *hardened, *certificate),

@@ -25,7 +25,8 @@ AreMet values (g ∷ gates) = IsMet values g × AreMet values gates
 -- the gates have the variables from `next` on in order, and read lesser ones, the greater literal first
 unfoldable pub AreStacked : ℕ → List Gate → Type 0
 AreStacked next [] = Unit {0}
-AreStacked next (g ∷ gates) = (g.variable ≡ next) × (g.left.variable < next) × (g.right.variable < next) × IsGreaterFirst g × AreStacked (suc next) gates
+AreStacked next (g ∷ gates) =
+    (g.variable ≡ next) × (g.left.variable < next) × (g.right.variable < next) × IsGreaterFirst g × AreStacked (suc next) gates
 
 -- at most so many gates more; where these are met, those before are
 pub record Grows (count : ℕ) (old new : PlainGates) : Type 0 where

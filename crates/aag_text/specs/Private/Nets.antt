@@ -95,7 +95,7 @@ pub record HasLiterals (d : Design) (literals : List Literal) (gates : PlainGate
   pub below : AreBelow (next_of gates) literals
 
 -- the graph of a design, whose nets have these literals
-pub record IsGraphOf (n : FreeDesign) (a : PlainAig) : Type 0 where
+pub record IsMadeGraph (n : FreeDesign) (a : PlainAig) : Type 0 where
   pub literals : List Literal
   pub gates : PlainGates
   pub has : HasLiterals n.design literals gates
