@@ -69,7 +69,7 @@ fn whole<F: Files>(
 }
 
 /// Saves so many bytes, where there are some, and loads them again, whole and in pieces.
-pub fn real_file<R: rt::Files>(
+pub fn real_file<R: rt::Files + rt::Clock + Eprint>(
     rt: &R,
     alloc: Global,
     name: &str,

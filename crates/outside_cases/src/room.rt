@@ -119,7 +119,7 @@ fn short_answer(room: &mut Room, line: &str) -> Option<&'static str> {
 }
 
 /// What the call that a line is answers.
-pub fn answer<R: rt::Files>(
+pub fn answer<R: rt::Files + rt::Clock + Eprint>(
     rt: &R,
     alloc: Global,
     room: &mut Room,

@@ -6,8 +6,10 @@ ghost use Rattle.std.specs.IoError.{error_kind};
 ghost use Rattle.std.specs.Process.{exit_status};
 ghost use Rattle.tmr_top.specs.Codes.{code_of};
 
-use std::io::ErrorKind;
+use std::env::FillError;
+use std::io::{ErrorKind, IsTerminal};
 use std::process::ExitCode;
+use std::rt::Env;
 use std::{env, io};
 use tmr_outside::{DiskFiles, StdSink};
 use tmr_top::{Status, run};
@@ -40,9 +42,25 @@ fn exit_code(status: Status) -> ExitCode
     ExitCode::from(status.code())
 }
 
+/// Whether long loads are told of: standard error is a terminal, and the variable `TMR_QUIET` is not set.
+fn tells_progress(rt: &HostRuntime) -> bool {
+    let mut value = [0u8; 1];
+    let is_quiet = !matches!(rt.var("TMR_QUIET", &mut value), Err(FillError::NotPresent));
+    !is_quiet && rt.stderr().is_terminal()
+}
+
+/// Real files. Long loads are told of where a person sees it.
+fn real_files(rt: &HostRuntime) -> DiskFiles<'_, HostRuntime> {
+    if tells_progress(rt) {
+        DiskFiles::telling(rt.alloc(), rt)
+    } else {
+        DiskFiles::new(rt.alloc(), rt)
+    }
+}
+
 /// Runs the program over real files and standard output, and hands on nothing of what it promises.
 fn run_words(rt: &HostRuntime, words: &[String]) -> Status {
-    let mut files = DiskFiles::new(rt.alloc(), rt);
+    let mut files = real_files(rt);
     let mut out = StdSink::new(rt);
     run(rt.alloc(), words, &mut files, &mut out)
 }

@@ -17,6 +17,7 @@ mod memory_files;
 mod memory_sink;
 mod pieces;
 mod plan;
+mod progress;
 mod reading;
 mod replacing;
 mod save_target;
@@ -26,6 +27,7 @@ mod source;
 mod standard_sink;
 mod stored_files;
 mod taker;
+mod watched;
 
 pub use disk_files::DiskFiles;
 pub use faults::{LoadFault, PutFault, SaveFault};
