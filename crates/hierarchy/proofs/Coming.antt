@@ -1,9 +1,9 @@
 -- What is still to come after one move of a walk.
-use Rattle.std.proofs.Common.{◌≡◌, ℕ, zero, suc, ◌+◌, ◌-◌, ◌<◌, ◌≤◌, Bool, true, false, cond, List, [], ◌∷◌, ◌++◌, length, take, drop, map, refl, sym, ap, ◌∙◌, subst, arith, add-one, Option, Some, None, append_assoc, drop-cons}
-use Rattle.std.specs.Prelude.{slice_get, slice_index_or}
-use Rattle.std.specs.Option.{option_map_or}
+use Rattle.std.proofs.Common.{◌≡◌, ℕ, zero, suc, ◌+◌, ◌-◌, ◌<◌, ◌≤◌, Bool, true, false, cond, List, [], ◌∷◌, ◌++◌, length, take, drop, map, refl, sym, ap, ◌∙◌, arith, add-one, Option, Some, None, append_assoc, drop-cons}
+use Rattle.std.specs.Prelude.{slice_index_or}
+use Rattle.std.specs.Option.{is_none, option_map_or}
 use Rattle.std.proofs.lemmas.List.{drop_all, length-append, length-take, take-append-le, take_all, length-map}
-use Rattle.std.proofs.lemmas.Option.{slice_get-get_or, get_or_from_slice_get}
+use Rattle.std.proofs.lemmas.Option.{slice_get-get_or}
 use Rattle.blif_text.specs.Models.{PlainElement, Table, Register, Instance, PlainModel}
 use Rattle.blif_text.specs.Library.{name_of}
 use Rattle.hierarchy.specs.declared.walking.walk.Frame.{Frame}
@@ -11,10 +11,14 @@ use Rattle.hierarchy.specs.declared.walking.walk.Walk.{Walk}
 use Rattle.library_faults.specs.Graph.{names_of, number_named, model_named}
 use Rattle.library_faults.specs.Flat.{Level, NetElement, no_model, step, path_of, actual_of, resolve}
 use Rattle.hierarchy.specs.Private.Texts.{elements_with, elements_to}
-use Rattle.hierarchy.specs.Private.Bindings.{filled, target_of, bindings_of, IsBare}
-use Rattle.hierarchy.specs.Private.Walk.{bound_by, level_of, rest_of, coming_from, known_net, AreFrames, AreKnown, placed_element, moves_with, moves_to, moves_from}
+use Rattle.hierarchy.specs.Private.Bindings.{target_of, bindings_of}
+use Rattle.hierarchy.specs.Private.Walk.{bound_by, level_of, rest_of, coming_from, known_net, AreFrames, AreKnown, moves_with, moves_to, moves_from}
 use Rattle.library_faults.specs.Private.Models.{IsInstance, model_at, no_element, element_at}
 use Rattle.library_faults.proofs.GraphLaws.{number_within}
+use Rattle.wrapper_chains.specs.Bare.{AreBare, filled}
+use Rattle.wrapper_chains.specs.Private.Placed.{placed_element}
+use Rattle.wrapper_chains.proofs.BareLaws.{nothing_placed}
+use Rattle.hierarchy.proofs.BareTexts.{nothing_to}
 
 -- ---- paths that begin alike
 
@@ -110,27 +114,13 @@ pub placing_step : (library : List PlainModel) (path : List ℕ) (f g : Frame) (
 unfolding coming_from
 placing_step library path f g fs below i is = rw is (rw (cut library f below, instance_first _ _ f.number (element_at library f.model f.next) (drop (f.next + 1) (model_at library f.model).elements) i) (append_assoc (elements_to library (length library - length fs) (record { path = take f.path_end path ++ step f.number; bindings = bindings_of (element_at library f.model f.next) } ∷ map (level_of library path) (f ∷ fs)) (placed_name (element_at library f.model f.next))) _ _))
 
-module _ (library : List PlainModel) (holds : List Bool) (bare : (x : ℕ) → slice_index_or holds x true ≡ false → IsBare library (model_at library x).elements) where
-  none_at : (depth x : ℕ) (levels : List Level) → slice_index_or holds x true ≡ false → (o : Option PlainModel) → slice_get library x ≡ o → option_map_or (λ m. elements_with (elements_to library depth) levels 0 m.elements) o [] ≡ []
-  none_at depth x levels h None e = refl
-  none_at depth x levels h (Some m) e = subst (λ n. elements_with (elements_to library depth) levels 0 n.elements ≡ []) (get_or_from_slice_get library x m no_model e) (bare x h depth 0 levels)
-
-  none_named : (depth : ℕ) (levels : List Level) (model : List ℕ) (o : Option ℕ) → number_named (names_of library) model ≡ o → filled holds o ≡ None → elements_to library depth levels model ≡ []
-  unfolding elements_to
-  none_named zero levels model o e none = refl
-  none_named (suc depth) levels model None e none = rw e refl
-  none_named (suc depth) levels model (Some x) e none = rw e (none_at depth x levels (off (slice_index_or holds x true) refl none) (slice_get library x) refl)
-    where
-      off : (v : Bool) → slice_index_or holds x true ≡ v → cond v (Some x) None ≡ None → slice_index_or holds x true ≡ false
-      off true f g = absurd cc
-      off false f g = f
-
+module _ (library : List PlainModel) (holds : List Bool) (bare : AreBare library holds) where
   -- what has no target has no elements
   pub no_target : (e : PlainElement) → target_of (names_of library) holds e ≡ None → IsInstance e → (depth : ℕ) (levels : List Level) → elements_to library depth levels (placed_name e) ≡ []
   unfolding placed_name
   no_target (Table pins out cover) none i depth levels = absurd i
   no_target (Register pin out control init) none i depth levels = absurd i
-  no_target (Instance model bindings) none i depth levels = none_named depth levels model (number_named (names_of library) model) refl none
+  no_target (Instance model bindings) none i depth levels = nothing_to library depth levels model (nothing_placed library holds bare depth model (ap is_none none))
 
   some_named : (model : List ℕ) (y : ℕ) (o : Option ℕ) → number_named (names_of library) model ≡ o → filled holds o ≡ Some y → number_named (names_of library) model ≡ Some y
   some_named model y None e some = absurd cc

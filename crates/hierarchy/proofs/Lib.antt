@@ -1,10 +1,9 @@
-pub mod Binding
 pub mod Linking
 pub mod Stacks
+pub mod BareTexts
 pub mod Coming
 pub mod Linked
 pub mod Moved
-pub mod BareLaws
 pub mod Resolving
 pub mod PathTexts
 pub mod Totals
@@ -16,13 +15,6 @@ pub mod SameTexts
 pub mod PathsApart
 pub mod SameClash
 pub mod FlatKeeps
-pub mod Substitutes
-pub mod ChainLaws
-pub mod Lifted
-pub mod OneElement
-pub mod Handing
-pub mod Ways
-pub mod StandIns
 pub mod DepthLaw
 pub mod OrderOrLoop
 pub mod OneAnswer

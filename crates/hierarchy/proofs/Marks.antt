@@ -15,7 +15,7 @@ use Rattle.hierarchy.specs.declared.flat_fault.FlatFault.{FlatFault}
 use Rattle.hierarchy.specs.declared.flat_fault.FlatFault.TheVariants.{Memory}
 use Rattle.library_faults.specs.Flat.{flat_model}
 use Rattle.hierarchy.specs.Clash.{name_clash}
-use Rattle.hierarchy.specs.Flatten.{IsFlatFault, IsSameFault, IsFreeFlat}
+use Rattle.hierarchy.specs.Flatten.{IsFlatFault, IsSameFault, IsFlat, IsFreeFlat}
 use Rattle.library_faults.specs.Sound.{IsSound, Fits}
 use Rattle.hierarchy.proofs.OneAnswer.{one_flat, ok_only, fault_only}
 
@@ -86,6 +86,13 @@ free_flat library limit m n free is sound fits clear faultless design marks = re
     open_are = ap (count_by (λ bit. bit)) marks ∙ (marks_counted m ∙ ap assumed is);
   };
   marks_are = marks ∙ ap open_marks is;
+}
+
+-- the marks are those of the flat model
+pub flat_marked : (library : List PlainModel) (limit : ℕ) (n : Net) (open_values : ℕ) → IsFlat library limit n open_values → IsFreeFlat library limit n (open_marks (flat_model library))
+flat_marked library limit n open_values flat = record {
+  flat = subst (IsFlat library limit n) (flat.open_are ∙ sym (marks_counted (flat_model library))) flat;
+  marks_are = refl;
 }
 
 -- the flat design with its marks is one alone

@@ -1,6 +1,6 @@
 -- A move of a walk past a `.subckt` statement, in the words of the moves' contracts.
-use Rattle.std.proofs.Common.{◌≡◌, ℕ, suc, ◌+◌, ◌-◌, ◌^◌, ◌<◌, ◌≤◌, Bool, true, false, List, [], ◌∷◌, ◌++◌, length, take, map, get_or, refl, sym, ap, subst, ◌∙◌, arith, Option, Some, None}
-use Rattle.std.specs.Prelude.{slice_get, slice_index_or}
+use Rattle.std.proofs.Common.{◌≡◌, ℕ, suc, ◌+◌, ◌-◌, ◌^◌, ◌<◌, ◌≤◌, Bool, List, [], ◌∷◌, ◌++◌, length, take, map, get_or, refl, sym, ap, subst, ◌∙◌, arith, Option, Some, None}
+use Rattle.std.specs.Prelude.{slice_get}
 use Rattle.std.proofs.lemmas.List.{get_or-map, length-map}
 use Rattle.blif_text.specs.Models.{PlainElement, PlainModel}
 use Rattle.blif_text.specs.declared.library.BlifModel.{BlifModel}
@@ -14,12 +14,14 @@ use Rattle.hierarchy.specs.declared.walking.bindings.Row.{Row}
 use Rattle.hierarchy.specs.declared.walking.bindings.Link.{Link}
 use Rattle.library_faults.specs.Graph.{names_of, model_named}
 use Rattle.hierarchy.specs.Private.Texts.{elements_to}
-use Rattle.hierarchy.specs.Private.Bindings.{target_of, bindings_of, Binds, IsBare}
+use Rattle.hierarchy.specs.Private.Bindings.{target_of, bindings_of, Binds}
+use Rattle.wrapper_chains.specs.Bare.{AreBare}
+use Rattle.wrapper_chains.specs.Private.Placed.{placed_element}
 use Rattle.indexmap.specs.IndexMap.{get}
 use mathlib.Core.Path.{fun_ext}
 use Rattle.std.specs.Prelude.{option_and_then}
 use Rattle.std.specs.Str.{bytes_eq}
-use Rattle.hierarchy.specs.Private.Walk.{innermost_first, AreFrames, IsReady, IsMoved, IsNext, IsPathText, IsWalking, IsNetWithin, AreKnown, known_net, bound_by, coming, coming_from, levels_of, level_of, placed_element, moves}
+use Rattle.hierarchy.specs.Private.Walk.{innermost_first, AreFrames, IsReady, IsMoved, IsNext, IsPathText, IsWalking, IsNetWithin, AreKnown, known_net, bound_by, coming, coming_from, levels_of, level_of, moves}
 use Rattle.library_faults.proofs.Models.{at_model}
 use Rattle.hierarchy.proofs.Coming.{placed_name, no_target, target_is, skipped, skipped_frames, passed_fewer, left, left_fewer, frames_weaken, passed, entered, entered_frames, entered_known, entered_fewer}
 use Rattle.hierarchy.proofs.PathTexts.{path_more}
@@ -66,7 +68,7 @@ moved_past library path f fs old w known_same known a below i frames kept none =
   text = λ h. subst IsPathText (sym kept) h;
 }
 
-pub moved_into : (library : List PlainModel) (path : List ℕ) (f : Frame) (fs : List Frame) (middle : List Frame) (old w : Walk) (nets : List ℕ → Option (ℕ × List ℕ)) (y : ℕ) → AreKnown library path (known_net old) (f ∷ fs) → ((k : ℕ) → k < suc (length fs) → known_net w k ≡ known_net old k) → ((name : List ℕ) (end : ℕ) (net : List ℕ) → known_net w (suc (length fs)) name ≡ Some (end, net) → nets name ≡ Some (end, net)) → ((name : List ℕ) (end : ℕ) (net : List ℕ) → nets name ≡ Some (end, net) → (actual : List ℕ) × (actual_of (bound_by library (Some (f.model, f.next))) name ≡ Some actual) × (end ≤ f.path_end) × (resolve (map (level_of library path) (f ∷ fs)) actual ≡ record { path = take end path; name = net })) → AreFrames library (length path) (f ∷ fs) → f.next < length (model_at library f.model).elements → IsInstance (element_at library f.model f.next) → length fs < length library → (holds : List Bool) → ((x : ℕ) → slice_index_or holds x true ≡ false → IsBare library (model_at library x).elements) → target_of (names_of library) holds (element_at library f.model f.next) ≡ Some y → middle ≡ record { model = f.model; next = f.next + 1; number = f.number + 1; placing = f.placing; path_end = f.path_end } ∷ fs → innermost_first w ≡ record { model = y; next = 0; number = 0; placing = Some (f.model, f.next); path_end = length w.path.items } ∷ middle → w.path.items ≡ take f.path_end path ++ step f.number → f.number < 2 ^ 64 → IsMoved library path (f ∷ fs) w
+pub moved_into : (library : List PlainModel) (path : List ℕ) (f : Frame) (fs : List Frame) (middle : List Frame) (old w : Walk) (nets : List ℕ → Option (ℕ × List ℕ)) (y : ℕ) → AreKnown library path (known_net old) (f ∷ fs) → ((k : ℕ) → k < suc (length fs) → known_net w k ≡ known_net old k) → ((name : List ℕ) (end : ℕ) (net : List ℕ) → known_net w (suc (length fs)) name ≡ Some (end, net) → nets name ≡ Some (end, net)) → ((name : List ℕ) (end : ℕ) (net : List ℕ) → nets name ≡ Some (end, net) → (actual : List ℕ) × (actual_of (bound_by library (Some (f.model, f.next))) name ≡ Some actual) × (end ≤ f.path_end) × (resolve (map (level_of library path) (f ∷ fs)) actual ≡ record { path = take end path; name = net })) → AreFrames library (length path) (f ∷ fs) → f.next < length (model_at library f.model).elements → IsInstance (element_at library f.model f.next) → length fs < length library → (holds : List Bool) → AreBare library holds → target_of (names_of library) holds (element_at library f.model f.next) ≡ Some y → middle ≡ record { model = f.model; next = f.next + 1; number = f.number + 1; placing = f.placing; path_end = f.path_end } ∷ fs → innermost_first w ≡ record { model = y; next = 0; number = 0; placing = Some (f.model, f.next); path_end = length w.path.items } ∷ middle → w.path.items ≡ take f.path_end path ++ step f.number → f.number < 2 ^ 64 → IsMoved library path (f ∷ fs) w
 moved_into library path f fs middle old w nets y known_old deep_known grown nets_right a below i deep holds bare target mid frames longer small = record {
   same = rw (frames, mid) (sym (entered library path w.path.items f g h fs y a below i deep found.1 refl refl longer));
   walking = walks library w w.path.items (h ∷ g ∷ fs) refl (frames ∙ ap (λ m. h ∷ m) mid) (entered_frames library path w.path.items f g h fs y a below found.0 refl refl longer) (entered_known library path w.path.items f g h fs y old w nets a known_old deep_known grown longer refl refl nets_right);

@@ -8,6 +8,10 @@ use Rattle.library_faults.specs.Graph.{model_named}
 use Rattle.library_faults.specs.Flat.{PlacedNet, Level, NetElement, NetTable, NetRegister, step, path_text, net_text, main_level, main_of, path_of, actual_of, resolve, resolved_control, elements_with, elements_to, flat_elements, named, named_control, flat_model}
 use Rattle.hierarchy.specs.Private.Texts as texts
 use Rattle.library_faults.proofs.FlatCosts.{one_further}
+use Rattle.wrapper_chains.specs.SameFlat.{IsSameFlat}
+use Rattle.hierarchy.specs.declared.walking.naming.NamingFault.{NamingFault}
+use Rattle.hierarchy.specs.declared.walking.naming.NamingFault.TheVariants.{Clash, Memory}
+use Rattle.hierarchy.specs.Private.Naming.{IsClash}
 
 -- ---- the same elements
 
@@ -102,3 +106,26 @@ named_same (NetRegister pin out control init ∷ es) = rw (control_same control,
 pub same_model : (library : List PlainModel) → texts.flat_model library ≡ flat_model library
 unfolding flat_model texts.flat_model
 same_model library = ap (λ es. record { name = (main_of library).name; inputs = (main_of library).inputs; outputs = (main_of library).outputs; elements = es }) (ap (map texts.named) (sym (flat_texted library)) ∙ named_same (flat_elements library))
+
+-- ---- models of the same flat elements
+
+module _ (library models : List PlainModel) (same : IsSameFlat library models) where
+  elements_alike : texts.flat_elements models ≡ texts.flat_elements library
+  elements_alike = sym (flat_texted models) ∙ (ap (map texted) same.elements ∙ flat_texted library)
+
+  walked_alike : texts.walked models ≡ texts.walked library
+  unfolding texts.walked
+  walked_alike = rw (same.inputs, same.outputs, elements_alike) refl
+
+  pub model_alike : texts.flat_model models ≡ texts.flat_model library
+  unfolding texts.flat_model
+  model_alike = rw (same.name, same.inputs, same.outputs, elements_alike) refl
+
+  pub clash_alike : texts.name_clash models ≡ texts.name_clash library
+  clash_alike = ap (texts.clash_after []) walked_alike
+
+  pub fault_alike : (fault : NamingFault) → IsClash models fault → IsClash library fault
+  fault_alike (Clash text) some = sym clash_alike ∙ some
+  fault_alike Memory some = tt
+
+pub ruleset short_laws = (model_alike, clash_alike, fault_alike)

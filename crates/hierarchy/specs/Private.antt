@@ -5,5 +5,4 @@ pub mod Alone
 pub mod Bindings
 pub mod Walk
 pub mod Naming
-pub mod Chains
 pub mod Stages

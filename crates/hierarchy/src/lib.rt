@@ -6,7 +6,6 @@
 //! library alone. Nothing here recurses over the hierarchy: it is walked by a stack.
 #![tactic(auto)]
 
-mod cutting;
 mod design;
 mod flat_fault;
 mod laws;

@@ -1,35 +1,19 @@
 -- Statements made ready to be followed.
-use Rattle.std.specs.Prelude.{◌≡◌, ℕ, Bool, true, false, List, [], ◌∷◌, Option, Some, None, slice_index_or, if◌then◌else◌}
-use Rattle.std.specs.Option.{is_none}
+use Rattle.std.specs.Prelude.{◌≡◌, ℕ, Bool, List, [], ◌∷◌, Option, Some, None}
 use Rattle.std.specs.Str.{bytes_eq}
 use Rattle.indexmap.specs.IndexMap.{IndexMap, get}
 use Rattle.blif_text.specs.Models.{PlainElement, Table, Register, Instance, PlainModel}
 use Rattle.hierarchy.specs.declared.walking.bindings.Link.{Link}
 use Rattle.library_faults.specs.Graph.{number_named}
-use Rattle.library_faults.specs.Flat.{Level, actual_of}
-use Rattle.hierarchy.specs.Private.Texts.{elements_with, elements_to}
+use Rattle.library_faults.specs.Flat.{actual_of}
+use Rattle.wrapper_chains.specs.Bare.{filled}
 use Rattle.hierarchy.specs.declared.walking.bindings.Row.{Row}
-
--- no element stands in or below the model, wherever it is placed
-abbrev pub IsBare : List PlainModel → List PlainElement → Type 0
-IsBare library elements = (depth number : ℕ) (levels : List Level) → elements_with (elements_to library depth) levels number elements ≡ []
-
--- the model of this number holds elements, or may hold some
-abbrev pub filled : List Bool → Option ℕ → Option ℕ
-filled holds None = None
-filled holds (Some x) = if slice_index_or holds x true then Some x else None
 
 -- what a statement places, where an element stands in it
 abbrev pub target_of : List (List ℕ) → List Bool → PlainElement → Option ℕ
 target_of names holds (Table pins out cover) = None
 target_of names holds (Register pin out control init) = None
 target_of names holds (Instance model bindings) = filled holds (number_named names model)
-
--- a statement that places nothing that holds an element
-abbrev pub is_bare_element : List (List ℕ) → List Bool → PlainElement → Bool
-is_bare_element names holds (Table pins out cover) = false
-is_bare_element names holds (Register pin out control init) = false
-is_bare_element names holds (Instance model bindings) = is_none (filled holds (number_named names model))
 
 -- what a statement binds
 abbrev pub bindings_of : PlainElement → List (List ℕ × List ℕ)

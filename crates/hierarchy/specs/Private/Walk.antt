@@ -1,5 +1,5 @@
 -- What a walk has still to come.
-use Rattle.std.specs.Prelude.{◌≡◌, ℕ, Bool, true, false, zero, suc, ◌+◌, ◌-◌, ◌<◌, ◌≤◌, List, [], ◌∷◌, ◌++◌, length, map, take, drop, reverse, Option, Some, None, slice_get, slice_index_or, option_and_then}
+use Rattle.std.specs.Prelude.{◌≡◌, ℕ, Bool, true, zero, suc, ◌+◌, ◌-◌, ◌<◌, ◌≤◌, List, [], ◌∷◌, ◌++◌, length, map, take, drop, reverse, Option, Some, None, slice_get, option_and_then}
 use Rattle.std.specs.Option.{option_map_or}
 use Rattle.std.specs.List.{list_all}
 use Rattle.std.specs.Str.{bytes_eq}
@@ -9,11 +9,13 @@ use Rattle.blif_text.specs.Models.{PlainElement, Table, Register, Instance, Plai
 use Rattle.hierarchy.specs.declared.walking.walk.Frame.{Frame}
 use Rattle.hierarchy.specs.declared.walking.walk.Walk.{Walk}
 use Rattle.library_faults.specs.Graph.{names_of, model_named}
-use Rattle.library_faults.specs.Flat.{Level, actual_of, NetElement, NetTable, NetRegister, resolve, resolved_control}
+use Rattle.library_faults.specs.Flat.{Level, actual_of, NetElement, resolve}
 use Rattle.library_faults.specs.Private.Models.{model_at, element_at, IsInstance}
 use Rattle.hierarchy.specs.Private.Texts.{elements_with, elements_to}
 use Rattle.hierarchy.specs.declared.walking.bindings.Row.{Row}
-use Rattle.hierarchy.specs.Private.Bindings.{bindings_of, AreRows, IsBare}
+use Rattle.hierarchy.specs.Private.Bindings.{bindings_of, AreRows}
+use Rattle.wrapper_chains.specs.Bare.{AreBare}
+use Rattle.wrapper_chains.specs.Private.Placed.{placed_element}
 
 -- what the statement that places the model binds
 abbrev pub bound_by : List PlainModel → Option (ℕ × ℕ) → List (List ℕ × List ℕ)
@@ -70,12 +72,6 @@ AreKnown library path known (f ∷ frames) =
 abbrev pub IsWalking : List PlainModel → Walk → Type 0
 IsWalking library w = AreFrames library (length w.path.items) (innermost_first w) × AreKnown library w.path.items (known_net w) (innermost_first w)
 
--- the flat element of a table or a register at these levels
-abbrev pub placed_element : List Level → PlainElement → List NetElement
-placed_element levels (Table pins out cover) = NetTable (map (resolve levels) pins) (resolve levels out) cover ∷ []
-placed_element levels (Register pin out control init) = NetRegister (resolve levels pin) (resolve levels out) (resolved_control levels control) init ∷ []
-placed_element levels (Instance model bindings) = []
-
 -- how many moves the walk of a model takes: one for each element, those of the models that it places, and one to leave it
 unfoldable pub moves_with : (List ℕ → ℕ) → List PlainElement → ℕ
 moves_with inner [] = 1
@@ -99,7 +95,7 @@ moves library w = moves_from library (innermost_first w)
 pub record IsReady (library : List PlainModel) (rows : List Row) : Type 0 where
   pub holds : List Bool
   pub links : AreRows (names_of library) holds rows library
-  pub bare : (x : ℕ) → slice_index_or holds x true ≡ false → IsBare library (model_at library x).elements
+  pub bare : AreBare library holds
 
 -- the bytes of a path's text may stand in a name
 abbrev pub IsPathText : List ℕ → Type 0

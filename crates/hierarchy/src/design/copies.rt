@@ -6,6 +6,7 @@ use blif_text::{BlifModel, Element};
 use library_faults::copy_names;
 use std::alloc::Global;
 use tmr_base::{Edge, Name, OutOfMemory};
+use wrapper_chains::copy_bindings;
 
 /// The same control once more.
 fn copy_control(
@@ -18,22 +19,6 @@ fn copy_control(
         Some((edge, clock)) => Ok(Some((*edge, clock.copy(alloc)?))),
         None => Ok(None),
     }
-}
-
-/// The same bindings once more.
-pub(crate) fn copy_bindings(
-    alloc: Global,
-    bindings: &[(Name, Name)],
-) -> Result<Vec<(Name, Name)>, OutOfMemory>
-    ensures { IfOk result (λ copies. copies.items ≡ bindings.now) }
-{
-    let mut copies = Vec::with_capacity(alloc, bindings.len())?;
-    for (formal, actual) in bindings {
-        let formal = formal.copy(alloc)?;
-        let actual = actual.copy(alloc)?;
-        copies.push((formal, actual))?;
-    }
-    Ok(copies)
 }
 
 /// The same element once more.

@@ -15,10 +15,9 @@ ghost use Rattle.hierarchy.specs.Private.Walk.{IsReady};
 ghost use Rattle.hierarchy.specs.Private.Naming.{IsClash};
 ghost use Rattle.hierarchy.specs.Private.Stages.{IsFlatModel};
 
-use crate::cutting::cut_short::cut_short;
-use crate::cutting::empty_models::{branching_models, filled_models};
 use crate::flat_fault::FlatFault;
 use crate::walking::bindings::{Row, all_links};
+use crate::walking::branching::branching_models;
 use crate::walking::named_model::named_model;
 use crate::walking::naming::NamingFault;
 use crate::walking::walk::is_placing;
@@ -26,24 +25,16 @@ use blif_text::{BlifModel, Element};
 use library_faults::{Looked, look};
 use std::alloc::Global;
 use tmr_base::OutOfMemory;
+use wrapper_chains::{cut_short, filled_models};
 
 /// The statements of a library made ready to be followed. What was known of it is let go.
 fn ready_rows(alloc: Global, models: &[BlifModel], looked: Looked) -> Result<Vec<Row>, OutOfMemory>
     requires { looked.names.keys ≡ names_of (map plain_model models.now) }
     ensures { IfOk result (λ rows. IsReady (map plain_model models.now) rows.items) }
 {
-    let names = &looked.names;
-    let holds = filled_models(alloc, names, models, &looked.order)?;
-    let branching = branching_models(alloc, names, models, &holds)?;
-    all_links(
-        alloc,
-        names,
-        &holds,
-        &branching,
-        &looked.positions,
-        &looked.counts,
-        models,
-    )
+    let holds = filled_models(alloc, &looked.names, models, &looked.order)?;
+    let branching = branching_models(alloc, &looked.names, models, &holds)?;
+    all_links(alloc, &looked, &holds, &branching, models)
 }
 
 /// The main model with the flat elements, unless two nets share a text. All statements are followed as they stand.
@@ -62,7 +53,8 @@ fn walked_model(
     named_model(alloc, models, &rows)
 }
 
-/// The same, where long chains of models are cut short before.
+/// The same, where long chains of wrappers are cut short before.
+#[tactic(auto, using(crate::proofs::SameTexts::short_laws))]
 fn named_flat(
     alloc: Global,
     models: Vec<BlifModel>,
@@ -74,14 +66,7 @@ fn named_flat(
     ensures clear { OnOk result (texted_clash (map plain_model models.items) ≡ None) }
     ensures fault { IfErr result (λ fault. IsClash (map plain_model models.items) fault) }
 {
-    let short = cut_short(
-        alloc,
-        models,
-        &looked.names,
-        &looked.order,
-        &looked.positions,
-        &looked.counts,
-    )?;
+    let short = cut_short(alloc, models, &looked)?;
     walked_model(alloc, &short, looked)
 }
 

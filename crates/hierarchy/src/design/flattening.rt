@@ -102,29 +102,30 @@ fn taken_flat(alloc: Global, models: Vec<BlifModel>, limit: u64) -> Result<FreeN
     flat_design(alloc, flat, limit)
 }
 
-/// The same, of a library that stays as it is.
-fn flat_of(alloc: Global, lib: &Library, limit: u64) -> Result<FreeNet, FlatFault>
-    requires { limit ≤ 1073741824 }
-    ensures ok { IfOk result (λ flat. IsFreeFlat lib.now limit flat.design.net flat.free) }
-    ensures fault { IfErr result (λ fault. IsFlatFault lib.now limit fault) }
+/// The same design, or the same fault. It is the only answer: this is the one way, and each public call goes it.
+fn flattened(alloc: Global, models: Vec<BlifModel>, limit: u64) -> Result<FreeNet, FlatFault>
+    requires library { IsLibrary (map plain_model models.items) }
+    requires limit { limit ≤ 1073741824 }
+    ensures ok { IfOk result (λ flat. IsFreeFlat (map plain_model models.items) limit flat.design.net flat.free) }
+    ensures ok_only { (n : Net) (free : List Bool) → IsFreeFlat (map plain_model models.items) limit n free
+        → MatchResult result (λ flat. (flat.design.net ≡ n) × (flat.free ≡ free)) (λ fault. fault ≡ Memory) }
+    ensures fault { IfErr result (λ fault. IsFlatFault (map plain_model models.items) limit fault) }
+    ensures fault_only { (fault : FlatFault) → fault ≢ Memory → IsFlatFault (map plain_model models.items) limit fault
+        → IsErrAnd result (λ answered. (answered ≡ Memory) ⊎ IsSameFault answered fault) }
     ensures nets { IfOk result (λ flat. 2 * (net_count flat.design.net + pin_total flat.design.net) ≤ limit) }
     ensures rows { IfOk result (λ flat. row_total flat.design.net ≤ limit) }
 {
-    let models = copy_models(alloc, lib.models())?;
     taken_flat(alloc, models, limit)
 }
 
-/// The same, of a library that is not used again.
-fn owned_flat(alloc: Global, lib: Library, limit: u64) -> Result<FreeNet, FlatFault>
-    requires { limit ≤ 1073741824 }
-    ensures ok { IfOk result (λ flat. IsFreeFlat lib limit flat.design.net flat.free) }
-    ensures fault { IfErr result (λ fault. IsFlatFault lib limit fault) }
-    ensures nets { IfOk result (λ flat. 2 * (net_count flat.design.net + pin_total flat.design.net) ≤ limit) }
-    ensures rows { IfOk result (λ flat. row_total flat.design.net ≤ limit) }
+/// The models of a library that is not used again, in no more room than they take.
+fn models_of(lib: Library) -> Vec<BlifModel>
+    ensures models { map plain_model result.items ≡ lib }
+    ensures kept { IsLibrary lib }
 {
     let mut models = lib.into_models();
     models.shrink_to_fit();
-    taken_flat(alloc, models, limit)
+    models
 }
 
 /// The flat design of the library, where its flat text has at most `limit` bytes, with a mark at each
@@ -145,7 +146,7 @@ pub fn flatten_free(alloc: Global, lib: &Library, limit: u64) -> Result<FreeNet,
     ensures nets { IfOk result (λ flat. 2 * (net_count flat.design.net + pin_total flat.design.net) ≤ limit) }
     ensures rows { IfOk result (λ flat. row_total flat.design.net ≤ limit) }
 {
-    flat_of(alloc, lib, limit)
+    flattened(alloc, copy_models(alloc, lib.models())?, limit)
 }
 
 /// The same design, or the same fault, of a library that is not used again: a main model that places no models is
@@ -162,7 +163,7 @@ pub fn flatten_owned(alloc: Global, lib: Library, limit: u64) -> Result<FreeNet,
     ensures nets { IfOk result (λ flat. 2 * (net_count flat.design.net + pin_total flat.design.net) ≤ limit) }
     ensures rows { IfOk result (λ flat. row_total flat.design.net ≤ limit) }
 {
-    owned_flat(alloc, lib, limit)
+    flattened(alloc, models_of(lib), limit)
 }
 
 /// The design alone, and how many marks it has.
@@ -174,20 +175,6 @@ fn unmarked(flat: FreeNet) -> Flat
     Flat {
         net: flat.into_net(),
         assumed,
-    }
-}
-
-/// The flat design, and how many of its registers have an open initial value.
-fn flat_counted(alloc: Global, lib: &Library, limit: u64) -> Result<Flat, FlatFault>
-    requires { limit ≤ 1073741824 }
-    ensures ok { IfOk result (λ flat. IsFlat lib.now limit flat.net.net flat.assumed) }
-    ensures fault { IfErr result (λ fault. IsFlatFault lib.now limit fault) }
-    ensures nets { IfOk result (λ flat. 2 * (net_count flat.net.net + pin_total flat.net.net) ≤ limit) }
-    ensures rows { IfOk result (λ flat. row_total flat.net.net ≤ limit) }
-{
-    match flat_of(alloc, lib, limit) {
-        Ok(flat) => Ok(unmarked(flat)),
-        Err(fault) => Err(fault),
     }
 }
 
@@ -203,5 +190,8 @@ pub fn flatten(alloc: Global, lib: &Library, limit: u64) -> Result<Flat, FlatFau
     ensures nets { IfOk result (λ flat. 2 * (net_count flat.net.net + pin_total flat.net.net) ≤ limit) }
     ensures rows { IfOk result (λ flat. row_total flat.net.net ≤ limit) }
 {
-    flat_counted(alloc, lib, limit)
+    match flatten_free(alloc, lib, limit) {
+        Ok(flat) => Ok(unmarked(flat)),
+        Err(fault) => Err(fault),
+    }
 }

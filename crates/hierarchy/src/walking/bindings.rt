@@ -1,18 +1,15 @@
 //! The statements of a library made ready to be followed: what each places, and what it binds, by name.
-ghost use Rattle.std.specs.Prelude.{◌≡◌, ℕ, List, map, option_copied, IfOk, OnOk, Some, None, if◌then◌else◌};
-ghost use Rattle.std.specs.Str.{bytes_eq};
-ghost use Rattle.std.specs.Option.{option_or};
-ghost use Rattle.indexmap.specs.IndexMap.{get};
+ghost use Rattle.std.specs.Prelude.{◌≡◌, map, option_copied, IfOk};
 ghost use Rattle.blif_text.specs.Views.{plain_model, plain_element};
-ghost use Rattle.library_faults.specs.Graph.{number_named};
 ghost use Rattle.library_faults.specs.Flat.{actual_of};
-ghost use Rattle.hierarchy.specs.Private.Bindings.{filled, bindings_of, Binds, IsLink, AreLinks, AreRows};
+ghost use Rattle.hierarchy.specs.Private.Bindings.{bindings_of, Binds, IsLink, AreLinks, AreRows};
 
 use blif_text::{BlifModel, Element};
 use indexmap::{IndexMap, IndexSet};
-use library_faults::{Count, entry_of, times_used};
+use library_faults::{Count, Looked, entry_of, times_used};
 use std::alloc::{AllocError, Global};
 use tmr_base::{Name, OutOfMemory};
+use wrapper_chains::{bind_actuals, filled_target};
 
 /// A statement of at most so many bindings is asked by a walk over them. A map for each takes more memory than
 /// the statement.
@@ -33,38 +30,6 @@ pub struct Link {
 #[derive(Drop)]
 pub struct Row {
     pub(crate) links: Vec<Link>,
-}
-
-/// Binds a formal, unless it is bound.
-fn bind_one(
-    alloc: Global,
-    actuals: &mut IndexMap<Name, Name>,
-    formal: &Name,
-    actual: &Name,
-) -> Result<(), OutOfMemory>
-    ensures { OnOk result ((name : List ℕ) → get bytes_eq actuals.new name ≡ option_or (get bytes_eq actuals.old name) (if bytes_eq name formal.now then Some actual.now else None)) }
-{
-    if actuals.contains_key(formal) {
-        return Ok(());
-    }
-    let formal = formal.copy(alloc)?;
-    let actual = actual.copy(alloc)?;
-    actuals.insert(formal, actual)?;
-    Ok(())
-}
-
-/// The actual of each formal.
-pub(crate) fn bind_actuals(
-    alloc: Global,
-    bindings: &[(Name, Name)],
-) -> Result<IndexMap<Name, Name>, OutOfMemory>
-    ensures { IfOk result (λ actuals. (name : List ℕ) → get bytes_eq actuals name ≡ actual_of bindings.now name) }
-{
-    let mut actuals = IndexMap::with_capacity(alloc, bindings.len())?;
-    for (formal, actual) in bindings {
-        bind_one(alloc, &mut actuals, formal, actual)?;
-    }
-    Ok(actuals)
 }
 
 /// The actual of each formal, where there are many bindings.
@@ -108,18 +73,6 @@ pub(crate) fn actual_at<'a>(link: &'a Link, element: &'a Element, name: &Name) -
     }
 }
 
-/// The model of this name, where an element stands in it.
-#[tactic(auto, unfolding(library_faults::specs::Graph::number_named))]
-pub(crate) fn filled_target(names: &IndexSet<Name>, holds: &[bool], model: &Name) -> Option<usize>
-    ensures { result ≡ filled holds.now (number_named names.now.keys model.now) }
-{
-    let x = names.get_index_of(model)?;
-    match holds.get(x) {
-        Some(false) => None,
-        _ => Some(x),
-    }
-}
-
 /// The places of the bindings whose formals stand in flat elements of a model with this count.
 fn asked_formals(
     alloc: Global,
@@ -146,26 +99,37 @@ fn is_branching(names: &IndexSet<Name>, branching: &[bool], model: &Name) -> boo
     }
 }
 
+/// The places of the bindings of a statement that a walk asks for below it.
+fn asked_below(
+    alloc: Global,
+    looked: &Looked,
+    branching: &[bool],
+    model: &Name,
+    bindings: &[(Name, Name)],
+) -> Result<Vec<usize>, AllocError> {
+    if !is_branching(&looked.names, branching, model) {
+        return Ok(Vec::new(alloc));
+    }
+    let count = entry_of(&looked.names, &looked.positions, &looked.counts, model);
+    asked_formals(alloc, bindings, count)
+}
+
+/// The element, ready to be followed.
 fn link_of(
     alloc: Global,
-    names: &IndexSet<Name>,
+    looked: &Looked,
     holds: &[bool],
     branching: &[bool],
-    positions: &[usize],
-    counts: &[Option<Count>],
     element: &Element,
 ) -> Result<Link, OutOfMemory>
-    ensures { IfOk result (λ link. IsLink names.now.keys holds.now link (plain_element element.now)) }
+    ensures { IfOk result (λ link. IsLink looked.now.names.keys holds.now link (plain_element element.now)) }
 {
     match element {
         Element::Instance { model, bindings } => {
             let actuals = many_actuals(alloc, bindings)?;
-            let asked = match is_branching(names, branching, model) {
-                true => asked_formals(alloc, bindings, entry_of(names, positions, counts, model))?,
-                false => Vec::new(alloc),
-            };
+            let asked = asked_below(alloc, looked, branching, model, bindings)?;
             Ok(Link {
-                target: filled_target(names, holds, model),
+                target: filled_target(&looked.names, holds, model),
                 actuals,
                 asked,
             })
@@ -178,21 +142,20 @@ fn link_of(
     }
 }
 
+/// The links of the elements of a model.
 #[tactic(auto, using(crate::proofs::Linking::linking_laws))]
 fn links_of(
     alloc: Global,
-    names: &IndexSet<Name>,
+    looked: &Looked,
     holds: &[bool],
     branching: &[bool],
-    positions: &[usize],
-    counts: &[Option<Count>],
     elements: &[Element],
 ) -> Result<Vec<Link>, OutOfMemory>
-    ensures { IfOk result (λ links. AreLinks names.now.keys holds.now links.items (map plain_element elements.now)) }
+    ensures { IfOk result (λ links. AreLinks looked.now.names.keys holds.now links.items (map plain_element elements.now)) }
 {
     let mut links = Vec::with_capacity(alloc, elements.len())?;
     for element in elements {
-        links.push(link_of(alloc, names, holds, branching, positions, counts, element)?)?;
+        links.push(link_of(alloc, looked, holds, branching, element)?)?;
     }
     Ok(links)
 }
@@ -201,26 +164,16 @@ fn links_of(
 #[tactic(auto, using(crate::proofs::Linking::linking_laws))]
 pub(crate) fn all_links(
     alloc: Global,
-    names: &IndexSet<Name>,
+    looked: &Looked,
     holds: &[bool],
     branching: &[bool],
-    positions: &[usize],
-    counts: &[Option<Count>],
     models: &[BlifModel],
 ) -> Result<Vec<Row>, OutOfMemory>
-    ensures { IfOk result (λ rows. AreRows names.now.keys holds.now rows.items (map plain_model models.now)) }
+    ensures { IfOk result (λ rows. AreRows looked.now.names.keys holds.now rows.items (map plain_model models.now)) }
 {
     let mut rows = Vec::with_capacity(alloc, models.len())?;
     for model in models {
-        let links = links_of(
-            alloc,
-            names,
-            holds,
-            branching,
-            positions,
-            counts,
-            &model.elements,
-        )?;
+        let links = links_of(alloc, looked, holds, branching, &model.elements)?;
         rows.push(Row { links })?;
     }
     Ok(rows)

@@ -7,7 +7,8 @@ ghost use Rattle.blif_text.specs.Models.{Table, Register};
 ghost use Rattle.hierarchy.specs.Private.Texts.{named};
 ghost use Rattle.hierarchy.specs.Clash.{nets_of};
 ghost use Rattle.hierarchy.specs.Private.Naming.{AreNamed, IsNamingFault};
-ghost use Rattle.hierarchy.specs.Private.Walk.{IsPathText, IsReady, IsWalking, coming, levels_of, placed_element};
+ghost use Rattle.hierarchy.specs.Private.Walk.{IsPathText, IsReady, IsWalking, coming, levels_of};
+ghost use Rattle.wrapper_chains.specs.Private.Placed.{placed_element};
 ghost use Rattle.library_faults.specs.Private.Models.{IsInstance};
 
 use crate::walking::bindings::Row;

@@ -6,7 +6,8 @@ use Rattle.indexmap.specs.IndexMap.{get}
 use Rattle.blif_text.specs.Views.{plain_model, plain_element}
 use Rattle.hierarchy.specs.Clash.{nets_of}
 use Rattle.hierarchy.specs.Private.Naming.{IsNamingFault}
-use Rattle.hierarchy.specs.Private.Walk.{levels_of, placed_element, coming, IsNext, IsNextElement}
+use Rattle.hierarchy.specs.Private.Walk.{levels_of, coming, IsNext, IsNextElement}
+use Rattle.wrapper_chains.specs.Private.Placed.{placed_element}
 use Rattle.library_faults.specs.Private.Models.{element_at}
 use Rattle.hierarchy.proofs.Moved.{at_element}
 use Rattle.library_faults.proofs.Models.{at_model}

@@ -7,7 +7,8 @@ use Rattle.std.specs.Prelude.{flat_map}
 use Rattle.blif_text.specs.Models.{Table}
 use Rattle.hierarchy.specs.Clash.{nets_of}
 use Rattle.hierarchy.specs.Private.Naming.{IsNamingFault}
-use Rattle.hierarchy.specs.Private.Walk.{levels_of, placed_element}
+use Rattle.hierarchy.specs.Private.Walk.{levels_of}
+use Rattle.wrapper_chains.specs.Private.Placed.{placed_element}
 use Rattle.hierarchy.proofs.NetNames.{table_named, table_pins_fault, table_out_fault}
 use Rattle.hierarchy.proofs.walking.named_element.name_table.Goals as goal
 

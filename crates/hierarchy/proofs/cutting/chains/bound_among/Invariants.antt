@@ -1,6 +1,0 @@
-use Rattle.std.proofs.Common.{take}
-use Rattle.hierarchy.proofs.Handing.{AreAlike}
-use Rattle.hierarchy.proofs.cutting.chains.bound_among.Given as goal
-
-abbrev pub invariant-loop-name : goal.invariant-loop-name
-invariant-loop-name l = AreAlike l.count (take l.name-index l.names) l.nets.items

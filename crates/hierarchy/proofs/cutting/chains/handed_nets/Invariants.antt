@@ -1,8 +1,0 @@
-use Rattle.std.proofs.Common.{take}
-use Rattle.std.specs.Str.{bytes_eq}
-use Rattle.indexmap.specs.IndexMap.{get}
-use Rattle.hierarchy.specs.Private.Chains.{IsHandedOn}
-use Rattle.hierarchy.proofs.cutting.chains.handed_nets.Given as goal
-
-abbrev pub invariant-loop-name : goal.invariant-loop-name
-invariant-loop-name l = IsHandedOn (take l.name-index l.nets) (get bytes_eq l.actuals) l.handed.items

@@ -1,8 +1,0 @@
-use Rattle.hierarchy.proofs.Marks.{free_only, free_fault_only}
-use Rattle.hierarchy.proofs.design.flattening.flatten_owned.Goals as goal
-
-pub returns-clause-ok_only : goal.returns-clause-ok_only
-returns-clause-ok_only c = free_only c.args.lib c.args.limit c.owned_flat.result c.owned_flat.ensures.ok c.owned_flat.ensures.fault
-
-pub returns-clause-fault_only : goal.returns-clause-fault_only
-returns-clause-fault_only c = free_fault_only c.args.lib c.args.limit c.owned_flat.result c.owned_flat.ensures.ok c.owned_flat.ensures.fault

@@ -1,0 +1,9 @@
+pub mod Binding
+pub mod BareLaws
+pub mod Substitutes
+pub mod ChainLaws
+pub mod Lifted
+pub mod OneElement
+pub mod Handing
+pub mod WayLaws
+pub mod StandIns
