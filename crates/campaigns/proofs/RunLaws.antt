@@ -21,8 +21,8 @@ use Rattle.schedule_replay.specs.declared.outcome.Outcome.{Outcome}
 use Rattle.schedule_replay.specs.Many.{AreReplaysOf, HaveOneLength}
 use Rattle.schedule_replay.specs.Outcome.{PlainOutcome, IsReplayOf, differs, is_wrong, output_at, outputs_in, outputs_until, one_if, copies_wrong, late_at, late_in, late_until, is_quiet}
 use Rattle.schedule_replay.specs.OutcomeView.{plain_outcome}
-use Rattle.schedule_replay.specs.Schedule.{PlainSchedule}
-use Rattle.schedule_replay.proofs.Kept.{append_cases}
+use Rattle.schedules.specs.Schedule.{PlainSchedule}
+use Rattle.schedules.proofs.Kept.{append_cases}
 use Rattle.schedule_replay.proofs.Quiet.{three_outputs}
 use Rattle.schedule_replay.proofs.Unharmed.{plain_unharmed}
 use Rattle.tmr_trial.specs.Schedules.{IsDrawnSchedule}

@@ -7,7 +7,7 @@ use Rattle.certificate.specs.Cert.{PlainCert}
 use Rattle.certificate.specs.Schedules.{Allowed}
 use Rattle.certificate.specs.Text.{line_text}
 use Rattle.schedule_replay.specs.declared.outcome.Outcome.{Outcome}
-use Rattle.schedule_replay.specs.Schedule.{PlainSchedule}
+use Rattle.schedules.specs.Schedule.{PlainSchedule}
 use Rattle.schedule_replay.specs.Many.{AreReplaysOf}
 use Rattle.tmr_trial.specs.Schedules.{IsDrawnSchedule}
 use Rattle.campaigns.specs.declared.sums.CampaignSums.{CampaignSums}

@@ -9,7 +9,7 @@ use Rattle.certificate.specs.Text.{line_text}
 use Rattle.schedule_replay.specs.declared.outcome.Difference.{Difference}
 use Rattle.schedule_replay.specs.declared.outcome.Outcome.{Outcome}
 use Rattle.schedule_replay.specs.Outcome.{is_wrong}
-use Rattle.schedule_replay.specs.Schedule.{PlainSchedule}
+use Rattle.schedules.specs.Schedule.{PlainSchedule}
 use Rattle.schedule_replay.specs.Many.{AreReplaysOf}
 use Rattle.tmr_trial.specs.NearSchedules.{IsNearSchedule}
 use Rattle.campaigns.specs.declared.sums.CampaignSums.{CampaignSums}

@@ -12,7 +12,8 @@ use crate::lines::campaign_text;
 use crate::sums::{CampaignSums, sum_runs};
 use certificate::Certificate;
 use flat_net::{FlatNet, FreeNet};
-use schedule_replay::{Outcome, Schedule, replay_wide};
+use schedule_replay::{Outcome, replay_wide};
+use schedules::Schedule;
 use std::alloc::Global;
 use tmr_base::OutOfMemory;
 

@@ -2,7 +2,7 @@
 ghost use Rattle.std.specs.Prelude.{◌≡◌, ◌+◌, ◌%◌, ◌^◌, ◌≤◌, ℕ, All, Some, length, slice_get, IfOk};
 ghost use Rattle.certificate.specs.Cert.{Fits};
 ghost use Rattle.certificate.specs.Schedules.{Allowed};
-ghost use Rattle.schedule_replay.specs.Schedule.{PlainSchedule};
+ghost use Rattle.schedules.specs.Schedule.{PlainSchedule};
 ghost use Rattle.tmr_trial.specs.Schedules.{IsDrawnSchedule};
 ghost use Rattle.tmr_trial.specs.Members.{AreMembers};
 ghost use Rattle.tmr_trial.specs.NearSchedules.{IsNearSchedule};
@@ -12,7 +12,7 @@ ghost use Rattle.campaigns.specs.Private.Running.{IsRunnable};
 
 use certificate::Certificate;
 use flat_net::FlatNet;
-use schedule_replay::Schedule;
+use schedules::Schedule;
 use std::alloc::Global;
 use tmr_base::OutOfMemory;
 use tmr_trial::{Members, members_of, near_schedule, schedule};

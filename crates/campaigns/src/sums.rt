@@ -3,7 +3,8 @@ ghost use Rattle.std.specs.Prelude.{◌≡◌, ◌+◌, ◌*◌, ◌≤◌, ◌<
 ghost use Rattle.campaigns.specs.Campaign.{AreSumsOf};
 ghost use Rattle.campaigns.specs.Private.Running.{IsBounded};
 
-use schedule_replay::{Outcome, Schedule};
+use schedule_replay::Outcome;
+use schedules::Schedule;
 
 /// Over all runs: the upsets, the outputs of which some copy differs from the original, those of which fewer
 /// than two copies equal the original, and the copies of nodes that differ in a quiet partition.

@@ -2,7 +2,7 @@
 ghost use Rattle.std.specs.Prelude.{◌≡◌, ◌*◌, ◌<◌, ◌≤◌, All, IfOk, length};
 ghost use Rattle.flat_net.specs.Net.{net_count};
 ghost use Rattle.certificate.specs.Cert.{Fits};
-ghost use Rattle.schedule_replay.specs.Reading.{IsNodeOf};
+ghost use Rattle.schedules.specs.Reading.{IsNodeOf};
 
 use crate::campaigning::campaign_text;
 use crate::designs::design_of;
@@ -12,10 +12,8 @@ use crate::printing::{allowed_text, fault_text, replay_text, schedule_text, wave
 use crate::stepping::stepping_text;
 use certificate::{Certificate, read_cert};
 use flat_net::{FlatNet, FreeNet};
-use schedule_replay::{
-    Outcome, Schedule, ScheduleFault, is_allowed, read_schedule, read_schedule_free, replay,
-    replay_free, wave_values,
-};
+use schedule_replay::{Outcome, is_allowed, replay, replay_free, wave_values};
+use schedules::{Schedule, ScheduleFault, read_schedule, read_schedule_free};
 use std::alloc::{AllocError, Global};
 use tmr_base::OutOfMemory;
 

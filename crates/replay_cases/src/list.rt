@@ -2,12 +2,13 @@
 ghost use Rattle.std.specs.Prelude.{◌≡◌, ◌++◌, ◌∷◌, [], ◌*◌, ◌<◌, ◌≤◌, All, IfOk, OnOk, IsTrue, length};
 ghost use Rattle.certificate.specs.Cert.{Fits};
 ghost use Rattle.schedule_replay.specs.Many.{HaveOneLength};
-ghost use Rattle.schedule_replay.specs.Reading.{IsNodeOf};
+ghost use Rattle.schedules.specs.Reading.{IsNodeOf};
 
 use crate::printing::put_replay;
 use certificate::Certificate;
 use flat_net::FlatNet;
-use schedule_replay::{Schedule, ScheduleFault, read_schedule, replay_wide};
+use schedule_replay::replay_wide;
+use schedules::{Schedule, ScheduleFault, read_schedule};
 use std::alloc::Global;
 use tmr_base::OutOfMemory;
 

@@ -1,7 +1,8 @@
 //! What is answered, as text.
 
 use flat_net::FlatNet;
-use schedule_replay::{Difference, Outcome, Schedule, ScheduleFault};
+use schedule_replay::{Difference, Outcome};
+use schedules::{Schedule, ScheduleFault};
 use std::alloc::{AllocError, Global};
 
 /// 0 or 1.

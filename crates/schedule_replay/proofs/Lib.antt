@@ -4,12 +4,7 @@ pub mod RunWords
 pub mod SeenLaws
 pub mod Taking
 pub mod Counting
-pub mod Documents
-pub mod Kept
 pub mod MaskedLaws
-pub mod Places
-pub mod Members
-pub mod Listing
 pub mod Starting
 pub mod Placing
 pub mod WaveLaws
@@ -18,4 +13,3 @@ pub mod WideLaws
 pub mod WideRows
 pub mod WideOutcomes
 pub mod Unharmed
-pub mod Steps

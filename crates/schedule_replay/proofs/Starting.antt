@@ -15,8 +15,8 @@ use Rattle.certificate.specs.Starts.{counted, spread_start}
 use Rattle.net_simulator.specs.Cycle.{IsCycle, cycle_after, values_of, forced_to}
 use Rattle.net_simulator.specs.Forced.{forced_value}
 use Rattle.net_simulator.proofs.OneCycle.{before_cycle, one_cycle}
-use Rattle.schedule_replay.specs.Schedule.{PlainSchedule, IsPlainSchedule, IsBefore}
-use Rattle.schedule_replay.specs.Reading.{IsNodeOf}
+use Rattle.schedules.specs.Schedule.{PlainSchedule, IsPlainSchedule, IsBefore}
+use Rattle.schedules.specs.Reading.{IsNodeOf}
 use Rattle.schedule_replay.specs.Starts.{or_else, start_in, MarksRegisters, AreStarts}
 use Rattle.schedule_replay.proofs.Taking.{or_none, forced_to-append, all_spread}
 

@@ -19,7 +19,7 @@ use Rattle.certificate.specs.declared.role.Role.TheVariants.{Copy, Voter}
 use Rattle.certificate.specs.Cert.{PlainCert, IsCert, role_of}
 use Rattle.certificate.specs.Schedules.{RoleIsIn, IsIn}
 use Rattle.net_simulator.specs.Cycle.{forced_to}
-use Rattle.schedule_replay.specs.Schedule.{PlainSchedule, IsPlainSchedule}
+use Rattle.schedules.specs.Schedule.{PlainSchedule, IsPlainSchedule}
 use Rattle.schedule_replay.specs.Outcome.{strikes, is_that, part_of_role}
 use Rattle.schedule_replay.specs.Striking.{IsTaken, IsUpTo, IsLastStrike, AreLatest, with_strike}
 use Rattle.schedule_replay.specs.Starts.{or_else}

@@ -12,8 +12,8 @@ use Rattle.certificate.specs.Cert.{PlainCert, part_of}
 use Rattle.certificate.specs.Schedules.{IsQuiet}
 use Rattle.validator.specs.Masking.{IsMasked, TwoOf, Gives, Masks, FreeMasks}
 use Rattle.schedule_replay.specs.Outcome.{PlainOutcome, IsOutcome, IsReplayOf, IsFreeReplay, is_wrong, late_at, output_at}
-use Rattle.schedule_replay.specs.Reading.{IsNodeOf}
-use Rattle.schedule_replay.specs.Schedule.{PlainSchedule, IsPlainSchedule}
+use Rattle.schedules.specs.Reading.{IsNodeOf}
+use Rattle.schedules.specs.Schedule.{PlainSchedule, IsPlainSchedule}
 use Rattle.schedule_replay.specs.Starts.{given_starts}
 use Rattle.schedule_replay.proofs.MaskedLaws.{TwoAre, output_right, node_right, masked_outcome}
 use Rattle.schedule_replay.proofs.Quiet.{quiet_is}

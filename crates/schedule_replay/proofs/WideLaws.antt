@@ -12,11 +12,11 @@ use Rattle.schedule_replay.specs.Running.{HasCounted, CountsFit}
 use Rattle.schedule_replay.specs.Wide.{HasNoted, Notes, HasBegun, HasTaken, IsFresh}
 use Rattle.schedule_replay.specs.declared.wide_rows.Progress.{Progress}
 use Rattle.schedule_replay.specs.Striking.{IsTaken, AreLatest}
-use Rattle.schedule_replay.proofs.Kept.{append_cases}
+use Rattle.schedules.proofs.Kept.{append_cases}
 use Rattle.schedule_replay.proofs.Quiet.{none_taken, none_struck}
 use Rattle.schedule_replay.proofs.RunWords.{equal_or_not}
-use Rattle.schedule_replay.specs.Schedule.{PlainSchedule, IsPlainSchedule}
-use Rattle.schedule_replay.specs.Reading.{IsNodeOf}
+use Rattle.schedules.specs.Schedule.{PlainSchedule, IsPlainSchedule}
+use Rattle.schedules.specs.Reading.{IsNodeOf}
 use Rattle.schedule_replay.specs.Starts.{or_else, start_in}
 use Rattle.schedule_replay.proofs.Starting.{high_nets, low_nets, no_starts}
 use Rattle.schedule_replay.proofs.Taking.{or_none}

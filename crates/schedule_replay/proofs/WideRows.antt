@@ -11,7 +11,7 @@ use Rattle.table_cover.specs.Words.{word_bit, bits_of}
 use Rattle.net_meaning.specs.Meaning.{bit, row_at, value_at, spread_row}
 use Rattle.net_simulator.specs.Cycle.{forced_to, forced_in}
 use Rattle.net_simulator.proofs.Lanes.{bit_of_words, length_bits}
-use Rattle.schedule_replay.specs.Schedule.{PlainSchedule}
+use Rattle.schedules.specs.Schedule.{PlainSchedule}
 use Rattle.schedule_replay.specs.Starts.{or_else}
 use Rattle.schedule_replay.proofs.Turns.{at_place}
 use Rattle.schedule_replay.proofs.RunWords.{equal_or_not}

@@ -1,16 +1,10 @@
 pub mod Allowing
-pub mod Document
-pub mod Entries
-pub mod Gives
 pub mod Many
 pub mod Outcome
 pub mod Private
 pub mod OutcomeView
-pub mod Reading
 pub mod Running
-pub mod Schedule
 pub mod Starts
 pub mod Striking
-pub mod View
 pub mod Waves
 pub mod Wide

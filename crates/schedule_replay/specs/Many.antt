@@ -5,7 +5,7 @@ use Rattle.certificate.specs.Cert.{PlainCert}
 use Rattle.schedule_replay.specs.declared.outcome.Outcome.{Outcome}
 use Rattle.schedule_replay.specs.Outcome.{IsReplayOf}
 use Rattle.schedule_replay.specs.OutcomeView.{plain_outcome}
-use Rattle.schedule_replay.specs.Schedule.{PlainSchedule}
+use Rattle.schedules.specs.Schedule.{PlainSchedule}
 
 -- all have the same number of cycles
 abbrev pub HaveOneLength : List PlainSchedule → Type 0

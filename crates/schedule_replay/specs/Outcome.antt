@@ -11,7 +11,7 @@ use Rattle.certificate.specs.Cert.{PlainCert, role_of, part_of, depth_of, copy_o
 use Rattle.certificate.specs.Schedules.{Allowed}
 use Rattle.certificate.specs.Starts.{counted, spread_start}
 use Rattle.schedule_replay.specs.declared.outcome.Difference.{Difference}
-use Rattle.schedule_replay.specs.Schedule.{PlainSchedule}
+use Rattle.schedules.specs.Schedule.{PlainSchedule}
 use Rattle.schedule_replay.specs.Starts.{given_starts}
 
 abbrev pub bits_differ : Bool → Bool → Bool

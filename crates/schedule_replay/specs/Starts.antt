@@ -7,7 +7,7 @@ use Rattle.net_meaning.specs.Meaning.{start_at}
 use Rattle.certificate.specs.Cert.{PlainCert}
 use Rattle.certificate.specs.Starts.{counted}
 use Rattle.net_simulator.specs.Cycle.{forced_to}
-use Rattle.schedule_replay.specs.Schedule.{PlainSchedule}
+use Rattle.schedules.specs.Schedule.{PlainSchedule}
 
 -- one bit for each node: the start values at the marked nodes, in order, and false elsewhere
 abbrev pub placed_starts : List Bool → List Bool → List Bool

@@ -6,7 +6,7 @@ use Rattle.certificate.specs.Cert.{PlainCert}
 use Rattle.certificate.specs.Starts.{counted, spread_start}
 use Rattle.schedule_replay.specs.declared.outcome.Difference.{Difference}
 use Rattle.schedule_replay.specs.Outcome.{outputs_until}
-use Rattle.schedule_replay.specs.Schedule.{PlainSchedule}
+use Rattle.schedules.specs.Schedule.{PlainSchedule}
 use Rattle.schedule_replay.specs.Starts.{given_starts}
 
 -- the original's value and those of its three copies

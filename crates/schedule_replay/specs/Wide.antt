@@ -12,7 +12,7 @@ use Rattle.schedule_replay.specs.declared.wide_rows.Progress.{Progress}
 use Rattle.schedule_replay.specs.declared.wide_comparing.FourWords.{FourWords}
 use Rattle.schedule_replay.specs.declared.wide_running.WideRunning.{WideRunning}
 use Rattle.schedule_replay.specs.Outcome.{Counts, bits_differ, one_if}
-use Rattle.schedule_replay.specs.Schedule.{PlainSchedule}
+use Rattle.schedules.specs.Schedule.{PlainSchedule}
 use Rattle.schedule_replay.specs.Striking.{IsTaken, AreLatest}
 use Rattle.schedule_replay.specs.Private.Telling.{TellQuiet}
 

@@ -6,8 +6,8 @@ ghost use Rattle.certificate.specs.Cert.{IsCert, role_of, part_depth};
 ghost use Rattle.schedule_replay.specs.Allowing.{part_number, place_of as place_of_part, is_close as is_close_to, is_near as is_near_to};
 ghost use Rattle.schedule_replay.specs.Outcome.{part_of_role};
 
-use crate::Schedule;
 use certificate::{Certificate, Role};
+use schedules::Schedule;
 use std::alloc::Global;
 use tmr_base::{CopyNo, NetId, OutOfMemory, PartId};
 

@@ -6,9 +6,9 @@ ghost use Rattle.net_simulator.specs.Cycle.{forced_to};
 ghost use Rattle.schedule_replay.specs.Outcome.{part_of_role};
 ghost use Rattle.schedule_replay.specs.Striking.{IsTaken, AreLatest, with_strike};
 
-use crate::Schedule;
 use crate::allowing::struck_part;
 use certificate::Certificate;
+use schedules::Schedule;
 use tmr_base::{NetId, OutOfMemory};
 
 /// Writes the inputs of cycle t, once and three times.

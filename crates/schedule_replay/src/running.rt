@@ -7,12 +7,12 @@ ghost use Rattle.schedule_replay.specs.Running.{IsReady, HasRun};
 ghost use Rattle.schedule_replay.specs.Starts.{MarksRegisters};
 ghost use Rattle.schedule_replay.specs.Private.Telling.{TellQuiet};
 
-use crate::Schedule;
 use crate::rows::{add_starts, take_upsets, write_row};
 use crate::starts::Starts;
 use certificate::Certificate;
 use flat_net::FlatNet;
 use net_simulator::Sim;
+use schedules::Schedule;
 use std::alloc::Global;
 use tmr_base::{NetId, OutOfMemory};
 

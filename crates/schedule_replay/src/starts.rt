@@ -7,9 +7,9 @@ ghost use Rattle.certificate.specs.Cert.{Fits, RoleIsInRange};
 ghost use Rattle.certificate.specs.Starts.{counted, spread_start as spread_start_of, role_start as role_start_of};
 ghost use Rattle.schedule_replay.specs.Starts.{placed_starts, given_starts, AreStarts};
 
-use crate::Schedule;
 use certificate::{Certificate, Role};
 use flat_net::FreeNet;
+use schedules::Schedule;
 use std::alloc::Global;
 use tmr_base::{NetId, OutOfMemory};
 

@@ -8,13 +8,14 @@ ghost use Rattle.schedule_replay.specs.Outcome.{outputs_in};
 ghost use Rattle.schedule_replay.specs.Starts.{MarksRegisters, AreStarts};
 ghost use Rattle.schedule_replay.specs.Waves.{waves, wave_of, AreWavesOf, AreFreeWaves};
 
+use crate::Difference;
 use crate::comparing::read_output;
 use crate::running::{Running, advance, start};
 use crate::starts::{Starts, starts_of};
-use crate::{Difference, Schedule};
 use certificate::Certificate;
 use flat_net::{FlatNet, FreeNet};
 use net_meaning::free_traces_are_unique;
+use schedules::Schedule;
 use std::alloc::Global;
 use tmr_base::OutOfMemory;
 

@@ -7,18 +7,19 @@ ghost use Rattle.net_meaning.specs.Meaning.{IsFreeTrace, IsFreeFaultTrace, sprea
 ghost use Rattle.validator.specs.Masking.{Masks};
 ghost use Rattle.schedule_replay.specs.declared.outcome.Outcome.{Outcome as AnOutcome};
 ghost use Rattle.schedule_replay.specs.Many.{HaveOneLength, AreReplaysOf};
-ghost use Rattle.schedule_replay.specs.Reading.{IsNodeOf};
+ghost use Rattle.schedules.specs.Reading.{IsNodeOf};
 ghost use Rattle.schedule_replay.specs.Running.{HasCounted, CountsFit};
-ghost use Rattle.schedule_replay.specs.Schedule.{PlainSchedule, IsPlainSchedule};
+ghost use Rattle.schedules.specs.Schedule.{PlainSchedule, IsPlainSchedule};
 ghost use Rattle.schedule_replay.specs.Wide.{HaveTaken, IsWideReady, HasRunWide, HasBegun, HaveBegun, IsFresh};
 
 use crate::wide_comparing::{compare_nodes_wide, compare_outputs_wide};
 use crate::wide_rows::Progress;
 use crate::wide_running::{WideRunning, advance_runs, start_runs};
-use crate::{Outcome, Schedule, is_allowed};
+use crate::{Outcome, is_allowed};
 use certificate::Certificate;
 use flat_net::FlatNet;
 use net_meaning::free_traces_are_unique;
+use schedules::Schedule;
 use std::alloc::Global;
 use tmr_base::OutOfMemory;
 

@@ -8,7 +8,7 @@ ghost use Rattle.certificate.specs.Cert.{Fits, part_of};
 ghost use Rattle.schedule_replay.specs.declared.outcome.Outcome.{Outcome as AnOutcome};
 ghost use Rattle.schedule_replay.specs.declared.wide_rows.Progress.{Progress as AProgress};
 ghost use Rattle.schedule_replay.specs.Outcome.{output_at, outputs_in, late_in, copies_wrong};
-ghost use Rattle.schedule_replay.specs.Schedule.{PlainSchedule};
+ghost use Rattle.schedules.specs.Schedule.{PlainSchedule};
 ghost use Rattle.schedule_replay.specs.Wide.{AreToldQuiet, difference_in, wrong_in, late_in_run, is_told_quiet, HasNoted, Notes};
 ghost use Rattle.schedule_replay.specs.Private.Telling.{TellQuiet};
 

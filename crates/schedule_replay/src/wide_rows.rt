@@ -3,14 +3,14 @@ ghost use Rattle.std.specs.Prelude.{◌≡◌, ◌≢◌, ◌+◌, ◌*◌, ◌/
 ghost use Rattle.table_cover.specs.Words.{word_bit, bits_of};
 ghost use Rattle.net_meaning.specs.Meaning.{row_at, spread_row, value_at, upset_at};
 ghost use Rattle.net_simulator.specs.Cycle.{forced_to, forced_in};
-ghost use Rattle.schedule_replay.specs.Schedule.{PlainSchedule};
+ghost use Rattle.schedules.specs.Schedule.{PlainSchedule};
 ghost use Rattle.schedule_replay.specs.Wide.{HasTaken, HaveTaken, AreToldQuiet};
 ghost use Rattle.schedule_replay.specs.Private.Telling.{TellQuiet};
 
-use crate::Schedule;
 use crate::rows::take_upsets;
 use crate::words::{run_word, value_word, with_bit};
 use certificate::Certificate;
+use schedules::Schedule;
 use tmr_base::{NetId, OutOfMemory};
 
 /// How far a run has come in its upsets: where the next ones begin, and the cycle behind the last one of each partition.

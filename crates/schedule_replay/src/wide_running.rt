@@ -3,14 +3,14 @@ ghost use Rattle.std.specs.Prelude.{◌≡◌, ◌+◌, ◌*◌, ◌<◌, ◌≤
 ghost use Rattle.flat_net.specs.Net.{net_count};
 ghost use Rattle.certificate.specs.Cert.{Fits};
 ghost use Rattle.net_meaning.specs.Meaning.{IsFreeTrace, IsFreeFaultTrace, spread};
-ghost use Rattle.schedule_replay.specs.Schedule.{PlainSchedule, IsPlainSchedule};
+ghost use Rattle.schedules.specs.Schedule.{PlainSchedule, IsPlainSchedule};
 ghost use Rattle.schedule_replay.specs.Wide.{HaveTaken, AreToldQuiet, IsWideReady, HasRunWide};
 
-use crate::Schedule;
 use crate::wide_rows::{Progress, take_runs, write_rows};
 use certificate::Certificate;
 use flat_net::FlatNet;
 use net_simulator::WideSim;
+use schedules::Schedule;
 use std::alloc::Global;
 use tmr_base::{NetId, OutOfMemory};
 

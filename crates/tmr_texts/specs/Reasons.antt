@@ -8,8 +8,8 @@ use Rattle.blif_text.specs.declared.fault.TextKind.TheVariants as kind
 use Rattle.certificate.specs.declared.fault.CertFault.{CertFault}
 use Rattle.certificate.specs.declared.fault.CertFault.TheVariants as fault
 use Rattle.blif_text.specs.Kind.{Bad}
-use Rattle.schedule_replay.specs.declared.fault.ScheduleFault.{ScheduleFault}
-use Rattle.schedule_replay.specs.declared.fault.ScheduleFault.TheVariants as schedule
+use Rattle.schedules.specs.declared.fault.ScheduleFault.{ScheduleFault}
+use Rattle.schedules.specs.declared.fault.ScheduleFault.TheVariants as schedule
 use Rattle.hierarchy.specs.declared.flat_fault.FlatFault.{FlatFault}
 use Rattle.hierarchy.specs.declared.flat_fault.FlatFault.TheVariants as flat
 use Rattle.aag_design.specs.declared.fault.AagFault.{AagFault}

@@ -4,7 +4,7 @@ use Rattle.std.specs.List.{flat_map}
 use Rattle.flat_net.specs.Net.{Net, name_of}
 use Rattle.schedule_replay.specs.declared.outcome.Difference.{Difference}
 use Rattle.schedule_replay.specs.Outcome.{PlainOutcome}
-use Rattle.schedule_replay.specs.Schedule.{PlainSchedule}
+use Rattle.schedules.specs.Schedule.{PlainSchedule}
 use Rattle.tmr_texts.specs.Texts.{joined, counted_text}
 use Rattle.tmr_texts.specs.FormText.{yes_or_no}
 

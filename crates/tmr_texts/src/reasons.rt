@@ -12,7 +12,7 @@ use blif_text::TextKind;
 use certificate::CertFault;
 use flat_net::NetFault;
 use hierarchy::FlatFault;
-use schedule_replay::ScheduleFault;
+use schedules::ScheduleFault;
 use std::alloc::Global;
 use tmr_base::{Name, OutOfMemory};
 

@@ -6,7 +6,8 @@ ghost use Rattle.tmr_texts.specs.ReplayText.{bit_text, output_name, difference_l
 use crate::form_text::yes_or_no;
 use crate::texts::{counted, join};
 use flat_net::FlatNet;
-use schedule_replay::{Difference, Outcome, Schedule};
+use schedule_replay::{Difference, Outcome};
+use schedules::Schedule;
 use std::alloc::Global;
 use tmr_base::{Name, OutOfMemory};
 

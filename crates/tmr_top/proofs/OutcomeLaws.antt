@@ -27,8 +27,8 @@ use Rattle.dwc.specs.Guard.{guard_net}
 use Rattle.tmr_top.specs.Outcomes.{Outcome}
 use Rattle.tmr_top.proofs.GuardLaws.{no_failure}
 use Rattle.tmr_top.proofs.DesignLaws.{one_design, design_or_none}
-use Rattle.schedule_replay.specs.declared.fault.ScheduleFault.{ScheduleFault}
-use Rattle.schedule_replay.specs.Document.{Listed, sched_of}
+use Rattle.schedules.specs.declared.fault.ScheduleFault.{ScheduleFault}
+use Rattle.schedules.specs.Document.{Listed, sched_of}
 use Rattle.certificate.specs.Starts.{counted}
 use Rattle.tmr_top.proofs.PairLaws.{one_pair, unread_pair, agrees}
 use Rattle.tmr_top.proofs.ShownLaws.{unshown_pair}

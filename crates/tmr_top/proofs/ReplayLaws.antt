@@ -11,14 +11,14 @@ use Rattle.certificate.specs.Cert.{PlainCert, IsCert}
 use Rattle.certificate.specs.Rules.{FreeCorresponds, IsFirstFreeFailure}
 use Rattle.certificate.specs.Starts.{counted, spread_start}
 use Rattle.validator.proofs.Starts.{node_bit_none}
-use Rattle.schedule_replay.specs.declared.fault.ScheduleFault.{ScheduleFault}
-use Rattle.schedule_replay.specs.declared.fault.ScheduleFault.TheVariants as fault
+use Rattle.schedules.specs.declared.fault.ScheduleFault.{ScheduleFault}
+use Rattle.schedules.specs.declared.fault.ScheduleFault.TheVariants as fault
 use Rattle.schedule_replay.specs.declared.outcome.Difference.{Difference}
-use Rattle.schedule_replay.specs.Document.{Listed, sched_of}
-use Rattle.schedule_replay.specs.Gives.{Fails}
+use Rattle.schedules.specs.Document.{Listed, sched_of}
+use Rattle.schedules.specs.Gives.{Fails}
 use Rattle.schedule_replay.specs.Outcome.{PlainOutcome, IsReplayOf, IsFreeReplay}
-use Rattle.schedule_replay.specs.Reading.{IsNodeOf, IsReadAs}
-use Rattle.schedule_replay.specs.Schedule.{PlainSchedule}
+use Rattle.schedules.specs.Reading.{IsNodeOf, IsReadAs}
+use Rattle.schedules.specs.Schedule.{PlainSchedule}
 use Rattle.schedule_replay.specs.Starts.{placed_starts, given_starts}
 use Rattle.schedule_replay.proofs.Quiet.{three_outputs}
 use Rattle.campaigns.proofs.RunLaws.{shown_outputs}

@@ -12,7 +12,7 @@ use Rattle.triplicate.proofs.Sizes.{outputs_few}
 use Rattle.triplicate.proofs.Texts.{two_alike}
 use Rattle.schedule_replay.specs.declared.outcome.Difference.{Difference}
 use Rattle.schedule_replay.specs.Outcome.{outputs_in, outputs_until, output_at}
-use Rattle.schedule_replay.specs.Schedule.{PlainSchedule}
+use Rattle.schedules.specs.Schedule.{PlainSchedule}
 use Rattle.schedule_replay.specs.Waves.{waves, wave_of, AreFreeWaves}
 use Rattle.vcd_text.specs.Text.{vcd_text}
 use Rattle.tmr_texts.specs.ReplayText.{output_name, waves_of, waves_at, output_waves}

@@ -3,11 +3,11 @@ use Rattle.std.specs.Prelude.{◌≡◌, ◌⊎◌, ℕ, ◌*◌, nat_lt, Bool, 
 use Rattle.certificate.specs.Rules.{IsFirstFreeFailure}
 use Rattle.certificate.specs.Starts.{counted}
 use Rattle.flat_net.specs.Net.{Net}
-use Rattle.schedule_replay.specs.declared.fault.ScheduleFault.{ScheduleFault}
-use Rattle.schedule_replay.specs.Document.{Listed, sched_of}
-use Rattle.schedule_replay.specs.Entries.{HasWhatIsListed}
+use Rattle.schedules.specs.declared.fault.ScheduleFault.{ScheduleFault}
+use Rattle.schedules.specs.Document.{Listed, sched_of}
+use Rattle.schedules.specs.Entries.{HasWhatIsListed}
 use Rattle.schedule_replay.specs.Outcome.{PlainOutcome, IsFreeReplay}
-use Rattle.schedule_replay.specs.Schedule.{PlainSchedule}
+use Rattle.schedules.specs.Schedule.{PlainSchedule}
 use Rattle.schedule_replay.specs.Waves.{AreFreeWaves}
 use Rattle.vcd_text.specs.Text.{vcd_text}
 use Rattle.tmr_outside.specs.Contents.{Contents}

@@ -10,7 +10,7 @@ use Rattle.tmr_base.specs.declared.ids.Upset.{Upset}
 use Rattle.flat_net.specs.Net.{Net}
 use Rattle.certificate.specs.Cert.{PlainCert}
 use Rattle.certificate.specs.Schedules.{Allowed}
-use Rattle.schedule_replay.specs.Schedule.{PlainSchedule}
+use Rattle.schedules.specs.Schedule.{PlainSchedule}
 use Rattle.tmr_trial.specs.declared.strikes.Strike.{Strike}
 use Rattle.tmr_trial.specs.Numbers.{next_state, state_after, drawn, draw}
 use Rattle.tmr_trial.specs.Schedules.{cycle_draws, state_before, row_drawn, upset_drawn, IsAdded, AreAdded}

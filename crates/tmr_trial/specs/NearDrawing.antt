@@ -3,7 +3,7 @@ use Rattle.std.specs.Prelude.{◌≡◌, ◌*◌, ℕ, ◌<◌, ◌≤◌, nat_l
 use Rattle.std.specs.List.{range_with_len, flat_map, list_all}
 use Rattle.flat_net.specs.Net.{Net}
 use Rattle.certificate.specs.Cert.{PlainCert}
-use Rattle.schedule_replay.specs.Schedule.{PlainSchedule}
+use Rattle.schedules.specs.Schedule.{PlainSchedule}
 use Rattle.tmr_trial.specs.NearSchedules.{pair_state, pairs_until, pair_upsets}
 use Rattle.tmr_trial.specs.Schedules.{row_drawn, state_before}
 

@@ -11,7 +11,7 @@ use Rattle.certificate.specs.declared.role.Role.{Role}
 use Rattle.certificate.specs.declared.role.Role.TheVariants.{Copy, Voter}
 use Rattle.certificate.specs.Cert.{PlainCert, role_of, part_of, depth_of, part_depth}
 use Rattle.certificate.specs.Schedules.{IsIn}
-use Rattle.schedule_replay.specs.Schedule.{PlainSchedule}
+use Rattle.schedules.specs.Schedule.{PlainSchedule}
 use Rattle.tmr_trial.specs.declared.near_pairs.NearPair.{NearPair}
 use Rattle.tmr_trial.specs.Numbers.{state_after, draw}
 use Rattle.tmr_trial.specs.Schedules.{state_before, row_drawn}

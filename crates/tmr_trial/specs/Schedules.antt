@@ -5,7 +5,7 @@ use Rattle.tmr_base.specs.declared.ids.Upset.{Upset}
 use Rattle.flat_net.specs.Net.{Net}
 use Rattle.certificate.specs.Cert.{PlainCert}
 use Rattle.certificate.specs.Schedules.{Allowed}
-use Rattle.schedule_replay.specs.Schedule.{PlainSchedule}
+use Rattle.schedules.specs.Schedule.{PlainSchedule}
 use Rattle.tmr_trial.specs.Numbers.{state_after, draw}
 
 -- a cycle draws a bit for each input of the original, and where there are hardened nodes a node and its value

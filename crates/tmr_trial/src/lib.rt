@@ -4,6 +4,7 @@
 //! the schedule that it gives for a hardened design, and the certificate allows it.
 #![tactic(auto)]
 
+mod allowed_schedules;
 mod designs;
 mod gates;
 mod members;
@@ -12,11 +13,10 @@ mod near_pairs;
 mod near_schedules;
 mod nodes;
 mod numbers;
-mod schedules;
 mod strikes;
 
+pub use allowed_schedules::schedule;
 pub use designs::design;
 pub use members::{Members, members_of};
 pub use near_pairs::NearPair;
 pub use near_schedules::near_schedule;
-pub use schedules::schedule;

@@ -2,18 +2,18 @@
 ghost use Rattle.std.specs.Prelude.{◌≡◌, ◌==◌, ◌+◌, ◌*◌, ◌++◌, ◌∷◌, [], ◌<◌, ◌≤◌, ◌≢◌, All, length, IfOk, OnOk};
 ghost use Rattle.certificate.specs.Cert.{Fits};
 ghost use Rattle.certificate.specs.Schedules.{Allowed};
-ghost use Rattle.schedule_replay.specs.Schedule.{IsBefore};
+ghost use Rattle.schedules.specs.Schedule.{IsBefore};
 ghost use Rattle.tmr_trial.specs.Members.{AreMembers};
 ghost use Rattle.tmr_trial.specs.NearDrawing.{HasRows, HasPairs};
 ghost use Rattle.tmr_trial.specs.NearSchedules.{IsNearSchedule, is_turned, pair_upsets};
 
+use crate::allowed_schedules::{draw_row, draw_upset};
 use crate::members::Members;
 use crate::near_pairs::{NearPair, draw_pair};
 use crate::numbers::Numbers;
-use crate::schedules::{draw_row, draw_upset};
 use certificate::Certificate;
 use flat_net::FlatNet;
-use schedule_replay::Schedule;
+use schedules::Schedule;
 use std::alloc::Global;
 use tmr_base::{OutOfMemory, Upset};
 

@@ -2,8 +2,8 @@
 use Rattle.std.specs.Prelude.{◌≡◌, ◌≤◌, ℕ, All, length}
 use Rattle.flat_net.specs.Net.{Net}
 use Rattle.schedule_replay.specs.declared.outcome.Outcome.{Outcome}
-use Rattle.schedule_replay.specs.Reading.{IsNodeOf}
-use Rattle.schedule_replay.specs.Schedule.{PlainSchedule, IsPlainSchedule}
+use Rattle.schedules.specs.Reading.{IsNodeOf}
+use Rattle.schedules.specs.Schedule.{PlainSchedule, IsPlainSchedule}
 
 -- so many cycles of the original's inputs, with upsets of hardened nodes
 pub record IsRunnable (n h : Net) (count : ℕ) (s : PlainSchedule) : Type 0 where

@@ -1,11 +1,11 @@
 -- Steps of a replay.
 use Rattle.std.specs.Prelude.{◌≡◌, ◌<◌, ℕ, Bool, true, false, All, List, length, codes, Option, IsTrue}
 use Rattle.flat_net.specs.Net.{net_count}
-use Rattle.schedule_replay.specs.Document.{Listed}
-use Rattle.schedule_replay.specs.Entries.{HasWhatIsListed}
+use Rattle.schedules.specs.Document.{Listed}
+use Rattle.schedules.specs.Entries.{HasWhatIsListed}
 use Rattle.schedule_replay.specs.Outcome.{PlainOutcome, IsFreeReplay}
-use Rattle.schedule_replay.specs.Reading.{IsNodeOf}
-use Rattle.schedule_replay.specs.Schedule.{PlainSchedule}
+use Rattle.schedules.specs.Reading.{IsNodeOf}
+use Rattle.schedules.specs.Schedule.{PlainSchedule}
 use Rattle.tmr_outside.specs.Contents.{Contents}
 use Rattle.tmr_words.specs.Line.{Replaying}
 use Rattle.tmr_top.specs.declared.commands.replay.ReplayFiles.{ReplayFiles}

@@ -5,11 +5,11 @@ ghost use Rattle.flat_net.specs.Net.{Net, net_count};
 ghost use Rattle.certificate.specs.Cert.{Fits};
 ghost use Rattle.certificate.specs.Rules.{FreeCorresponds};
 ghost use Rattle.certificate.specs.Starts.{counted};
-ghost use Rattle.schedule_replay.specs.Document.{sched_of};
-ghost use Rattle.schedule_replay.specs.Gives.{Fails};
+ghost use Rattle.schedules.specs.Document.{sched_of};
+ghost use Rattle.schedules.specs.Gives.{Fails};
 ghost use Rattle.schedule_replay.specs.Outcome.{IsFreeReplay};
 ghost use Rattle.schedule_replay.specs.OutcomeView.{plain_outcome};
-ghost use Rattle.schedule_replay.specs.Reading.{IsNodeOf, IsReadAs};
+ghost use Rattle.schedules.specs.Reading.{IsNodeOf, IsReadAs};
 ghost use Rattle.validator.specs.Masking.{Masks, FreeMasks};
 ghost use Rattle.tmr_words.specs.Line.{Replay};
 ghost use Rattle.tmr_words.specs.FileWords.{pair_in, replaying_in, word_in};
@@ -31,9 +31,8 @@ use crate::pair_files::{PairFiles, PairRead};
 use crate::pairs::{check_pair, deny, load_pair, read_pair};
 use certificate::Certificate;
 use flat_net::FreeNet;
-use schedule_replay::{
-    Outcome, Schedule, ScheduleFault, read_schedule, read_schedule_free, replay, replay_free,
-};
+use schedule_replay::{Outcome, replay, replay_free};
+use schedules::{Schedule, ScheduleFault, read_schedule, read_schedule_free};
 use std::alloc::Global;
 use tmr_base::OutOfMemory;
 use tmr_outside::Files;

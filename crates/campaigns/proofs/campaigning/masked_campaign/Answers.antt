@@ -1,7 +1,7 @@
 use Rattle.std.proofs.Common.{List, subst}
 use Rattle.schedule_replay.specs.declared.outcome.Outcome.{Outcome}
 use Rattle.schedule_replay.specs.Many.{AreReplaysOf}
-use Rattle.schedule_replay.specs.Schedule.{PlainSchedule}
+use Rattle.schedules.specs.Schedule.{PlainSchedule}
 use Rattle.campaigns.specs.Campaign.{AreSumsOf}
 use Rattle.campaigns.proofs.RunLaws.{campaign_is}
 use Rattle.campaigns.proofs.campaigning.masked_campaign.Goals as goal

@@ -1,6 +1,6 @@
 use Rattle.std.proofs.Common.{◌≡◌, ◌+◌, ◌%◌, ◌^◌, ℕ, Some, length, slice_get}
 use Rattle.std.specs.Prelude.{All}
-use Rattle.schedule_replay.specs.Schedule.{PlainSchedule}
+use Rattle.schedules.specs.Schedule.{PlainSchedule}
 use Rattle.tmr_trial.specs.NearSchedules.{IsNearSchedule}
 use Rattle.campaigns.specs.NearCampaign.{IsRefused}
 use Rattle.campaigns.specs.Private.Running.{IsRunnable}

@@ -3,7 +3,7 @@ use Rattle.std.specs.Prelude.{All}
 use Rattle.std.proofs.lemmas.List.{length-append}
 use Rattle.std.proofs.lemmas.List.Elements.{All-push}
 use Rattle.certificate.specs.Schedules.{Allowed}
-use Rattle.schedule_replay.specs.Schedule.{PlainSchedule}
+use Rattle.schedules.specs.Schedule.{PlainSchedule}
 use Rattle.tmr_trial.specs.Schedules.{IsDrawnSchedule}
 use Rattle.campaigns.specs.Private.Running.{IsRunnable}
 use Rattle.campaigns.proofs.RunLaws.{drawn_more}

@@ -1,7 +1,7 @@
 use Rattle.std.proofs.Common.{◌≡◌, ◌+◌, ◌%◌, ◌^◌, ℕ, Some, length, slice_get}
 use Rattle.std.specs.Prelude.{All}
 use Rattle.certificate.specs.Schedules.{Allowed}
-use Rattle.schedule_replay.specs.Schedule.{PlainSchedule}
+use Rattle.schedules.specs.Schedule.{PlainSchedule}
 use Rattle.tmr_trial.specs.Schedules.{IsDrawnSchedule}
 use Rattle.campaigns.specs.Private.Running.{IsRunnable}
 use Rattle.campaigns.proofs.drawing.draw_schedules.Given as goal

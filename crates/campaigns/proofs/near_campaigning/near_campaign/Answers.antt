@@ -1,7 +1,7 @@
 use Rattle.std.proofs.Common.{List, length, ap, subst, arith}
 use Rattle.schedule_replay.specs.declared.outcome.Outcome.{Outcome}
 use Rattle.schedule_replay.specs.Many.{AreReplaysOf}
-use Rattle.schedule_replay.specs.Schedule.{PlainSchedule}
+use Rattle.schedules.specs.Schedule.{PlainSchedule}
 use Rattle.campaigns.specs.Campaign.{AreSumsOf}
 use Rattle.campaigns.specs.NearCampaign.{IsFirst, IsKeptWrong}
 use Rattle.campaigns.proofs.RunLaws.{told_output}

@@ -1,6 +1,6 @@
 use Rattle.std.proofs.Common.{◌≡◌, length}
 use Rattle.std.specs.Prelude.{All}
-use Rattle.schedule_replay.specs.Reading.{IsNodeOf}
+use Rattle.schedules.specs.Reading.{IsNodeOf}
 use Rattle.replay_cases.proofs.Lists.{all_more}
 use Rattle.replay_cases.proofs.list.read_list.Goals as goal
 

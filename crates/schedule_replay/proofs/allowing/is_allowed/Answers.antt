@@ -7,7 +7,8 @@ use Rattle.tmr_base.specs.declared.ids.PartId.{PartId}
 use Rattle.tmr_base.specs.declared.ids.Upset.{Upset}
 use Rattle.certificate.specs.Cert.{PlainCert, part_depth}
 use Rattle.schedule_replay.specs.Allowing.{part_number, place_of, IsPart, is_near, AreLasts}
-use Rattle.schedule_replay.proofs.Apart.{copy_below, near_refutes, lasts_more, apart_more, all_apart}
+use Rattle.schedules.proofs.Domains.{copy_below}
+use Rattle.schedule_replay.proofs.Apart.{near_refutes, lasts_more, apart_more, all_apart}
 use Rattle.schedule_replay.proofs.allowing.is_allowed.Goals as goal
 
 within : (k : PlainCert) (p : Option PartId) → IfSome p (λ p. p.0 < length k.depth) → IsPart k (part_number p)

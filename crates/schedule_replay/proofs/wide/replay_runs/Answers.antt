@@ -8,7 +8,7 @@ use Rattle.table_cover.specs.Words.{bits_of}
 use Rattle.schedule_replay.specs.declared.outcome.Outcome.{Outcome}
 use Rattle.schedule_replay.specs.Outcome.{IsOutcome}
 use Rattle.schedule_replay.specs.OutcomeView.{plain_outcome}
-use Rattle.schedule_replay.specs.Schedule.{PlainSchedule, IsPlainSchedule}
+use Rattle.schedules.specs.Schedule.{PlainSchedule, IsPlainSchedule}
 use Rattle.schedule_replay.proofs.Starting.{original_trace, hardened_trace}
 use Rattle.schedule_replay.proofs.Turns.{at_place}
 use Rattle.schedule_replay.proofs.WideLaws.{begun_counted, begun_bounded}

@@ -4,7 +4,7 @@ use Rattle.certificate.specs.Schedules.{Allowed}
 use Rattle.net_meaning.specs.Meaning.{IsFreeTrace, IsFreeFaultTrace, spread}
 use Rattle.schedule_replay.specs.declared.outcome.Outcome.{Outcome}
 use Rattle.schedule_replay.specs.Running.{HasCounted, CountsFit}
-use Rattle.schedule_replay.specs.Schedule.{PlainSchedule}
+use Rattle.schedules.specs.Schedule.{PlainSchedule}
 use Rattle.schedule_replay.specs.Wide.{HaveTaken, IsWideReady, HasRunWide}
 use Rattle.schedule_replay.proofs.wide.replay_runs.Given as goal
 

@@ -4,8 +4,8 @@ use Rattle.std.proofs.lemmas.Option.{slice_get-get_or}
 use Rattle.flat_net.proofs.Slots.{slice_get_there}
 use Rattle.schedule_replay.specs.declared.outcome.Outcome.{Outcome}
 use Rattle.schedule_replay.specs.OutcomeView.{plain_outcome}
-use Rattle.schedule_replay.specs.Reading.{IsNodeOf}
-use Rattle.schedule_replay.specs.Schedule.{IsPlainSchedule}
+use Rattle.schedules.specs.Reading.{IsNodeOf}
+use Rattle.schedules.specs.Schedule.{IsPlainSchedule}
 use Rattle.schedule_replay.proofs.Turns.{at_place}
 use Rattle.schedule_replay.proofs.Unharmed.{plain_unharmed}
 use Rattle.schedule_replay.proofs.wide.replay_wide.Goals as goal

@@ -1,6 +1,6 @@
 use Rattle.std.proofs.Common.{◌≡◌, ◌<◌, ℕ, Some, length, slice_get}
 use Rattle.schedule_replay.specs.declared.outcome.Outcome.{Outcome}
-use Rattle.schedule_replay.specs.Schedule.{PlainSchedule, IsPlainSchedule}
+use Rattle.schedules.specs.Schedule.{PlainSchedule, IsPlainSchedule}
 use Rattle.schedule_replay.specs.Wide.{HasBegun}
 use Rattle.schedule_replay.proofs.wide.start_outcomes.Given as goal
 

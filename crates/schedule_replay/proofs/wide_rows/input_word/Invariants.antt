@@ -1,7 +1,7 @@
 use Rattle.std.proofs.Common.{◌≡◌, ◌<◌, ◌≤◌, ℕ, false, Some, slice_get}
 use Rattle.table_cover.specs.Words.{word_bit}
 use Rattle.net_meaning.specs.Meaning.{value_at}
-use Rattle.schedule_replay.specs.Schedule.{PlainSchedule}
+use Rattle.schedules.specs.Schedule.{PlainSchedule}
 use Rattle.schedule_replay.proofs.wide_rows.input_word.Given as goal
 
 abbrev pub invariant-loop-j : goal.invariant-loop-j

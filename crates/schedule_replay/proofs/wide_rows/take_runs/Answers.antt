@@ -7,7 +7,7 @@ use Rattle.flat_net.proofs.Slots.{slice_get_there}
 use Rattle.net_meaning.specs.Meaning.{upset_at}
 use Rattle.net_simulator.specs.Cycle.{forced_to, forced_in}
 use Rattle.schedule_replay.specs.declared.wide_rows.Progress.{Progress}
-use Rattle.schedule_replay.specs.Schedule.{PlainSchedule}
+use Rattle.schedules.specs.Schedule.{PlainSchedule}
 use Rattle.schedule_replay.specs.Wide.{HasTurned, TakesCycle}
 use Rattle.schedule_replay.proofs.Turns.{done_more, rest_more}
 use Rattle.schedule_replay.proofs.WideRows.{struck_done}

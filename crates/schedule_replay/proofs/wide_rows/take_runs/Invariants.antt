@@ -3,7 +3,7 @@ use Rattle.std.specs.Prelude.{All}
 use Rattle.net_meaning.specs.Meaning.{upset_at}
 use Rattle.net_simulator.specs.Cycle.{forced_in}
 use Rattle.schedule_replay.specs.declared.wide_rows.Progress.{Progress}
-use Rattle.schedule_replay.specs.Schedule.{PlainSchedule}
+use Rattle.schedules.specs.Schedule.{PlainSchedule}
 use Rattle.schedule_replay.specs.Wide.{HasTurned}
 use Rattle.schedule_replay.proofs.wide_rows.take_runs.Given as goal
 

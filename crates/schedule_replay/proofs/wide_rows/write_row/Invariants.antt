@@ -1,7 +1,7 @@
 use Rattle.std.proofs.Common.{◌≡◌, ◌<◌, ℕ, Some, slice_get, slice_index}
 use Rattle.table_cover.specs.Words.{word_bit}
 use Rattle.net_meaning.specs.Meaning.{value_at}
-use Rattle.schedule_replay.specs.Schedule.{PlainSchedule}
+use Rattle.schedules.specs.Schedule.{PlainSchedule}
 use Rattle.schedule_replay.proofs.wide_rows.write_row.Given as goal
 
 abbrev pub invariant-loop-i : goal.invariant-loop-i

@@ -1,5 +1,5 @@
 use Rattle.std.proofs.Common.{◌∙◌, ap}
-use Rattle.schedule_replay.specs.Schedule.{PlainSchedule}
+use Rattle.schedules.specs.Schedule.{PlainSchedule}
 use Rattle.tmr_trial.proofs.NearLaws.{no_rows}
 use Rattle.tmr_trial.proofs.near_schedules.draw_rows.Goals as goal
 

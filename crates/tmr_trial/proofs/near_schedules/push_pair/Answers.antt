@@ -1,6 +1,6 @@
 use Rattle.std.proofs.Common.{sym, subst}
 use Rattle.std.specs.Prelude.{◌-◌, length, slice_get, IfSome}
-use Rattle.schedule_replay.specs.Schedule.{PlainSchedule, IsBefore}
+use Rattle.schedules.specs.Schedule.{PlainSchedule, IsBefore}
 use Rattle.tmr_trial.proofs.NearLaws.{order_more, pushed_two}
 use Rattle.tmr_trial.proofs.near_schedules.push_pair.Goals as goal
 

@@ -1,5 +1,5 @@
 use Rattle.std.proofs.Common.{◌≢◌}
-use Rattle.schedule_replay.specs.declared.fault.ScheduleFault.TheVariants.{Memory}
+use Rattle.schedules.specs.declared.fault.ScheduleFault.TheVariants.{Memory}
 use Rattle.tmr_texts.specs.Reasons.{schedule_reason}
 use Rattle.tmr_words.specs.FileWords.{replaying_in, word_in}
 use Rattle.tmr_top.specs.Replayed.{IsReplayRefused}
