@@ -1,7 +1,6 @@
-//! Which roles have been found so far.
-ghost use Rattle.std.specs.Prelude.{◌≡◌};
+//! The roles that have been found so far.
 
-use crate::looks::Looks;
+use crate::designs::Designs;
 use crate::pins::{pin, place};
 use certificate::Role;
 use flat_net::{FlatNet, nodes_of};
@@ -17,7 +16,7 @@ pub const COPIES: [CopyNo; 3] = [CopyNo::First, CopyNo::Second, CopyNo::Third];
 /// The role of each hardened node, if one is found, with partition 0 for all; the copies of each original node; and
 /// the hardened nodes that have a role and whose pins have not been looked at.
 #[derive(Drop)]
-pub struct Search {
+pub struct FoundRoles {
     roles: Vec<Option<Role>>,
     copies: Vec<NetId>,
     work: Vec<NetId>,
@@ -32,12 +31,12 @@ fn copy_place(i: usize, c: CopyNo) -> Option<usize> {
     }
 }
 
-impl Search {
+impl FoundRoles {
     /// Nothing is found.
-    pub fn new(alloc: Global, n: &FlatNet, h: &FlatNet) -> Result<Search, OutOfMemory> {
-        let roles = vec![in alloc; None; nodes_of(h) as usize]?;
-        let copies = vec![in alloc; NONE; 3 * nodes_of(n) as usize]?;
-        Ok(Search {
+    pub(crate) fn none(alloc: Global, designs: &Designs) -> Result<FoundRoles, OutOfMemory> {
+        let roles = vec![in alloc; None; nodes_of(designs.hardened) as usize]?;
+        let copies = vec![in alloc; NONE; 3 * nodes_of(designs.original) as usize]?;
+        Ok(FoundRoles {
             roles,
             copies,
             work: Vec::new(alloc),
@@ -45,7 +44,7 @@ impl Search {
     }
 
     /// The role of hardened net g, if it is a node and has one.
-    pub fn role(&self, h: &FlatNet, g: NetId) -> Option<Role> {
+    pub(crate) fn role(&self, h: &FlatNet, g: NetId) -> Option<Role> {
         match place(h, g) {
             Some(i) => self.role_at(i),
             None => None,
@@ -61,7 +60,7 @@ impl Search {
     }
 
     /// Copy c of original net x, if it is a node and the copy is found.
-    pub fn copy(&self, n: &FlatNet, x: NetId, c: CopyNo) -> Option<NetId> {
+    pub(crate) fn copy(&self, n: &FlatNet, x: NetId, c: CopyNo) -> Option<NetId> {
         match place(n, x) {
             Some(i) => self.copy_at(i, c),
             None => None,
@@ -94,20 +93,18 @@ impl Search {
 
     /// Makes hardened node g copy c of original node x, where they look alike, g has no role, and the copy is not
     /// found yet.
-    pub fn give_copy(
+    pub(crate) fn give_copy(
         &mut self,
-        n: &FlatNet,
-        h: &FlatNet,
-        looks: &Looks,
+        designs: &Designs,
         x: NetId,
         c: CopyNo,
         g: NetId,
     ) -> Result<(), OutOfMemory> {
-        if !looks.is_alike(n, h, x, g) || self.copy(n, x, c).is_some() {
+        if !designs.is_alike(x, g) || self.copy(designs.original, x, c).is_some() {
             return Ok(());
         }
-        if self.give(h, g, Role::Copy { node: x, copy: c })? {
-            self.note_copy(n, x, c, g);
+        if self.give(designs.hardened, g, Role::Copy { node: x, copy: c })? {
+            self.note_copy(designs.original, x, c, g);
         }
         Ok(())
     }
@@ -124,7 +121,7 @@ impl Search {
     }
 
     /// Makes hardened node g the voter of original net x that gives copy c, where g has no role.
-    pub fn give_voter(
+    pub(crate) fn give_voter(
         &mut self,
         h: &FlatNet,
         x: NetId,
@@ -141,28 +138,23 @@ impl Search {
     }
 
     /// The next hardened node whose pins have not been looked at.
-    pub fn next(&mut self) -> Option<NetId> {
+    pub(crate) fn next(&mut self) -> Option<NetId> {
         self.work.pop()
     }
 }
 
 /// Pin k of hardened node g may be copy k of original node x.
-fn may_read(
-    n: &FlatNet,
-    h: &FlatNet,
-    looks: &Looks,
-    found: &Search,
-    x: NetId,
-    k: CopyNo,
-    g: NetId,
-) -> bool {
-    let Some(q) = pin(h, g, k.number()) else {
+fn may_read(designs: &Designs, found: &FoundRoles, x: NetId, k: CopyNo, g: NetId) -> bool {
+    let Some(q) = pin(designs.hardened, g, k.number()) else {
         return false;
     };
-    if !looks.is_alike(n, h, x, q) {
+    if !designs.is_alike(x, q) {
         return false;
     }
-    match (found.copy(n, x, k), found.role(h, q)) {
+    match (
+        found.copy(designs.original, x, k),
+        found.role(designs.hardened, q),
+    ) {
         (Some(known), _) => known == q,
         (None, Some(_)) => false,
         (None, None) => true,
@@ -177,27 +169,28 @@ fn reads_input(h: &FlatNet, x: NetId, k: CopyNo, g: NetId) -> bool {
     }
 }
 
+/// Each pin of hardened node g is the copy of its number of input x.
+fn reads_inputs(h: &FlatNet, x: NetId, g: NetId) -> bool {
+    reads_input(h, x, CopyNo::First, g)
+        && reads_input(h, x, CopyNo::Second, g)
+        && reads_input(h, x, CopyNo::Third, g)
+}
+
+/// Each pin of hardened node g may be the copy of its number of original node x.
+fn may_read_copies(designs: &Designs, found: &FoundRoles, x: NetId, g: NetId) -> bool {
+    may_read(designs, found, x, CopyNo::First, g)
+        && may_read(designs, found, x, CopyNo::Second, g)
+        && may_read(designs, found, x, CopyNo::Third, g)
+}
+
 /// Hardened node g is taken for a voter of original net x. Where g may be a copy of x too, since x is a majority
 /// itself, it is taken for a voter if its pins may be the copies of x.
-pub fn is_voter_of(
-    n: &FlatNet,
-    h: &FlatNet,
-    looks: &Looks,
-    found: &Search,
-    x: NetId,
-    g: NetId,
-) -> bool {
-    if !looks.is_majority(h, g) {
+pub fn is_voter_of(designs: &Designs, found: &FoundRoles, x: NetId, g: NetId) -> bool {
+    if !designs.is_majority(g) {
         return false;
     }
-    if x.0 < n.input_count() {
-        return looks.inputs_are_voted()
-            && reads_input(h, x, CopyNo::First, g)
-            && reads_input(h, x, CopyNo::Second, g)
-            && reads_input(h, x, CopyNo::Third, g);
+    if x.0 < designs.original.input_count() {
+        return designs.inputs_are_voted() && reads_inputs(designs.hardened, x, g);
     }
-    !looks.is_alike(n, h, x, g)
-        || may_read(n, h, looks, found, x, CopyNo::First, g)
-            && may_read(n, h, looks, found, x, CopyNo::Second, g)
-            && may_read(n, h, looks, found, x, CopyNo::Third, g)
+    !designs.is_alike(x, g) || may_read_copies(designs, found, x, g)
 }

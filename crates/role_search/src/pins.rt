@@ -1,5 +1,5 @@
 //! What a design holds, for places that may not be there.
-ghost use Rattle.std.specs.Prelude.{◌≡◌, ◌↔◌, ◌+◌, ◌<◌, ◌≤◌, length, IsTrue, IfSome};
+ghost use Rattle.std.specs.Prelude.{◌≡◌, ◌↔◌, ◌<◌, ◌≤◌, length, IsTrue, IfSome};
 ghost use Rattle.flat_net.specs.Net.{IsNode, net_count};
 
 use flat_net::{FlatNet, nodes_of};

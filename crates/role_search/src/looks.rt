@@ -1,5 +1,5 @@
 //! What nodes look like without their pins.
-ghost use Rattle.std.specs.Prelude.{◌<◌, ◌≤◌, ◌+◌, length};
+ghost use Rattle.std.specs.Prelude.{◌<◌};
 ghost use Rattle.flat_net.specs.Net.{net_count};
 
 use crate::pins::place;
