@@ -1,5 +1,5 @@
 //! A certificate found from two designs.
-ghost use Rattle.std.specs.Prelude.{◌≡◌, ◌⊎◌, IfOk, IfErr};
+ghost use Rattle.std.specs.Prelude.{◌≡◌, ◌⊎◌, ◌↔◌, ◌*◌, length, IfOk, IfErr, IsTrue};
 ghost use Rattle.flat_net.specs.Net.{Net};
 ghost use Rattle.role_search.specs.Misfits.{IsThere};
 ghost use Rattle.validator.specs.Masking.{FreeMasks};
@@ -12,13 +12,13 @@ ghost use Rattle.certifying.specs.Private.Refined.{IsProposed};
 
 use crate::NoCertificate;
 use crate::bare::bare;
-use crate::checking::{has_three_inputs, same_edge};
 use crate::draft::refined;
 use certificate::Certificate;
-use flat_net::FreeNet;
+use flat_net::{FlatNet, FreeNet};
 use role_search::{Designs, FoundRoles, Misfit, first_bad_output, first_misfit, search_roles};
 use std::alloc::Global;
 use validator::check_free;
+use validator::clocks::same_edge;
 
 /// The cause that a misfit is.
 fn cause_of(misfit: Misfit) -> NoCertificate
@@ -64,6 +64,13 @@ fn searched(
     let designs = Designs::of(alloc, n, h, version)?;
     let found = search_roles(alloc, &designs)?;
     judged(alloc, version, &designs, &found)
+}
+
+/// The hardened design has three inputs for each original one.
+fn has_three_inputs(n: &FlatNet, h: &FlatNet) -> bool
+    ensures { IsTrue result ↔ (length h.now.net.inputs ≡ 3 * length n.now.net.inputs) }
+{
+    u64::from(h.input_count()) == 3 * u64::from(n.input_count())
 }
 
 /// The certificate that is found, before the rules are tried.

@@ -16,7 +16,6 @@
 mod bare;
 mod cause;
 mod certified;
-mod checking;
 mod depths;
 mod draft;
 mod forest;
