@@ -2,9 +2,9 @@ use Rattle.std.proofs.Common.{◌≡◌, ◌<◌, ◌-◌, ℕ, length, get_or, 
 use Rattle.graph.specs.Rows.{row}
 use Rattle.recovery_depth.specs.Walks.{is_marked}
 use Rattle.recovery_depth.specs.Private.Vertices.{one_if, IsReachIn}
-use Rattle.recovery_depth.specs.Private.Before.{number_at}
-use Rattle.recovery_depth.proofs.BeforeLaws.{chosen_as, one_before, all_before}
-use Rattle.recovery_depth.proofs.before.registers_before.Goals as goal
+use Rattle.recovery_depth.specs.Private.LastRegisters.{number_at}
+use Rattle.recovery_depth.proofs.LastRegisterLaws.{chosen_as, one_before, all_before}
+use Rattle.recovery_depth.proofs.last_registers.registers_before.Goals as goal
 
 pub loop-x-preserved : goal.loop-x-preserved
 loop-x-preserved c =

@@ -3,7 +3,7 @@ ghost use Rattle.std.specs.Prelude.{◌≡◌, ◌≢◌, ◌<◌, ◌≤◌, �
 ghost use Rattle.graph.specs.Rows.{row};
 ghost use Rattle.recovery_depth.specs.Private.Vertices.{IsOrdered, IsReachIn};
 ghost use Rattle.recovery_depth.specs.Private.Ranks.{is_before};
-ghost use Rattle.recovery_depth.specs.Private.Before.{last_of, number_at, AreBefore, IsChosen, IsOneOf};
+ghost use Rattle.recovery_depth.specs.Private.LastRegisters.{last_of, number_at, AreBefore, IsChosen, IsOneOf};
 
 use crate::ranks::Ranks;
 use crate::reaching::{own_count, reach_at};

@@ -4,13 +4,13 @@ ghost use Rattle.certificate.specs.Cert.{Fits};
 ghost use Rattle.certificate.specs.Rules.{AllHold};
 ghost use Rattle.recovery_depth.specs.Least.{AreDeep, AreLeast, AreAdmitted};
 
-use crate::before::registers_before;
 use crate::copies::{copy_reads, originals, places, ranks, register_copies};
 use crate::deep::Deep;
-use crate::greatest::greatest_labels;
+use crate::last_registers::registers_before;
+use crate::longest_chains::{chain_ends, depths_and_chains};
 use crate::ordering::ordered;
+use crate::partition_depths::greatest_labels;
 use crate::reaching::reaches_in;
-use crate::tops::{deeps, tops};
 use certificate::Certificate;
 use flat_net::{FlatNet, nodes_of};
 use std::alloc::Global;
@@ -46,7 +46,7 @@ pub fn least(
     let before = registers_before(alloc, &graph, &is_register, &reaches, &order, &ranks, count)?;
     let places = places(alloc, n, h, c)?;
     let depths = greatest_labels(alloc, &places, &reaches)?;
-    let tops = tops(
+    let ends = chain_ends(
         alloc,
         &places,
         &reaches,
@@ -57,6 +57,6 @@ pub fn least(
         count,
     )?;
     let originals = originals(alloc, n, h, c)?;
-    let found = deeps(alloc, &before, &originals, &tops, &depths, parts)?;
+    let found = depths_and_chains(alloc, &before, &originals, &ends, &depths, parts)?;
     Ok(found)
 }

@@ -27,11 +27,11 @@ use Rattle.recovery_depth.specs.Depths.{is_some_register, IsDepth}
 use Rattle.recovery_depth.specs.Hardened.{role_at, node_at, is_copy, IsCopyIn, ReadsCopy, ReadsWithin, original_of, own_original}
 use Rattle.recovery_depth.specs.Private.Copied.{is_register_copy, copied_rows}
 use Rattle.recovery_depth.specs.Chains.{HasWalk, IsDeep, relabeled, Admits}
-use Rattle.recovery_depth.specs.Private.Before.{number_at, last_of, AreBefore}
-use Rattle.recovery_depth.specs.Private.Tops.{part_or_zero, place_of, place_at, places_of, original_in, original_at, originals_of, AreTops, walked, IsRead}
+use Rattle.recovery_depth.specs.Private.LastRegisters.{number_at, last_of, AreBefore}
+use Rattle.recovery_depth.specs.Private.ChainEnds.{part_or_zero, place_of, place_at, places_of, original_in, original_at, originals_of, AreChainEnds, walked, IsRead}
 use Rattle.recovery_depth.proofs.WalkLaws.{walk_map, reach_map}
 use Rattle.recovery_depth.proofs.WalkedLaws.{length_walked, walked_walk}
-use Rattle.recovery_depth.proofs.BeforeLaws.{IsLastOf, last_is}
+use Rattle.recovery_depth.proofs.LastRegisterLaws.{IsLastOf, last_is}
 use Rattle.recovery_depth.proofs.CopyLaws.{copied_long, node_with_role, reads_of_follows, follows_of_reads, bit_of, own_count, label_at, label_grows, label_own}
 
 module _ (n h : Net) (k : PlainCert) (fits : Fits n h k) (valid_n : IsValid n) (valid_h : IsValid h) (corresponds : AllHold n [] h [] k) where
@@ -135,17 +135,17 @@ module _ (n h : Net) (k : PlainCert) (fits : Fits n h k) (valid_n : IsValid n) (
           found (p, s) = let here : IsCopyIn h k g p c = record { original = x.0; role = e; part = s } in (c, subst (λ (q : ℕ). IsCopyIn h k g q c) (sym (place_is g p c here)) here)
 
 -- what was found of a hardened design
-pub record IsFound (h : Net) (k : PlainCert) (bits : List Bool) (reaches before depths tops originals : List ℕ) (none : ℕ) : Type 0 where
+pub record IsFound (h : Net) (k : PlainCert) (bits : List Bool) (reaches before depths ends originals : List ℕ) (none : ℕ) : Type 0 where
   pub bits_are : bits ≡ map (is_register_copy h k) (range_with_len 0 (length h.nodes))
   pub long : length reaches ≡ length (copied_rows h k)
   pub reached : (g : ℕ) → g < length (copied_rows h k) → IsReachIn (copied_rows h k) bits g (number_at reaches g)
   pub before_are : AreBefore (copied_rows h k) bits reaches before
   pub depths_are : (p : ℕ) → p < length k.depth → IsDepth (record { count = length k.depth; of = places_of h k }) reaches (length (places_of h k)) p (number_at depths p)
-  pub tops_are : AreTops (record { count = length k.depth; of = places_of h k }) reaches depths bits before none (length (places_of h k)) tops
+  pub ends_are : AreChainEnds (record { count = length k.depth; of = places_of h k }) reaches depths bits before none (length (places_of h k)) ends
   pub none_is : none ≡ length (copied_rows h k)
   pub originals_are : originals ≡ originals_of h k
 
-module _ (n h : Net) (k : PlainCert) (fits : Fits n h k) (valid_n : IsValid n) (valid_h : IsValid h) (corresponds : AllHold n [] h [] k) (cert : IsCert k) (bits : List Bool) (reaches before depths tops originals : List ℕ) (none : ℕ) (found : IsFound h k bits reaches before depths tops originals none) where
+module _ (n h : Net) (k : PlainCert) (fits : Fits n h k) (valid_n : IsValid n) (valid_h : IsValid h) (corresponds : AllHold n [] h [] k) (cert : IsCert k) (bits : List Bool) (reaches before depths ends originals : List ℕ) (none : ℕ) (found : IsFound h k bits reaches before depths ends originals none) where
   most : (p : ℕ) → p < length k.depth → (g : ℕ) (c : CopyNo) (seen : List ℕ) → IsCopyIn h k g p c → Walk (ReadsCopy h k) (own_original h k) g seen → length seen ≤ number_at depths p
   most p pl g c seen i w = go (walk_map (ReadsCopy h k) (Follows (copied_rows h k)) (own_original h k) (marked bits) (follows_of_reads n h k fits) (λ z. sym (own_count n h k fits bits found.bits_are z)) g seen w)
     where
@@ -163,15 +163,15 @@ module _ (n h : Net) (k : PlainCert) (fits : Fits n h k) (valid_n : IsValid n) (
       let v : g < length (copied_rows h k) = omega (arith, copied_long n h k fits, places_long n h k fits valid_n valid_h corresponds, l) in
       last_is (copied_rows h k) bits reaches found.long found.reached before g v some (found.before_are g v)
 
-  walk_here : (p m : ℕ) → p < length k.depth → number_at depths p ≡ suc m → HasWalk h k p (map (number_at originals) (walked before (number_at depths p) (number_at tops p)))
+  walk_here : (p m : ℕ) → p < length k.depth → number_at depths p ≡ suc m → HasWalk h k p (map (number_at originals) (walked before (number_at depths p) (number_at ends p)))
   walk_here p m pl e = deepest (found.depths_are p pl).some
     where
       -- the top of the partition is the last register of a node there
-      top : (g : ℕ) × (g < length (places_of h k)) × (get_or (places_of h k) g 0 ≡ p) × (number_at reaches g ≡ number_at depths p) × (last_of bits before g ≡ number_at tops p) → HasWalk h k p (map (number_at originals) (walked before (number_at depths p) (number_at tops p)))
+      top : (g : ℕ) × (g < length (places_of h k)) × (get_or (places_of h k) g 0 ≡ p) × (number_at reaches g ≡ number_at depths p) × (last_of bits before g ≡ number_at ends p) → HasWalk h k p (map (number_at originals) (walked before (number_at depths p) (number_at ends p)))
       top (g, gl, place, reach, is) = here (subst (IsLastOf (copied_rows h k) bits reaches found.long found.reached g) is (last_at g gl (omega (arith, reach, e))))
         where
-          here : IsLastOf (copied_rows h k) bits reaches found.long found.reached g (number_at tops p) → HasWalk h k p (map (number_at originals) (walked before (number_at depths p) (number_at tops p)))
-          here last = made (copy_in n h k fits valid_n valid_h corresponds cert g (reader (number_at tops p) g last.register last.leads))
+          here : IsLastOf (copied_rows h k) bits reaches found.long found.reached g (number_at ends p) → HasWalk h k p (map (number_at originals) (walked before (number_at depths p) (number_at ends p)))
+          here last = made (copy_in n h k fits valid_n valid_h corresponds cert g (reader (number_at ends p) g last.register last.leads))
             where
               reader : (u v : ℕ) → is_marked bits u ≡ true → Leads (Follows (copied_rows h k)) u v → is_copy (role_at h k v) ≡ true
               reader _ _ mark (alone a) = by (is_copy (role_at h k a)) refl
@@ -181,39 +181,39 @@ module _ (n h : Net) (k : PlainCert) (fits : Fits n h k) (valid_n : IsValid n) (
                   by false t = absurd (no_absurd (sym (sym (bit_of n h k fits bits found.bits_are a ∙ ap (λ b. b && is_some_register (node_at h a)) t) ∙ mark)))
               reader _ _ mark (longer a b d l next) = (reads_of_follows n h k fits b d next).reader
 
-              made : (c : CopyNo) × IsCopyIn h k g (place_at h k g) c → HasWalk h k p (map (number_at originals) (walked before (number_at depths p) (number_at tops p)))
+              made : (c : CopyNo) × IsCopyIn h k g (place_at h k g) c → HasWalk h k p (map (number_at originals) (walked before (number_at depths p) (number_at ends p)))
               made (c, i) =
                   let node : g < length h.nodes = omega (arith, places_long n h k fits valid_n valid_h corresponds, gl) in
                   let at : place_at h k g ≡ p = sym (listed_place n h k fits valid_n valid_h corresponds g node) ∙ place in
                   let i' : IsCopyIn h k g p c = subst (λ (q : ℕ). IsCopyIn h k g q c) at i in
-                  let u : IsCopyIn h k (number_at tops p) p c = down n h k fits valid_n valid_h corresponds (number_at tops p) g p c (leads_map (Follows (copied_rows h k)) (ReadsCopy h k) (reads_of_follows n h k fits) (number_at tops p) g last.leads) i' in
-                  let w : Walk (Follows (copied_rows h k)) (marked bits) (number_at tops p) (walked before (suc m) (number_at tops p)) = walked_walk (copied_rows h k) bits reaches before found.before_are m (number_at tops p) last.vertex last.register (last.reach ∙ (reach ∙ e)) in
-                  let w' : Walk (Follows (copied_rows h k)) (marked bits) (number_at tops p) (walked before (number_at depths p) (number_at tops p)) = subst (λ (d : ℕ). Walk (Follows (copied_rows h k)) (marked bits) (number_at tops p) (walked before d (number_at tops p))) (sym e) w in
+                  let u : IsCopyIn h k (number_at ends p) p c = down n h k fits valid_n valid_h corresponds (number_at ends p) g p c (leads_map (Follows (copied_rows h k)) (ReadsCopy h k) (reads_of_follows n h k fits) (number_at ends p) g last.leads) i' in
+                  let w : Walk (Follows (copied_rows h k)) (marked bits) (number_at ends p) (walked before (suc m) (number_at ends p)) = walked_walk (copied_rows h k) bits reaches before found.before_are m (number_at ends p) last.vertex last.register (last.reach ∙ (reach ∙ e)) in
+                  let w' : Walk (Follows (copied_rows h k)) (marked bits) (number_at ends p) (walked before (number_at depths p) (number_at ends p)) = subst (λ (d : ℕ). Walk (Follows (copied_rows h k)) (marked bits) (number_at ends p) (walked before d (number_at ends p))) (sym e) w in
                   record {
                     copy = c;
-                    last = number_at tops p;
+                    last = number_at ends p;
                     last_in = u;
-                    walk = inside n h k fits valid_n valid_h corresponds p c (number_at tops p) (map (number_at originals) (walked before (number_at depths p) (number_at tops p))) (renamed n h k fits valid_n valid_h corresponds bits originals found.bits_are found.originals_are (number_at tops p) (walked before (number_at depths p) (number_at tops p)) w') u;
+                    walk = inside n h k fits valid_n valid_h corresponds p c (number_at ends p) (map (number_at originals) (walked before (number_at depths p) (number_at ends p))) (renamed n h k fits valid_n valid_h corresponds bits originals found.bits_are found.originals_are (number_at ends p) (walked before (number_at depths p) (number_at ends p)) w') u;
                   }
 
-      deepest : (number_at depths p ≡ 0) ⊎ ((g : ℕ) × (g < length (places_of h k)) × (get_or (places_of h k) g 0 ≡ p) × (get_or reaches g 0 ≡ number_at depths p)) → HasWalk h k p (map (number_at originals) (walked before (number_at depths p) (number_at tops p)))
+      deepest : (number_at depths p ≡ 0) ⊎ ((g : ℕ) × (g < length (places_of h k)) × (get_or (places_of h k) g 0 ≡ p) × (get_or reaches g 0 ≡ number_at depths p)) → HasWalk h k p (map (number_at originals) (walked before (number_at depths p) (number_at ends p)))
       deepest (inl z) = absurd (omega (arith, z, e))
       deepest (inr (g, gl, place, reach)) =
           let last = last_at g gl (omega (arith, reach, e)) in
           let some : last_of bits before g ≢ none = λ z. (let v = last.vertex in omega (arith, v, z, found.none_is)) in
           let there : number_at reaches g ≡ number_at depths (get_or (places_of h k) g 0) = reach ∙ ap (number_at depths) (sym place) in
-          let has : number_at tops p ≢ none = subst (λ (q : ℕ). number_at tops q ≢ none) place (found.tops_are.all g gl there some) in
-          top (found.tops_are.some p pl has)
+          let has : number_at ends p ≢ none = subst (λ (q : ℕ). number_at ends q ≢ none) place (found.ends_are.all g gl there some) in
+          top (found.ends_are.some p pl has)
 
-  pub is_deep : (p : ℕ) (d : Deep) → p < length k.depth → IsRead before originals tops depths p d → IsDeep h k p d.depth (map number_of d.chain.items)
+  pub is_deep : (p : ℕ) (d : Deep) → p < length k.depth → IsRead before originals ends depths p d → IsDeep h k p d.depth (map number_of d.chain.items)
   is_deep p d pl r = record {
     most = λ g c seen i w. omega (arith, most p pl g c seen i w, r.depth);
-    long = omega (arith, ap length r.chain, length-map (walked before (number_at depths p) (number_at tops p)) (number_at originals), length_walked before (number_at depths p) (number_at tops p), r.depth);
+    long = omega (arith, ap length r.chain, length-map (walked before (number_at depths p) (number_at ends p)) (number_at originals), length_walked before (number_at depths p) (number_at ends p), r.depth);
     walks = go (number_at depths p) refl;
   }
     where
       go : (m : ℕ) → number_at depths p ≡ m → (map number_of d.chain.items ≡ []) ⊎ HasWalk h k p (map number_of d.chain.items)
-      go zero e = inl (empty (map number_of d.chain.items) (omega (arith, ap length r.chain, length-map (walked before (number_at depths p) (number_at tops p)) (number_at originals), length_walked before (number_at depths p) (number_at tops p), e)))
+      go zero e = inl (empty (map number_of d.chain.items) (omega (arith, ap length r.chain, length-map (walked before (number_at depths p) (number_at ends p)) (number_at originals), length_walked before (number_at depths p) (number_at ends p), e)))
         where
           empty : (xs : List ℕ) → length xs ≡ 0 → xs ≡ []
           empty [] l = refl

@@ -7,7 +7,7 @@ use Rattle.graph.specs.Rows.{row, Stands, Follows}
 use Rattle.graph.specs.Lists.{Leads, alone, longer}
 use Rattle.recovery_depth.specs.Walks.{Walk, starts, goes_on, is_marked}
 use Rattle.recovery_depth.specs.Private.Vertices.{IsOrdered, IsReachIn, one_if, marked}
-use Rattle.recovery_depth.specs.Private.Before.{number_at, last_of, IsBefore, AreBefore, IsChosen, IsOneOf}
+use Rattle.recovery_depth.specs.Private.LastRegisters.{number_at, last_of, IsBefore, AreBefore, IsChosen, IsOneOf}
 use Rattle.recovery_depth.proofs.ReachLaws.{marked_count}
 
 append_nil : (xs : List ℕ) → xs ++ [] ≡ xs

@@ -1,9 +1,9 @@
 use Rattle.std.proofs.Common.{◌≡◌, ℕ, suc, ◌+◌, ◌-◌, ◌++◌, ◌∷◌, [], map, reverse, sym, ◌∙◌, ap, arith}
 use Rattle.flat_net.specs.Nodes.{number_of}
-use Rattle.recovery_depth.specs.Private.Before.{number_at}
-use Rattle.recovery_depth.specs.Private.Tops.{walked}
+use Rattle.recovery_depth.specs.Private.LastRegisters.{number_at}
+use Rattle.recovery_depth.specs.Private.ChainEnds.{walked}
 use Rattle.recovery_depth.proofs.WalkedLaws.{walked_more, walked_none, reversed_push}
-use Rattle.recovery_depth.proofs.tops.chain_of.Goals as goal
+use Rattle.recovery_depth.proofs.longest_chains.chain_of.Goals as goal
 
 pub loop-step-preserved : goal.loop-step-preserved
 loop-step-preserved c =
