@@ -1,13 +1,12 @@
 -- Each schedule that an accepted certificate with the same roles allows, the finest allows.
-use Rattle.std.proofs.Common.{◌≡◌, ◌≢◌, ℕ, ◌+◌, ◌<◌, ◌≤◌, ◌⊎◌, inl, inr, Bool, List, length, Option, Some, None, refl, sym, ap, subst, ◌∙◌, arith}
-use Rattle.std.specs.Prelude.{Contains}
+use Rattle.std.proofs.Common.{◌≡◌, ℕ, ◌+◌, ◌<◌, ◌≤◌, ◌⊎◌, inl, inr, Bool, List, Option, Some, None, refl, sym, ap, subst, ◌∙◌, arith}
 use Rattle.tmr_base.specs.declared.copies.CopyNo.{CopyNo}
 use Rattle.tmr_base.specs.declared.ids.Upset.{Upset}
 use Rattle.flat_net.specs.Net.{Net}
 use Rattle.flat_net.proofs.Slots.{slot_there, slot_none}
 use Rattle.certificate.specs.declared.role.Role.{Role}
 use Rattle.certificate.specs.declared.role.Role.TheVariants.{Copy, Voter}
-use Rattle.certificate.specs.Cert.{PlainCert, IsInputCopy, role_of, part_of, part_depth, depth_of}
+use Rattle.certificate.specs.Cert.{PlainCert, role_of, part_depth, depth_of}
 use Rattle.certificate.specs.Schedules.{RoleIsIn, IsIn, Allowed}
 use Rattle.certifying.specs.Certified.{IsAccepted}
 use Rattle.certifying.specs.Finest.{SameRoles, role_place, place_of, IsFiner, IsFinest, AllowsMore}

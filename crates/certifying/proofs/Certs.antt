@@ -1,16 +1,16 @@
 -- What the search leaves is a certificate, and so is what is made of it.
-use Rattle.std.proofs.Common.{◌≡◌, ℕ, zero, suc, ◌+◌, ◌-◌, ◌<◌, ◌≤◌, ◌⊎◌, inl, inr, List, [], ◌∷◌, length, get_or, map, All, slice_get, Option, Some, None, refl, sym, ap, subst, ◌∙◌, arith}
-use Rattle.std.proofs.lemmas.List.{length-map, get_or_default}
+use Rattle.std.proofs.Common.{◌≡◌, ℕ, ◌+◌, ◌-◌, ◌<◌, ◌≤◌, ◌⊎◌, List, [], length, get_or, map, All, Option, Some, sym, ap, subst, ◌∙◌, arith}
+use Rattle.std.proofs.lemmas.List.{length-map}
 use Rattle.std.proofs.lemmas.List.Elements.{All-from_get_or}
 use Rattle.tmr_base.specs.declared.ids.NetId.{NetId}
 use Rattle.tmr_base.specs.declared.copies.CopyNo.{CopyNo}
-use Rattle.tmr_base.specs.Copies.{Three, of_copy}
+use Rattle.tmr_base.specs.Copies.{Three}
 use Rattle.flat_net.specs.Net.{Net, slot}
 use Rattle.flat_net.proofs.Slots.{slot_at, slot_within, slot_map_read}
 use Rattle.certificate.specs.declared.role.Role.{Role}
 use Rattle.certificate.specs.declared.role.Role.TheVariants.{Copy, Voter}
 use Rattle.certificate.specs.Threes.{three_ids}
-use Rattle.certificate.specs.Cert.{PlainCert, IsCert, Fits, RoleIsInRange, role_of, copy_of, three_or_input}
+use Rattle.certificate.specs.Cert.{PlainCert, IsCert, RoleIsInRange, role_of, copy_of, three_or_input}
 use Rattle.certifying.specs.Private.Bare.{copy_in, IsSound, AreSound, HaveRoles, AreSmall, IsBare}
 use Rattle.certifying.specs.Private.Found.{AreJoined}
 use Rattle.certifying.specs.Private.Numbers.{AreNumbered}

@@ -1,28 +1,25 @@
 -- The certificate with the partitions of the forest is the finest, and its labels and depths are the least.
-use Rattle.std.proofs.Common.{◌≡◌, ℕ, ◌+◌, ◌-◌, ◌<◌, ◌≤◌, ◌⊎◌, inl, inr, Bool, List, [], length, get_or, Option, Some, None, refl, sym, ap, subst, ◌∙◌, arith}
-use Rattle.std.proofs.lemmas.Bool.{cases_lt}
+use Rattle.std.proofs.Common.{◌≡◌, ℕ, ◌+◌, ◌-◌, ◌<◌, ◌≤◌, Bool, List, length, get_or, Option, Some, None, refl, sym, ap, subst, ◌∙◌, arith}
 use Rattle.tmr_base.specs.declared.copies.CopyNo.{CopyNo}
 use Rattle.tmr_base.specs.Copies.{Three, of_copy}
-use Rattle.flat_net.specs.Net.{Net, Node, node_of, pins_at, slot, IsValid}
-use Rattle.flat_net.proofs.Slots.{slot_within, slot_there, slot_below}
+use Rattle.flat_net.specs.Net.{Net, slot, IsValid}
+use Rattle.flat_net.proofs.Slots.{slot_within, slot_there}
 use Rattle.certificate.specs.declared.role.Role.{Role}
 use Rattle.certificate.specs.declared.role.Role.TheVariants.{Copy, Voter}
 use Rattle.certificate.specs.Cert.{PlainCert, IsCert, Fits, role_of, role_count, part_of, copy_of, label_of, count_of, depth_of, part_depth, three_or_zero}
-use Rattle.certificate.specs.Rules.{Rule6, Rule7, AllHold, FreeCorresponds}
+use Rattle.certificate.specs.Rules.{Rule6, Rule7}
 use Rattle.certificate.specs.Starts.{counted}
 use Rattle.recovery_depth.specs.Chains.{relabeled, Admits}
 use Rattle.certifying.specs.Certified.{IsAccepted}
 use Rattle.certifying.specs.Finest.{SameRoles, role_place, place_of, IsFiner, IsFinest}
 use Rattle.certifying.specs.Least.{AreLeastLabels}
-use Rattle.certifying.specs.Private.Bare.{AreSmall}
 use Rattle.certifying.specs.Private.Forests.{GoesAlong, FollowsReaders, KeepsJoins}
-use Rattle.certifying.specs.Private.Found.{AreJoined}
 use Rattle.certifying.specs.Private.Labels.{AreReached}
 use Rattle.certifying.specs.Private.Depths.{three_at, no_three, IsAbove}
 use Rattle.certifying.specs.Private.Renumbered.{refined}
-use Rattle.certifying.specs.Private.Refined.{AreFound, IsRefined}
-use Rattle.certifying.proofs.PinLaws.{joins_kept, node_sort, voter_sort}
-use Rattle.certifying.proofs.RoleLaws.{IsRead, copy_after, voter_after, copy_before, voter_before}
+use Rattle.certifying.specs.Private.Refined.{AreFound}
+use Rattle.certifying.proofs.PinLaws.{joins_kept}
+use Rattle.certifying.proofs.RoleLaws.{copy_after, voter_after, voter_before}
 use Rattle.certifying.proofs.LabelLaws.{reached_of, copy_role, label_below, slot_at_or}
 
 module _ (n h : Net) (b : PlainCert) (cert : IsCert b) (fits : Fits n h b) (up : List ℕ) (readers : List (Option ℕ)) (depth part labels : List ℕ) (threes : List Three) (roles : List Role) (found : AreFound n h b up readers depth part labels threes roles) where

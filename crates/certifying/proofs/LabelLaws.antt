@@ -1,7 +1,6 @@
 -- Labels that are below all that are reached.
-use Rattle.std.proofs.Common.{◌≡◌, ℕ, ◌+◌, ◌-◌, ◌<◌, ◌≤◌, ◌⊎◌, inl, inr, List, [], ◌∷◌, ◌++◌, length, get_or, map, take, add-one, Option, Some, None, refl, sym, ap, subst, ◌∙◌, arith}
+use Rattle.std.proofs.Common.{◌≡◌, ℕ, ◌+◌, ◌-◌, ◌<◌, ◌≤◌, List, [], ◌∷◌, ◌++◌, length, get_or, map, take, add-one, Option, Some, None, sym, ap, subst, ◌∙◌, arith}
 use Rattle.std.specs.Prelude.{slice_get}
-use Rattle.std.proofs.lemmas.Bool.{cases_lt}
 use Rattle.std.proofs.lemmas.List.{map-append}
 use Rattle.std.proofs.Math.Seq.{take-suc}
 use Rattle.tmr_base.specs.declared.ids.NetId.{NetId}
@@ -12,15 +11,13 @@ use Rattle.tmr_base.specs.Copies.{Three, of_copy}
 use Rattle.flat_net.specs.Net.{Net, Node, Table, Register, node_of, pins_at, slot}
 use Rattle.flat_net.specs.Kinds.{kind_of}
 use Rattle.flat_net.specs.declared.kind.Kind.TheVariants as kind
-use Rattle.flat_net.proofs.Slots.{slot_within, slot_there, slot_at}
+use Rattle.flat_net.proofs.Slots.{slot_within, slot_at}
 use Rattle.std.proofs.lemmas.Option.{slice_get-get_or}
-use Rattle.certificate.specs.declared.role.Role.{Role}
-use Rattle.certificate.specs.declared.role.Role.TheVariants.{Copy, Voter}
-use Rattle.certificate.specs.Cert.{PlainCert, IsCert, Fits, role_of, role_count, part_of, copy_of, label_of, count_of, depth_of, part_depth, three_or_zero, three_or_input}
-use Rattle.certificate.specs.Rules.{Rule6, Rule7, LabelReaches}
-use Rattle.certifying.specs.Finest.{SameRoles}
+use Rattle.certificate.specs.declared.role.Role.TheVariants.{Copy}
+use Rattle.certificate.specs.Cert.{PlainCert, IsCert, Fits, role_of, role_count, copy_of, label_of, count_of, three_or_input}
+use Rattle.certificate.specs.Rules.{Rule6, LabelReaches}
 use Rattle.certifying.specs.Private.Labels.{Reaches, AreReached, AreBelow}
-use Rattle.certifying.specs.Private.Depths.{three_at, no_three, AreLabels, IsAbove, AreDepths}
+use Rattle.certifying.specs.Private.Depths.{three_at, no_three, AreLabels}
 
 -- what rule 6 says of a node
 pub reaches_of : (m : PlainCert) (o : Option Node) (e : ℕ) → LabelReaches m o e → Reaches (count_of m) o e

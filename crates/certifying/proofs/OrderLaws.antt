@@ -1,5 +1,5 @@
 -- What a cycle names are vertices.
-use Rattle.std.proofs.Common.{ℕ, ◌<◌, ◌≤◌, List, length, get_or, ap, arith}
+use Rattle.std.proofs.Common.{ℕ, ◌<◌, ◌≤◌, List, length, get_or, arith}
 use Rattle.std.proofs.lemmas.List.{get_or_default}
 use Rattle.graph.specs.Orders.{Reached, is_root, is_read, IsCycle}
 

@@ -1,5 +1,5 @@
 -- Roles with the numbers of their partitions, beside those without.
-use Rattle.std.proofs.Common.{◌≡◌, ℕ, ◌+◌, ◌-◌, ◌<◌, ◌≤◌, List, length, get_or, slice_get, Option, Some, None, refl, sym, ap, subst, ◌∙◌, arith}
+use Rattle.std.proofs.Common.{◌≡◌, ℕ, ◌+◌, ◌-◌, ◌<◌, List, length, get_or, slice_get, Option, Some, sym, ap, ◌∙◌, arith}
 use Rattle.tmr_base.specs.declared.copies.CopyNo.{CopyNo}
 use Rattle.tmr_base.specs.declared.ids.NetId.{NetId}
 use Rattle.tmr_base.specs.declared.ids.PartId.{PartId}
@@ -8,7 +8,6 @@ use Rattle.flat_net.proofs.Slots.{slot_at, slot_within, slot_there}
 use Rattle.certificate.specs.declared.role.Role.{Role}
 use Rattle.certificate.specs.declared.role.Role.TheVariants.{Copy, Voter}
 use Rattle.certificate.specs.Cert.{PlainCert, Fits, role_of}
-use Rattle.certifying.specs.Finest.{SameRoles}
 use Rattle.certifying.specs.Private.Renumbered.{IsRenumbered, AreRenumbered}
 
 -- the parts of a voter

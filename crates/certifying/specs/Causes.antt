@@ -1,6 +1,6 @@
 -- Where a cause stands, and what it says.
-use Rattle.std.specs.Prelude.{◌≡◌, ◌≢◌, ℕ, ◌*◌, ◌<◌, ◌≤◌, ◌⊎◌, length, All}
-use Rattle.flat_net.specs.Net.{Net, IsNode, net_count, node_of, pins_at}
+use Rattle.std.specs.Prelude.{◌≢◌, ◌*◌, ◌<◌, ◌⊎◌, length, All}
+use Rattle.flat_net.specs.Net.{Net, IsNode, node_of, pins_at}
 use Rattle.certificate.specs.Rules.{SameEdge}
 use Rattle.validator.specs.Place.{IsPlace}
 use Rattle.certifying.specs.declared.cause.NoCertificate.{NoCertificate}

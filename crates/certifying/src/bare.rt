@@ -11,9 +11,9 @@ ghost use Rattle.certifying.specs.Private.Bare.{copy_in, IsSound, AreSound, Have
 
 use crate::NoCertificate;
 use crate::depths::zeros;
-use crate::search::Search;
 use certificate::{CertDraft, Certificate, Role};
 use flat_net::{FlatNet, nodes_of};
+use role_search::FoundRoles;
 use std::alloc::Global;
 use tmr_base::{CopyNo, NetId, OutOfMemory};
 
@@ -22,7 +22,7 @@ fn all_roles(
     alloc: Global,
     n: &FlatNet,
     h: &FlatNet,
-    found: &Search,
+    found: &FoundRoles,
 ) -> Result<Vec<Role>, NoCertificate>
     ensures long { IfOk result (λ roles. length roles.items ≡ length h.now.net.nodes) }
     ensures place { IfErr result (IsPlaced n.now.net h.now.net) }
@@ -43,7 +43,7 @@ fn all_roles(
 fn some_copy(
     n: &FlatNet,
     h: &FlatNet,
-    found: &Search,
+    found: &FoundRoles,
     i: u32,
     c: CopyNo,
 ) -> Result<NetId, NoCertificate>
@@ -66,7 +66,7 @@ fn some_copy(
 fn three_copies(
     n: &FlatNet,
     h: &FlatNet,
-    found: &Search,
+    found: &FoundRoles,
     i: u32,
 ) -> Result<[NetId; 3], NoCertificate>
     requires { i < length n.now.net.nodes }
@@ -83,7 +83,7 @@ fn all_copies(
     alloc: Global,
     n: &FlatNet,
     h: &FlatNet,
-    found: &Search,
+    found: &FoundRoles,
 ) -> Result<Vec<[NetId; 3]>, NoCertificate>
     ensures long { IfOk result (λ copies. length copies.items ≡ length n.now.net.nodes) }
     ensures place { IfErr result (IsPlaced n.now.net h.now.net) }
@@ -331,7 +331,7 @@ pub fn bare(
     version: u8,
     n: &FlatNet,
     h: &FlatNet,
-    found: &Search,
+    found: &FoundRoles,
 ) -> Result<Certificate, NoCertificate>
     requires { (version ≡ 1) ⊎ (version ≡ 2) }
     ensures bare { IfOk result (IsBare n.now.net h.now.net version) }

@@ -1,5 +1,7 @@
 //! A certificate found from two designs.
-ghost use Rattle.std.specs.Prelude.{◌≡◌, ◌⊎◌, IfOk, IfErr};
+ghost use Rattle.std.specs.Prelude.{◌≡◌, ◌⊎◌, ◌↔◌, ◌*◌, length, IfOk, IfErr, IsTrue};
+ghost use Rattle.flat_net.specs.Net.{Net};
+ghost use Rattle.role_search.specs.Misfits.{IsThere};
 ghost use Rattle.validator.specs.Masking.{FreeMasks};
 ghost use Rattle.certifying.specs.Causes.{IsPlaced};
 ghost use Rattle.certifying.specs.Certified.{IsAccepted};
@@ -10,37 +12,42 @@ ghost use Rattle.certifying.specs.Private.Refined.{IsProposed};
 
 use crate::NoCertificate;
 use crate::bare::bare;
-use crate::checking::{has_three_inputs, same_edge};
 use crate::draft::refined;
-use crate::looks::Looks;
-use crate::misfits::{first_bad_output, first_misfit};
-use crate::named::search_roles;
-use crate::search::Search;
 use certificate::Certificate;
 use flat_net::{FlatNet, FreeNet};
+use role_search::{Designs, FoundRoles, Misfit, first_bad_output, first_misfit, search_roles};
 use std::alloc::Global;
 use validator::check_free;
+use validator::clocks::same_edge;
+
+/// The cause that a misfit is.
+fn cause_of(misfit: Misfit) -> NoCertificate
+    ensures { (n h : Net) → IsThere h misfit → IsPlaced n h result }
+{
+    match misfit {
+        Misfit::Pin { node, pin } => NoCertificate::Pin { node, pin },
+        Misfit::TwoRoles(node) => NoCertificate::TwoRoles(node),
+    }
+}
 
 /// The roles that were found, or the first place that fits nothing.
 fn judged(
     alloc: Global,
     version: u8,
-    n: &FlatNet,
-    h: &FlatNet,
-    looks: &Looks,
-    found: &Search,
+    designs: &Designs,
+    found: &FoundRoles,
 ) -> Result<Certificate, NoCertificate>
     requires { (version ≡ 1) ⊎ (version ≡ 2) }
-    ensures bare { IfOk result (IsBare n.now.net h.now.net version) }
-    ensures place { IfErr result (IsPlaced n.now.net h.now.net) }
+    ensures bare { IfOk result (IsBare designs.now.original.now.net designs.now.hardened.now.net version) }
+    ensures place { IfErr result (IsPlaced designs.now.original.now.net designs.now.hardened.now.net) }
 {
-    if let Some(k) = first_bad_output(n, h, found) {
+    if let Some(k) = first_bad_output(designs, found) {
         return Err(NoCertificate::Output(k));
     }
-    if let Some(why) = first_misfit(n, h, looks, found) {
-        return Err(why);
+    if let Some(misfit) = first_misfit(designs, found) {
+        return Err(cause_of(misfit));
     }
-    bare(alloc, version, n, h, found)
+    bare(alloc, version, designs.original, designs.hardened, found)
 }
 
 /// The roles that the search finds.
@@ -54,9 +61,16 @@ fn searched(
     ensures bare { IfOk result (IsBare n.now.design.net h.now.design.net version) }
     ensures place { IfErr result (IsPlaced n.now.design.net h.now.design.net) }
 {
-    let looks = Looks::of(alloc, n, h, version)?;
-    let found = search_roles(alloc, n.net(), h.net(), &looks)?;
-    judged(alloc, version, n.net(), h.net(), &looks, &found)
+    let designs = Designs::of(alloc, n, h, version)?;
+    let found = search_roles(alloc, &designs)?;
+    judged(alloc, version, &designs, &found)
+}
+
+/// The hardened design has three inputs for each original one.
+fn has_three_inputs(n: &FlatNet, h: &FlatNet) -> bool
+    ensures { IsTrue result ↔ (length h.now.net.inputs ≡ 3 * length n.now.net.inputs) }
+{
+    u64::from(h.input_count()) == 3 * u64::from(n.input_count())
 }
 
 /// The certificate that is found, before the rules are tried.

@@ -65,8 +65,7 @@ fn join_reader(up: &mut Vec<u32>, readers: &mut Vec<Option<u32>>, y: u32, v: usi
 
 /// Pin j of hardened node g, which is a copy of original node y, joins y with what it reads.
 fn join_pin(
-    up: &mut Vec<u32>,
-    readers: &mut Vec<Option<u32>>,
+    joined: &mut Joined,
     n: &FlatNet,
     h: &FlatNet,
     k: &Certificate,
@@ -75,13 +74,13 @@ fn join_pin(
     j: u32,
 )
     requires fits { Fits n.now.net h.now.net k.now }
-    requires joined { AreJoined n.now.net h.now.net k.now up.old.items readers.old.items }
+    requires joined { AreJoined n.now.net h.now.net k.now joined.old.up.items joined.old.readers.items }
     requires range { g.0 < net_count h.now.net }
     requires low { length n.now.net.inputs ≤ y.0 }
     requires high { y.0 < net_count n.now.net }
     requires copy { (c : CopyNo) × (role_of k.now g.0 ≡ Some (Copy y c)) }
     requires pin { j < length (pins_at (node_of h.now.net g.0)) }
-    ensures { AreJoined n.now.net h.now.net k.now up.new.items readers.new.items }
+    ensures { AreJoined n.now.net h.now.net k.now joined.new.up.items joined.new.readers.items }
 {
     let original = n.input_count();
     let inputs = h.input_count();
@@ -90,31 +89,25 @@ fn join_pin(
         return;
     }
     match k.role(p) {
-        Role::Copy { node, .. } => join(up, node.0 - original, y.0 - original),
+        Role::Copy { node, .. } => join(&mut joined.up, node.0 - original, y.0 - original),
         Role::Voter { .. } => {
-            join_reader(up, readers, y.0 - original, (p.0 - inputs) as usize);
+            let v = (p.0 - inputs) as usize;
+            join_reader(&mut joined.up, &mut joined.readers, y.0 - original, v);
         }
     }
 }
 
 /// The pins of hardened node g join its original with what they read, if it is a copy.
-fn join_pins(
-    up: &mut Vec<u32>,
-    readers: &mut Vec<Option<u32>>,
-    n: &FlatNet,
-    h: &FlatNet,
-    k: &Certificate,
-    g: NetId,
-)
+fn join_pins(joined: &mut Joined, n: &FlatNet, h: &FlatNet, k: &Certificate, g: NetId)
     requires fits { Fits n.now.net h.now.net k.now }
-    requires joined { AreJoined n.now.net h.now.net k.now up.old.items readers.old.items }
+    requires joined { AreJoined n.now.net h.now.net k.now joined.old.up.items joined.old.readers.items }
     requires low { length h.now.net.inputs ≤ g.0 }
     requires range { g.0 < net_count h.now.net }
-    ensures { AreJoined n.now.net h.now.net k.now up.new.items readers.new.items }
+    ensures { AreJoined n.now.net h.now.net k.now joined.new.up.items joined.new.readers.items }
 {
     if let Role::Copy { node, .. } = k.role(g) {
         for j in 0..h.pin_count(g) {
-            join_pin(up, readers, n, h, k, g, node, j);
+            join_pin(joined, n, h, k, g, node, j);
         }
     }
 }
@@ -129,11 +122,12 @@ pub fn join_all(
     requires { Fits n.now.net h.now.net k.now }
     ensures { IfOk result (λ j. AreJoined n.now.net h.now.net k.now j.up.items j.readers.items) }
 {
-    let mut up = apart(alloc, nodes_of(n))?;
-    let mut readers = no_readers(alloc, nodes_of(h))?;
+    let up = apart(alloc, nodes_of(n))?;
+    let readers = no_readers(alloc, nodes_of(h))?;
+    let mut joined = Joined { up, readers };
     let inputs = h.input_count();
     for i in 0..nodes_of(h) {
-        join_pins(&mut up, &mut readers, n, h, k, NetId(inputs + i));
+        join_pins(&mut joined, n, h, k, NetId(inputs + i));
     }
-    Ok(Joined { up, readers })
+    Ok(joined)
 }

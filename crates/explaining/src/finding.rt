@@ -10,7 +10,6 @@ ghost use Rattle.explaining.specs.Private.Found.{RuleHolds, place_count};
 
 use crate::nodes::{depth_reason, label_reason, register_reason, table_reason};
 use crate::outputs::output_reason;
-use crate::reading::is_free;
 use crate::reason::Reason;
 use crate::rule::Rule;
 use crate::votes::voter_reason;
@@ -46,17 +45,7 @@ fn rule_4<'a>(n: &FreeNet, h: &FreeNet, c: &Certificate, g: NetId) -> Option<Rea
     ensures nets { IfSome result (HasNets n.now.design.net h.now.design.net) }
 {
     match c.role(g) {
-        Role::Copy { node, copy } => register_reason(
-            n.net(),
-            is_free(n, c, node),
-            h.net(),
-            is_free(h, c, g),
-            c,
-            g,
-            node,
-            c.part(node),
-            copy,
-        ),
+        Role::Copy { node, copy } => register_reason(n, h, c, g, node, c.part(node), copy),
         Role::Voter { .. } => None,
     }
 }

@@ -1,18 +1,17 @@
 //! Why a hardened node does not do what its role wants.
 ghost use Rattle.std.specs.Prelude.{◌≡◌, ◌+◌, ◌<◌, ◌≤◌, length, IfSome, IfNone};
 ghost use Rattle.flat_net.specs.Net.{Net, net_count, node_of, pins_at};
-ghost use Rattle.flat_net.specs.Free.{node_bit};
 ghost use Rattle.certificate.specs.Cert.{Fits, label_of, depth_of};
 ghost use Rattle.certificate.specs.Rules.{CopiesTable, CopiesRegister, LabelReaches};
-ghost use Rattle.certificate.specs.Starts.{counted};
 ghost use Rattle.explaining.specs.Reasons.{TableFails, RegisterFails, LabelFails, DepthFails};
-ghost use Rattle.explaining.specs.Private.Pieces.{HasNets, AllReach, PinLabelFails};
+ghost use Rattle.explaining.specs.Private.Pieces.{HasNets, mark_in, AllReach, PinLabelFails};
 
 use crate::covers::cover_reason;
+use crate::marks::is_free;
 use crate::pins::pin_reason;
 use crate::reason::Reason;
 use certificate::Certificate;
-use flat_net::{FlatNet, Kind};
+use flat_net::{FlatNet, FreeNet, Kind};
 use tmr_base::{CopyNo, NetId, PartId};
 use validator::reading::count;
 
@@ -48,34 +47,36 @@ pub fn table_reason<'a>(
     }
 }
 
-/// Why g does not copy a register x, with the marks of both.
+/// Why g does not copy a register x.
 #[tactic(auto, using(crate::proofs::Differs::registers))]
 pub fn register_reason<'a>(
-    n: &FlatNet,
-    free: bool,
-    h: &FlatNet,
-    copy_free: bool,
+    original: &FreeNet,
+    hardened: &FreeNet,
     c: &Certificate,
     g: NetId,
     x: NetId,
     p: PartId,
     d: CopyNo,
 ) -> Option<Reason<'a>>
-    requires fits { Fits n.now.net h.now.net c.now }
-    requires g_low { length h.now.net.inputs ≤ g.0 }
-    requires g_high { g.0 < net_count h.now.net }
-    requires x_low { length n.now.net.inputs ≤ x.0 }
-    requires x_high { x.0 < net_count n.now.net }
-    ensures none { IfNone result (CopiesRegister c.now (node_of n.now.net x.0) free (node_of h.now.net g.0) copy_free p.0 d) }
-    ensures some { IfSome result (RegisterFails c.now (node_of n.now.net x.0) free (node_of h.now.net g.0) copy_free p.0 d) }
-    ensures nets { IfSome result (HasNets n.now.net h.now.net) }
+    requires fits { Fits original.now.design.net hardened.now.design.net c.now }
+    requires g_low { length hardened.now.design.net.inputs ≤ g.0 }
+    requires g_high { g.0 < net_count hardened.now.design.net }
+    requires x_low { length original.now.design.net.inputs ≤ x.0 }
+    requires x_high { x.0 < net_count original.now.design.net }
+    ensures none { IfNone result (CopiesRegister c.now (node_of original.now.design.net x.0) (mark_in original.now c.now x.0) (node_of hardened.now.design.net g.0) (mark_in hardened.now c.now g.0) p.0 d) }
+    ensures some { IfSome result (RegisterFails c.now (node_of original.now.design.net x.0) (mark_in original.now c.now x.0) (node_of hardened.now.design.net g.0) (mark_in hardened.now c.now g.0) p.0 d) }
+    ensures nets { IfSome result (HasNets original.now.design.net hardened.now.design.net) }
 {
+    let n = original.net();
+    let h = hardened.net();
     if n.kind(x) != Kind::Register {
         return None;
     }
     if h.kind(g) != Kind::Register {
         return Some(Reason::IsTable);
     }
+    let copy_free = is_free(hardened, c, g);
+    let free = is_free(original, c, x);
     if h.init(g) != n.init(x) || copy_free != free {
         return Some(Reason::Initial {
             is: h.init(g),

@@ -5,11 +5,10 @@ ghost use Rattle.certificate.specs.Rules.{Rule8};
 ghost use Rattle.explaining.specs.Reasons.{OutputFails};
 ghost use Rattle.explaining.specs.Private.Pieces.{HasNets};
 
-use crate::reading::copy_at;
 use crate::reason::Reason;
 use certificate::Certificate;
 use flat_net::FlatNet;
-use validator::reading::is_copy;
+use validator::reading::{copy_at, is_copy};
 
 /// Why output position `place` of h is not what it is to be.
 #[tactic(auto, using(validator::proofs::OutputLaws::rule_8_at))]

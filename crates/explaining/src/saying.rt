@@ -407,7 +407,15 @@ fn new_output_text(alloc: Global, place: u64, name: &[u8]) -> Result<Vec<u8>, Al
     )
 }
 
-/// A pin that does not read x for that partition and copy.
+/// What is to be read at a pin: an original net, for a partition and a copy.
+#[derive(Clone, Copy, Drop)]
+struct Read {
+    node: NetId,
+    part: PartId,
+    copy: CopyNo,
+}
+
+/// A pin that does not read what it is to.
 fn wrong_pin_text(
     alloc: Global,
     n: &FlatNet,
@@ -415,16 +423,14 @@ fn wrong_pin_text(
     c: &Certificate,
     pin: u32,
     g: NetId,
-    x: NetId,
-    p: PartId,
-    d: CopyNo,
+    read: Read,
 ) -> Result<Vec<u8>, AllocError>
     requires fits { Fits n.now.net h.now.net c.now }
     requires g { g.0 < net_count h.now.net }
-    requires x { x.0 < net_count n.now.net }
-    ensures { IfOk result (λ text. text.items ≡ concat (reads_text n.now.net h.now.net c.now pin g.0 ∷ codes "; wanted " ∷ reader_text n.now.net c.now (part_of c.now x.0) x.0 p.0 d ∷ [])) }
+    requires node { read.node.0 < net_count n.now.net }
+    ensures { IfOk result (λ text. text.items ≡ concat (reads_text n.now.net h.now.net c.now pin g.0 ∷ codes "; wanted " ∷ reader_text n.now.net c.now (part_of c.now read.node.0) read.node.0 read.part.0 read.copy ∷ [])) }
 {
-    let wanted = reader_text(alloc, n, c, x, p, d)?;
+    let wanted = reader_text(alloc, n, c, read.node, read.part, read.copy)?;
     pin_text(alloc, n, h, c, pin, g, wanted.as_slice())
 }
 
@@ -509,7 +515,7 @@ pub fn reason_text(
             node,
             part,
             copy,
-        } => { wrong_pin_text(alloc, n, h, c, pin, net, node, part, copy) }
+        } => wrong_pin_text(alloc, n, h, c, pin, net, Read { node, part, copy }),
         Reason::VoterPin { net, node, copy } => voter_pin_text(alloc, n, h, c, net, node, copy),
         Reason::Minority {
             first,

@@ -27,24 +27,30 @@ pub struct Told {
     pub count: u64,
 }
 
+/// A rule, a place at which it fails, and why.
+#[derive(Clone, Copy, Drop)]
+struct Failure<'a> {
+    rule: Rule,
+    place: u64,
+    reason: Reason<'a>,
+}
+
 /// The line of a failure.
 fn failure_line(
     alloc: Global,
     n: &FlatNet,
     h: &FlatNet,
     c: &Certificate,
-    rule: Rule,
-    place: u64,
-    reason: Reason<'_>,
+    failure: Failure<'_>,
 ) -> Result<Vec<u8>, AllocError>
     requires fits { Fits n.now.net h.now.net c.now }
-    requires place { place < place_count n.now.net h.now.net rule }
-    requires nets { HasNets n.now.net h.now.net reason }
-    ensures { IfOk result (λ line. line.items ≡ failure_line n.now.net h.now.net c.now (record { rule = rule; place = place; reason = reason.entry })) }
+    requires place { failure.place < place_count n.now.net h.now.net failure.rule }
+    requires nets { HasNets n.now.net h.now.net failure.reason }
+    ensures { IfOk result (λ line. line.items ≡ failure_line n.now.net h.now.net c.now (record { rule = failure.entry.rule; place = failure.entry.place; reason = failure.entry.reason })) }
 {
-    let rule_number = number(rule).to_string(alloc)?;
-    let at = place_text(alloc, n, h, rule, place)?;
-    let why = reason_text(alloc, n, h, c, place, reason)?;
+    let rule_number = number(failure.rule).to_string(alloc)?;
+    let at = place_text(alloc, n, h, failure.rule, failure.place)?;
+    let why = reason_text(alloc, n, h, c, failure.place, failure.reason)?;
     join(
         alloc,
         &[
@@ -66,21 +72,19 @@ fn put_failure(
     n: &FlatNet,
     h: &FlatNet,
     c: &Certificate,
-    rule: Rule,
-    place: u64,
-    reason: Reason<'_>,
+    failure: Failure<'_>,
     before: u64,
     text: &mut Vec<u8>,
 ) -> Result<(), AllocError>
     requires fits { Fits n.now.net h.now.net c.now }
-    requires place { place < place_count n.now.net h.now.net rule }
-    requires nets { HasNets n.now.net h.now.net reason }
-    ensures { OnOk result (text.new.items ≡ text.old.items ++ shown before (failure_line n.now.net h.now.net c.now (record { rule = rule; place = place; reason = reason.entry }))) }
+    requires place { failure.place < place_count n.now.net h.now.net failure.rule }
+    requires nets { HasNets n.now.net h.now.net failure.reason }
+    ensures { OnOk result (text.new.items ≡ text.old.items ++ shown before (failure_line n.now.net h.now.net c.now (record { rule = failure.entry.rule; place = failure.entry.place; reason = failure.entry.reason }))) }
 {
     if before >= LINES {
         return Ok(());
     }
-    let line = failure_line(alloc, n, h, c, rule, place, reason)?;
+    let line = failure_line(alloc, n, h, c, failure)?;
     text.extend_from_slice(&line)?;
     Ok(())
 }
@@ -106,17 +110,12 @@ fn tell_place(
         None => Ok(()),
         Some(reason) => {
             let before = told.count;
-            put_failure(
-                alloc,
-                n.net(),
-                h.net(),
-                c,
+            let failure = Failure {
                 rule,
                 place,
                 reason,
-                before,
-                &mut told.text,
-            )?;
+            };
+            put_failure(alloc, n.net(), h.net(), c, failure, before, &mut told.text)?;
             told.count = before + 1;
             Ok(())
         }

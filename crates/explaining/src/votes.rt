@@ -9,13 +9,12 @@ ghost use Rattle.certificate.specs.Rules.{Votes};
 ghost use Rattle.explaining.specs.Reasons.{VoterFails, bits_number};
 ghost use Rattle.explaining.specs.Private.Pieces.{HasNets, VoterPinReason, MinorityReason};
 
-use crate::reading::copy_at;
 use crate::reason::Reason;
 use certificate::Certificate;
 use flat_net::{FlatNet, Kind};
 use table_cover::{Cover, majority};
 use tmr_base::NetId;
-use validator::reading::is_copy;
+use validator::reading::{copy_at, is_copy};
 
 /// The first of three pins that reads another net than its copy of x.
 #[tactic(auto, using(crate::proofs::Differs::copies_read, crate::proofs::Differs::next_copy))]

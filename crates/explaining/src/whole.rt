@@ -1,6 +1,5 @@
 //! Why the rules of inputs and clocks fail.
 ghost use Rattle.std.specs.Prelude.{◌≡◌, ◌*◌, length, IfSome, IfNone};
-ghost use Rattle.std.specs.Option.{option_map};
 ghost use Rattle.flat_net.specs.Net.{Net};
 ghost use Rattle.certificate.specs.Rules.{SameEdge};
 ghost use Rattle.explaining.specs.Reasons.{InputsFail, ClocksFail};
@@ -8,7 +7,7 @@ ghost use Rattle.explaining.specs.Private.Pieces.{HasNets};
 
 use crate::reason::Reason;
 use flat_net::FlatNet;
-use tmr_base::Edge;
+use validator::clocks::clock_edge;
 
 /// Why h has not three inputs for each one of n.
 pub fn inputs_reason<'a>(n: &FlatNet, h: &FlatNet) -> Option<Reason<'a>>
@@ -22,16 +21,6 @@ pub fn inputs_reason<'a>(n: &FlatNet, h: &FlatNet) -> Option<Reason<'a>>
         return None;
     }
     Some(Reason::InputCount { is, wanted })
-}
-
-/// The clock's edge, if there is a clock.
-fn clock_edge(n: &FlatNet) -> Option<Edge>
-    ensures { result ≡ option_map (λ clock. clock.0) n.now.net.clock }
-{
-    match n.clock() {
-        None => None,
-        Some((edge, _)) => Some(edge),
-    }
 }
 
 /// Why the clock of h is not as that of n.

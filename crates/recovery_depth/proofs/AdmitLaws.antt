@@ -20,7 +20,7 @@ use Rattle.recovery_depth.specs.Depths.{is_some_register}
 use Rattle.recovery_depth.specs.Hardened.{role_at, node_at, is_copy, ReadsCopy, original_of, own_original}
 use Rattle.recovery_depth.specs.Chains.{relabeled}
 use Rattle.recovery_depth.specs.Least.{AreDeep, AreAdmitted, depth_in}
-use Rattle.recovery_depth.specs.Private.Before.{number_at}
+use Rattle.recovery_depth.specs.Private.LastRegisters.{number_at}
 use Rattle.recovery_depth.proofs.CopyLaws.{node_with_role}
 
 module _ (n h : Net) (k : PlainCert) (fits : Fits n h k) (cert : IsCert k) (reaches : List ℕ) (reached : (g : ℕ) → g < length h.nodes → IsReach (ReadsCopy h k) (own_original h k) g (number_at reaches g)) where

@@ -5,10 +5,10 @@ pub mod ExtraLaws
 pub mod GreatestLaws
 pub mod UncutLaws
 pub mod WalkLaws
-pub mod BeforeLaws
+pub mod LastRegisterLaws
 pub mod WalkedLaws
 pub mod CopyLaws
 pub mod CopyOrder
-pub mod DeepLaws
+pub mod LongestChainLaws
 pub mod AdmitLaws
 pub mod Alike

@@ -9,8 +9,8 @@ use Rattle.graph.specs.Rows.{Follows}
 use Rattle.recovery_depth.specs.declared.deep.Deep.{Deep}
 use Rattle.recovery_depth.specs.Walks.{Walk, starts, is_marked}
 use Rattle.recovery_depth.specs.Private.Vertices.{one_if, marked}
-use Rattle.recovery_depth.specs.Private.Before.{number_at, IsBefore, AreBefore}
-use Rattle.recovery_depth.specs.Private.Tops.{walked, IsRead, AreRead}
+use Rattle.recovery_depth.specs.Private.LastRegisters.{number_at, IsBefore, AreBefore}
+use Rattle.recovery_depth.specs.Private.ChainEnds.{walked, IsRead, AreRead}
 
 pub length_walked : (before : List ℕ) (d x : ℕ) → length (walked before d x) ≡ d
 unfolding walked
@@ -43,9 +43,9 @@ walked_walk rows bits reaches before known (suc m) x l register e =
     let w : Walk (Follows rows) (marked bits) (number_at before x) (walked before (suc m) (number_at before x)) = walked_walk rows bits reaches before known m (number_at before x) b.vertex b.register (omega (arith, b.reach, one, e)) in
     subst (λ r. Walk (Follows rows) (marked bits) x (walked before (suc m) (number_at before x) ++ r)) own (b.joins (walked before (suc m) (number_at before x)) w)
 
-pub one_read : (before originals tops depths : List ℕ) (deeps : List Deep) (k : ℕ) (new : Deep) → length deeps ≡ k → AreRead before originals tops depths deeps → IsRead before originals tops depths k new → AreRead before originals tops depths (deeps ++ new ∷ [])
-one_read before originals tops depths deeps k new long all here p d e = go (push_read deeps new d p e)
+pub one_read : (before originals ends depths : List ℕ) (deeps : List Deep) (k : ℕ) (new : Deep) → length deeps ≡ k → AreRead before originals ends depths deeps → IsRead before originals ends depths k new → AreRead before originals ends depths (deeps ++ new ∷ [])
+one_read before originals ends depths deeps k new long all here p d e = go (push_read deeps new d p e)
   where
-    go : (slice_get deeps p ≡ Some d) ⊎ ((p ≡ length deeps) × (new ≡ d)) → IsRead before originals tops depths p d
+    go : (slice_get deeps p ≡ Some d) ⊎ ((p ≡ length deeps) × (new ≡ d)) → IsRead before originals ends depths p d
     go (inl f) = all p d f
-    go (inr f) = subst (IsRead before originals tops depths p) f.1 (subst (λ (q : ℕ). IsRead before originals tops depths q new) (sym (f.0 ∙ long)) here)
+    go (inr f) = subst (IsRead before originals ends depths p) f.1 (subst (λ (q : ℕ). IsRead before originals ends depths q new) (sym (f.0 ∙ long)) here)

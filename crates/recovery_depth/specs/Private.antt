@@ -1,8 +1,8 @@
 pub mod Vertices
 pub mod Copied
-pub mod Before
+pub mod LastRegisters
 pub mod Ranks
 pub mod Reaching
 pub mod Settled
-pub mod Tops
+pub mod ChainEnds
 pub mod Uncut

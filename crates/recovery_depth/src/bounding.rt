@@ -7,7 +7,7 @@ ghost use Rattle.recovery_depth.specs.Private.Reaching.{IsGreatestOf};
 ghost use Rattle.recovery_depth.specs.Private.Settled.{AreSettled};
 ghost use Rattle.recovery_depth.specs.Private.Uncut.{uncut_row, uncut_rows};
 
-use crate::greatest::greater;
+use crate::partition_depths::greater;
 use crate::reaching::{own_count, reach_at};
 use crate::uncut::uncut_read;
 use feedback_cut::CutPins;

@@ -6,7 +6,7 @@ ghost use Rattle.certificate.specs.Cert.{Fits};
 ghost use Rattle.recovery_depth.specs.Hardened.{node_at};
 ghost use Rattle.recovery_depth.specs.Private.Copied.{copied, copied_row, copied_rows, is_register_copy};
 ghost use Rattle.recovery_depth.specs.Private.Ranks.{rank_at, ranks_of};
-ghost use Rattle.recovery_depth.specs.Private.Tops.{place_at, places_of, original_at, originals_of};
+ghost use Rattle.recovery_depth.specs.Private.ChainEnds.{place_at, places_of, original_at, originals_of};
 
 use crate::ranks::Ranks;
 use certificate::{Certificate, Role};

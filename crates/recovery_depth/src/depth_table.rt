@@ -3,7 +3,7 @@ ghost use Rattle.std.specs.Prelude.{◌≡◌, ◌<◌, length, slice_index, IfO
 ghost use Rattle.feedback_cut.specs.Cut.{is_cut, CutsLoops};
 ghost use Rattle.recovery_depth.specs.Depths.{AreDepths};
 
-use crate::greatest::greatest_labels;
+use crate::partition_depths::greatest_labels;
 use crate::reaching::reaches;
 use crate::register_nodes::registers;
 use crate::uncut::uncut_inner;

@@ -8,8 +8,8 @@ ghost use Rattle.recovery_depth.specs.Extra.{is_extra, AreExtra};
 
 use crate::bounding::bounded_labels;
 use crate::depth_table::DepthTable;
-use crate::greatest::greatest_labels;
 use crate::ordering::ordered;
+use crate::partition_depths::greatest_labels;
 use crate::register_nodes::registers;
 use crate::uncut::uncut_in;
 use feedback_cut::{CutPins, OrderedCut, inner_reads};

@@ -5,25 +5,31 @@
 //! partition of a hardened design the most registers of a walk of copies, with a chain of registers that
 //! has so many; no labels and depths that the rules admit have a smaller depth. `bound` gives, for a cut and
 //! a bound, the further pins that are voted so that no label is above the bound.
+//!
+//! What is hard: a design may have more walks than can be listed. But uncut reads make no loop, so there is an order in
+//! which each vertex stands behind all that it reads (`ordering`), and one pass over it gives each the greatest of what it
+//! reads, and one more at a register (`reaching`). A bound is kept in the same pass: a register that reads the bound begins
+//! anew (`bounding`). A longest chain is read backward: each vertex keeps the last register before it (`last_registers`),
+//! of several always the same one (`ranks`), and the chain begins at the end of the deepest walk (`longest_chains`).
 #![tactic(auto)]
 
-mod before;
 mod bounding;
 mod copies;
 mod deep;
-mod deepest;
 mod depth_table;
 mod extra;
-mod greatest;
+mod last_registers;
+mod least_depths;
+mod longest_chains;
 mod ordering;
+mod partition_depths;
 mod ranks;
 mod reaching;
 mod register_nodes;
-mod tops;
 mod uncut;
 
 pub use deep::Deep;
-pub use deepest::least;
 pub use depth_table::{DepthTable, depths};
 pub use extra::{Extra, bound, bound_in_order};
+pub use least_depths::least;
 pub use register_nodes::registers;

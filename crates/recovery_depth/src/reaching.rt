@@ -5,8 +5,8 @@ ghost use Rattle.recovery_depth.specs.Walks.{is_marked};
 ghost use Rattle.recovery_depth.specs.Private.Vertices.{HasNoLoop, IsOrdered, IsReachIn, one_if};
 ghost use Rattle.recovery_depth.specs.Private.Reaching.{IsGreatestOf};
 
-use crate::greatest::greater;
 use crate::ordering::ordered;
+use crate::partition_depths::greater;
 use graph::Graph;
 use std::alloc::Global;
 use tmr_base::OutOfMemory;

@@ -7,7 +7,7 @@ use flat_net::FlatNet;
 use tmr_base::Edge;
 
 /// The clock's edge, if there is a clock.
-fn clock_edge(n: &FlatNet) -> Option<Edge>
+pub fn clock_edge(n: &FlatNet) -> Option<Edge>
     ensures { result ≡ option_map (λ clock. clock.0) n.now.net.clock }
 {
     match n.clock() {

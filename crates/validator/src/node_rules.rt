@@ -34,17 +34,7 @@ fn rule_4(n: Side<'_>, h: Side<'_>, c: &Certificate, g: NetId) -> bool
     ensures { IsTrue result ↔ Rule4 (net_in n.entry) (marks_in n.entry) (net_in h.entry) (marks_in h.entry) c.now g.0 }
 {
     match c.role(g) {
-        Role::Copy { node, copy } => copies_register(
-            n.net(),
-            n.is_free(node),
-            h.net(),
-            h.is_free(g),
-            c,
-            g,
-            node,
-            c.part(node),
-            copy,
-        ),
+        Role::Copy { node, copy } => copies_register(n, h, c, g, node, c.part(node), copy),
         Role::Voter { .. } => true,
     }
 }

@@ -1,14 +1,12 @@
 //! The rule of outputs.
-ghost use Rattle.std.specs.Prelude.{◌≡◌, ◌↔◌, ◌<◌, length, IsTrue};
-ghost use Rattle.tmr_base.specs.Copies.{copy_number};
+ghost use Rattle.std.specs.Prelude.{◌↔◌, ◌<◌, length, IsTrue};
 ghost use Rattle.certificate.specs.Cert.{Fits};
 ghost use Rattle.certificate.specs.Rules.{Rule8};
 ghost use Rattle.validator.specs.FirstBad.{IsFirstBad};
 
-use crate::reading::is_copy;
+use crate::reading::{copy_at, is_copy};
 use certificate::Certificate;
 use flat_net::FlatNet;
-use tmr_base::CopyNo;
 
 /// Output j of h is the copy that it should be.
 #[tactic(auto, using(crate::proofs::OutputLaws::rule_8_at))]
@@ -23,18 +21,6 @@ fn output_holds(n: &FlatNet, h: &FlatNet, c: &Certificate, j: u32) -> bool
     }
     let x = n.output(i);
     is_copy(n, c, h.output(j), x, copy_at(j % 3))
-}
-
-/// The copy with this number.
-fn copy_at(number: u32) -> CopyNo
-    requires { number < 3 }
-    ensures { copy_number result ≡ number }
-{
-    match number {
-        0 => CopyNo::First,
-        1 => CopyNo::Second,
-        _ => CopyNo::Third,
-    }
 }
 
 /// The first output position that is wrong.

@@ -1,5 +1,6 @@
 //! What a hardened net stands for, and what it counts.
 ghost use Rattle.std.specs.Prelude.{◌≡◌, ◌↔◌, ◌+◌, ◌<◌, ◌≤◌, length, IsTrue};
+ghost use Rattle.tmr_base.specs.Copies.{copy_number};
 ghost use Rattle.flat_net.specs.Net.{net_count, node_of, pins_at};
 ghost use Rattle.certificate.specs.Cert.{Fits, copy_of, count_of};
 ghost use Rattle.certificate.specs.Reads.{Reads};
@@ -8,6 +9,18 @@ ghost use Rattle.certificate.specs.Rules.{PinsRead};
 use certificate::{Certificate, Role};
 use flat_net::FlatNet;
 use tmr_base::{CopyNo, NetId, PartId};
+
+/// The copy with this number.
+pub fn copy_at(number: u32) -> CopyNo
+    requires { number < 3 }
+    ensures { copy_number result ≡ number }
+{
+    match number {
+        0 => CopyNo::First,
+        1 => CopyNo::Second,
+        _ => CopyNo::Third,
+    }
+}
 
 /// Hardened net g is copy d of original net x.
 #[tactic(auto, using(flat_net::proofs::Slots::slot_below))]

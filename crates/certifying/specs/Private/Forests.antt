@@ -1,5 +1,5 @@
 -- Forests over numbers: each number has a parent, which is itself at a root.
-use Rattle.std.specs.Prelude.{◌≡◌, ℕ, ◌+◌, ◌-◌, ◌<◌, ◌≤◌, List, length, Option, Some, slice_get, slice_index}
+use Rattle.std.specs.Prelude.{◌≡◌, ℕ, ◌-◌, ◌<◌, ◌≤◌, List, length, Option, Some, slice_get, slice_index}
 use Rattle.tmr_base.specs.declared.copies.CopyNo.{CopyNo}
 use Rattle.flat_net.specs.Net.{Net, node_of, pins_at}
 use Rattle.certificate.specs.declared.role.Role.TheVariants.{Copy, Voter}

@@ -1,5 +1,5 @@
 -- Numbers of partitions.
-use Rattle.std.specs.Prelude.{◌≡◌, ℕ, ◌<◌, List, length, Option, slice_index, All}
+use Rattle.std.specs.Prelude.{◌≡◌, ℕ, ◌<◌, List, length, Option, slice_index}
 use Rattle.certifying.specs.Private.Forests.{GoesAlong}
 
 -- the first so many numbers of a forest are in partitions below `count`; two of one partition are sorted alike by each sorting

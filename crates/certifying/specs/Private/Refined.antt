@@ -1,9 +1,9 @@
 -- A certificate whose partitions, labels and depths are found for the roles of another one.
-use Rattle.std.specs.Prelude.{◌≡◌, ℕ, ◌<◌, ◌≤◌, List, length, slice_index, Option, All}
+use Rattle.std.specs.Prelude.{◌≡◌, ℕ, ◌<◌, List, length, Option, All}
 use Rattle.tmr_base.specs.Copies.{Three}
 use Rattle.flat_net.specs.Net.{Net}
 use Rattle.certificate.specs.declared.role.Role.{Role}
-use Rattle.certificate.specs.Cert.{PlainCert, Fits}
+use Rattle.certificate.specs.Cert.{PlainCert}
 use Rattle.certifying.specs.Private.Bare.{AreSmall, IsBare}
 use Rattle.certifying.specs.Private.Numbers.{AreNumbered}
 use Rattle.certifying.specs.Private.Labels.{AreBelow}

@@ -1,11 +1,17 @@
 -- Reasons by parts of a rule, and what a reason names.
-use Rattle.std.specs.Prelude.{◌≡◌, ℕ, ◌+◌, ◌<◌, ◌≤◌, List, length, slice_index}
+use Rattle.std.specs.Prelude.{◌≡◌, ℕ, ◌+◌, ◌<◌, ◌≤◌, Bool, List, length, slice_index}
 use Rattle.table_cover.specs.Cover.{PlainCover}
 use Rattle.flat_net.specs.Net.{Net, net_count}
+use Rattle.flat_net.specs.Free.{FreeDesign, node_bit}
 use Rattle.certificate.specs.Cert.{PlainCert, count_of}
+use Rattle.certificate.specs.Starts.{counted}
 use Rattle.explaining.specs.declared.reason.Reason.{Reason}
 use Rattle.explaining.specs.declared.reason.Reason.TheVariants.{Pin, VoterPin, Minority, LowLabel, WrongOutput, NoOutput, NewOutput}
 use Rattle.explaining.specs.Reasons.{VoterPinFails, VoteFailsFirst, LabelFailsFirst}
+
+-- net x is marked, as far as the certificate counts marks
+abbrev pub mark_in : FreeDesign → PlainCert → ℕ → Bool
+mark_in n k x = node_bit (length n.design.net.inputs) (counted k n.free) x
 
 -- what the reason names are nets
 abbrev pub HasNets : Net → Net → Reason → Type 0

@@ -1,4 +1,4 @@
-use Rattle.std.proofs.Common.{◌≡◌, ℕ, ◌<◌, ◌≤◌, length, map, All}
+use Rattle.std.proofs.Common.{◌≡◌, ◌<◌, length, map, All}
 use Rattle.certificate.specs.Threes.{three_of}
 use Rattle.certifying.specs.Private.Depths.{AreDepths}
 use Rattle.certifying.proofs.depths.depths_of.Given as goal

@@ -1,4 +1,4 @@
-use Rattle.std.proofs.Common.{◌≡◌, ℕ, List, map, sym, ap, subst, ◌∙◌, arith}
+use Rattle.std.proofs.Common.{ℕ, List, map, sym, subst, ◌∙◌, arith}
 use Rattle.certificate.specs.Threes.{three_of, three_ids}
 use Rattle.certificate.specs.Cert.{IsCert}
 use Rattle.certifying.specs.Private.Depths.{AreDepths}

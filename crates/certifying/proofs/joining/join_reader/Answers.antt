@@ -1,4 +1,4 @@
-use Rattle.std.proofs.Common.{ℕ, Option, Some, slice_get, sym, ap, subst, ◌∙◌, ◌≡◌}
+use Rattle.std.proofs.Common.{ℕ, Option, Some, slice_get, sym, ap, ◌∙◌, ◌≡◌}
 use Rattle.certifying.proofs.JoinLaws.{follows_set}
 use Rattle.certifying.proofs.joining.join_reader.Goals as goal
 

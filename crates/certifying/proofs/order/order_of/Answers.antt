@@ -1,4 +1,4 @@
-use Rattle.std.proofs.Common.{◌≡◌, ℕ, ◌<◌, ◌≤◌, length, List, get_or, subst, arith}
+use Rattle.std.proofs.Common.{subst, arith}
 use Rattle.graph.specs.Sorted.{IsSorted}
 use Rattle.certifying.proofs.OrderLaws.{cycle_within}
 use Rattle.certifying.proofs.order.order_of.Goals as goal

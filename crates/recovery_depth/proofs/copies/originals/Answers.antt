@@ -1,7 +1,7 @@
 use Rattle.std.proofs.Common.{◌++◌, ◌∷◌, [], map, sym, ◌∙◌, ap, arith}
 use Rattle.std.specs.List.{range_with_len}
 use Rattle.std.proofs.lemmas.List.FromFn.{map-range_with_len_more}
-use Rattle.recovery_depth.specs.Private.Tops.{original_at}
+use Rattle.recovery_depth.specs.Private.ChainEnds.{original_at}
 use Rattle.recovery_depth.proofs.copies.originals.Goals as goal
 
 pub loop-g-preserved : goal.loop-g-preserved

@@ -4,7 +4,7 @@ use Rattle.std.specs.List.{range_with_len}
 use Rattle.std.proofs.lemmas.Bool.{cases_lt}
 use Rattle.std.proofs.lemmas.List.{get_or_append_left, get_or_push, length_push}
 use Rattle.std.proofs.lemmas.List.FromFn.{map-range_with_len_more}
-use Rattle.recovery_depth.specs.Private.Tops.{place_at}
+use Rattle.recovery_depth.specs.Private.ChainEnds.{place_at}
 use Rattle.recovery_depth.proofs.copies.place_list.Goals as goal
 
 all_push : (count : ℕ) (xs : List ℕ) (y : ℕ) → All (λ p. p < count) xs → y < count → All (λ p. p < count) (xs ++ y ∷ [])

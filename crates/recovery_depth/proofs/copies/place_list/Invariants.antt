@@ -1,7 +1,7 @@
 use Rattle.std.proofs.Common.{◌≡◌, ◌<◌, map, length}
 use Rattle.std.specs.Prelude.{All}
 use Rattle.std.specs.List.{range_with_len}
-use Rattle.recovery_depth.specs.Private.Tops.{place_at}
+use Rattle.recovery_depth.specs.Private.ChainEnds.{place_at}
 use Rattle.recovery_depth.proofs.copies.place_list.Given as goal
 
 abbrev pub invariant-loop-g : goal.invariant-loop-g

@@ -1,6 +1,6 @@
 use Rattle.std.proofs.Common.{length, ap, arith}
 use Rattle.std.proofs.lemmas.List.FromFn.{length-map-range_with_len}
-use Rattle.recovery_depth.specs.Private.Tops.{place_at}
+use Rattle.recovery_depth.specs.Private.ChainEnds.{place_at}
 use Rattle.recovery_depth.proofs.copies.places.Goals as goal
 
 pub make-requires-clause-few : goal.make-requires-clause-few

@@ -1,5 +1,0 @@
-use Rattle.recovery_depth.specs.Private.Before.{IsChosen}
-use Rattle.recovery_depth.proofs.before.chosen.Given as goal
-
-abbrev pub invariant-loop-x : goal.invariant-loop-x
-invariant-loop-x l = IsChosen l.row l.reaches l.is_register l.before l.none l.target l.x-index l.best

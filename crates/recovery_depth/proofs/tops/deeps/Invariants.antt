@@ -1,9 +1,0 @@
-use Rattle.std.proofs.Common.{◌≡◌, length}
-use Rattle.recovery_depth.specs.Private.Tops.{AreRead}
-use Rattle.recovery_depth.proofs.tops.deeps.Given as goal
-
-abbrev pub invariant-loop-p : goal.invariant-loop-p
-invariant-loop-p l = record {
-  long : length l.deeps.items ≡ l.p;
-  read : AreRead l.before l.originals l.tops l.depths l.deeps.items;
-}

@@ -1,0 +1,108 @@
+//! The last register before each vertex, on a walk with the most registers.
+ghost use Rattle.std.specs.Prelude.{◌≡◌, ◌≢◌, ◌<◌, ◌≤◌, ◌+◌, ◌-◌, ◌⊎◌, ℕ, length, slice_index, slice_index_or, IfOk, if◌then◌else◌};
+ghost use Rattle.graph.specs.Rows.{row};
+ghost use Rattle.recovery_depth.specs.Private.Vertices.{IsOrdered, IsReachIn};
+ghost use Rattle.recovery_depth.specs.Private.Ranks.{is_before};
+ghost use Rattle.recovery_depth.specs.Private.LastRegisters.{last_of, number_at, AreBefore, IsChosen, IsOneOf};
+
+use crate::ranks::Ranks;
+use crate::reaching::{own_count, reach_at};
+use graph::Graph;
+use std::alloc::Global;
+use tmr_base::OutOfMemory;
+
+/// The vertex itself, if it is a register, else the last register before it.
+pub fn last_of(is_register: &[bool], before: &[u32], x: u32) -> u32
+    ensures { result ≡ last_of is_register.now before.now x }
+{
+    match is_register.get(x as usize) {
+        Some(true) => x,
+        _ => reach_at(before, x),
+    }
+}
+
+/// The one that ranks first, if one is there; `none` stands for none.
+pub fn first_of(ranks: &Ranks, none: u32, best: u32, other: u32) -> u32
+    ensures one { IsOneOf none best other result }
+    ensures first { best ≢ none → other ≢ none → result ≡ (if is_before ranks.now other best then other else best) }
+{
+    if other == none {
+        return best;
+    }
+    if best == none || ranks.is_before(other, best) {
+        return other;
+    }
+    best
+}
+
+/// The best so far, or the last register of x, where x has this reach.
+pub fn considered(
+    reaches: &[u32],
+    is_register: &[bool],
+    before: &[u32],
+    ranks: &Ranks,
+    none: u32,
+    target: u32,
+    best: u32,
+    x: u32,
+) -> u32
+    ensures other { (slice_index_or reaches.now x 0 ≡ target → IsOneOf none best (last_of is_register.now before.now x) result) }
+    ensures same { (slice_index_or reaches.now x 0 ≢ target → result ≡ best) }
+{
+    if reach_at(reaches, x) != target {
+        return best;
+    }
+    first_of(ranks, none, best, last_of(is_register, before, x))
+}
+
+/// The register that ranks first among the last registers of the vertices of a row that have this reach.
+fn chosen(
+    row: &[u32],
+    reaches: &[u32],
+    is_register: &[bool],
+    before: &[u32],
+    ranks: &Ranks,
+    none: u32,
+    target: u32,
+) -> u32
+    ensures { IsChosen row.now reaches.now is_register.now before.now none target (length row.now) result }
+{
+    let mut best = none;
+    for x in row {
+        best = considered(reaches, is_register, before, ranks, none, target, best, *x);
+    }
+    best
+}
+
+/// For each vertex the last register before it, on a walk with the most registers that ends in it.
+pub fn registers_before(
+    alloc: Global,
+    graph: &Graph,
+    is_register: &[bool],
+    reaches: &[u32],
+    order: &[u32],
+    ranks: &Ranks,
+    count: u32,
+) -> Result<Vec<u32>, OutOfMemory>
+    requires count { count ≡ length graph.now }
+    requires ordered { IsOrdered graph.now order.now }
+    requires reached { (x : ℕ) → x < count → IsReachIn graph.now is_register.now x (slice_index_or reaches.now x 0) }
+    requires long { length reaches.now ≡ count }
+    ensures { IfOk result (λ before. AreBefore graph.now is_register.now reaches.now before.items) }
+{
+    let mut before = vec![in alloc; 0; count as usize]?;
+    for x in order {
+        let own = own_count(is_register, *x);
+        let target = reach_at(reaches, *x).saturating_sub(own);
+        before[*x as usize] = chosen(
+            graph.row(*x),
+            reaches,
+            is_register,
+            before.as_slice(),
+            ranks,
+            count,
+            target,
+        );
+    }
+    Ok(before)
+}
