@@ -80,7 +80,7 @@ fn pin_literals(
     ensures pins { IfOk result (λ pins. pins.items ≡ map (literal_at literals.now) (pins_at (node_of n.now.net x.0))) }
     ensures below { IfOk result (λ pins. (next : ℕ) → AreBelow next literals.now → AreBelow next pins.items) }
 {
-    let mut pins = Vec::new(alloc);
+    let mut pins = Vec::with_capacity(alloc, n.pin_count(x) as usize)?;
     for j in 0..n.pin_count(x) {
         pins.push(literals[n.pin(x, j).0 as usize])?;
     }

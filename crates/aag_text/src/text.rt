@@ -12,47 +12,48 @@ use crate::aig::literal_number;
 use crate::nets::is_register;
 use crate::{Aig, Gate, Header, Latch, Literal, Start};
 use flat_net::FlatNet;
+use itoa::Buffer;
 use std::alloc::{AllocError, Global};
 use tmr_base::NetId;
 
-fn put_number(alloc: Global, out: &mut Vec<u8>, number: u64) -> Result<(), AllocError>
+fn put_number(out: &mut Vec<u8>, number: u64) -> Result<(), AllocError>
     ensures { OnOk result (out.new.items ≡ out.old.items ++ decimal number) }
 {
-    let digits = number.to_string(alloc)?;
-    out.extend_from_slice(digits.as_bytes())?;
+    let mut digits = Buffer::new();
+    out.extend_from_slice(digits.format(number).as_bytes())?;
     Ok(())
 }
 
-fn put_variable(alloc: Global, out: &mut Vec<u8>, variable: u32) -> Result<(), AllocError>
+fn put_variable(out: &mut Vec<u8>, variable: u32) -> Result<(), AllocError>
     ensures { OnOk result (out.new.items ≡ out.old.items ++ variable_word variable) }
 {
-    put_number(alloc, out, 2 * variable as u64)
+    put_number(out, 2 * variable as u64)
 }
 
-fn put_literal(alloc: Global, out: &mut Vec<u8>, l: Literal) -> Result<(), AllocError>
+fn put_literal(out: &mut Vec<u8>, l: Literal) -> Result<(), AllocError>
     ensures { OnOk result (out.new.items ≡ out.old.items ++ literal_word l) }
 {
-    put_number(alloc, out, literal_number(l))
+    put_number(out, literal_number(l))
 }
 
 /// Puts a blank and the number.
-fn put_count(alloc: Global, out: &mut Vec<u8>, number: u32) -> Result<(), AllocError>
+fn put_count(out: &mut Vec<u8>, number: u32) -> Result<(), AllocError>
     ensures { OnOk result (out.new.items ≡ out.old.items ++ 32 ∷ decimal number) }
 {
     out.push(b' ')?;
-    put_number(alloc, out, number as u64)
+    put_number(out, number as u64)
 }
 
 /// Puts `aag M I L O A`.
-fn put_header(alloc: Global, out: &mut Vec<u8>, h: Header) -> Result<(), AllocError>
+fn put_header(out: &mut Vec<u8>, h: Header) -> Result<(), AllocError>
     ensures { OnOk result (out.new.items ≡ out.old.items ++ line_text (header_line h)) }
 {
     out.extend_from_slice(b"aag")?;
-    put_count(alloc, out, h.most)?;
-    put_count(alloc, out, h.inputs)?;
-    put_count(alloc, out, h.latches)?;
-    put_count(alloc, out, h.outputs)?;
-    put_count(alloc, out, h.gates)?;
+    put_count(out, h.most)?;
+    put_count(out, h.inputs)?;
+    put_count(out, h.latches)?;
+    put_count(out, h.outputs)?;
+    put_count(out, h.gates)?;
     out.push(b'\n')?;
     Ok(())
 }
@@ -75,7 +76,7 @@ fn header(a: &Aig) -> Header
     }
 }
 
-fn put_start(alloc: Global, out: &mut Vec<u8>, latch: &Latch) -> Result<(), AllocError>
+fn put_start(out: &mut Vec<u8>, latch: &Latch) -> Result<(), AllocError>
     ensures { OnOk result (out.new.items ≡ out.old.items ++ spaced (start_words latch.now.variable latch.now.start)) }
 {
     match latch.start {
@@ -83,99 +84,93 @@ fn put_start(alloc: Global, out: &mut Vec<u8>, latch: &Latch) -> Result<(), Allo
         Start::One => out.extend_from_slice(b" 1"),
         Start::Free => {
             out.push(b' ')?;
-            put_variable(alloc, out, latch.variable)
+            put_variable(out, latch.variable)
         }
     }
 }
 
-fn put_latch(alloc: Global, out: &mut Vec<u8>, latch: &Latch) -> Result<(), AllocError>
+fn put_latch(out: &mut Vec<u8>, latch: &Latch) -> Result<(), AllocError>
     ensures { OnOk result (out.new.items ≡ out.old.items ++ line_text (latch_line latch.now)) }
 {
-    put_variable(alloc, out, latch.variable)?;
+    put_variable(out, latch.variable)?;
     out.push(b' ')?;
-    put_literal(alloc, out, latch.next)?;
-    put_start(alloc, out, latch)?;
+    put_literal(out, latch.next)?;
+    put_start(out, latch)?;
     out.push(b'\n')?;
     Ok(())
 }
 
-fn put_gate(alloc: Global, out: &mut Vec<u8>, gate: &Gate) -> Result<(), AllocError>
+fn put_gate(out: &mut Vec<u8>, gate: &Gate) -> Result<(), AllocError>
     ensures { OnOk result (out.new.items ≡ out.old.items ++ line_text (gate_line gate.now)) }
 {
-    put_variable(alloc, out, gate.variable)?;
+    put_variable(out, gate.variable)?;
     out.push(b' ')?;
-    put_literal(alloc, out, gate.left)?;
+    put_literal(out, gate.left)?;
     out.push(b' ')?;
-    put_literal(alloc, out, gate.right)?;
+    put_literal(out, gate.right)?;
     out.push(b'\n')?;
     Ok(())
 }
 
-fn put_inputs(alloc: Global, out: &mut Vec<u8>, inputs: &[u32]) -> Result<(), AllocError>
+fn put_inputs(out: &mut Vec<u8>, inputs: &[u32]) -> Result<(), AllocError>
     ensures { OnOk result (out.new.items ≡ out.old.items ++ lines_text (map (λ v. variable_word v ∷ []) inputs.now)) }
 {
     for input in inputs {
-        put_variable(alloc, out, *input)?;
+        put_variable(out, *input)?;
         out.push(b'\n')?;
     }
     Ok(())
 }
 
-fn put_latches(alloc: Global, out: &mut Vec<u8>, latches: &[Latch]) -> Result<(), AllocError>
+fn put_latches(out: &mut Vec<u8>, latches: &[Latch]) -> Result<(), AllocError>
     ensures { OnOk result (out.new.items ≡ out.old.items ++ lines_text (map latch_line latches.now)) }
 {
     for latch in latches {
-        put_latch(alloc, out, latch)?;
+        put_latch(out, latch)?;
     }
     Ok(())
 }
 
-fn put_outputs(alloc: Global, out: &mut Vec<u8>, outputs: &[Literal]) -> Result<(), AllocError>
+fn put_outputs(out: &mut Vec<u8>, outputs: &[Literal]) -> Result<(), AllocError>
     ensures { OnOk result (out.new.items ≡ out.old.items ++ lines_text (map (λ l. literal_word l ∷ []) outputs.now)) }
 {
     for output in outputs {
-        put_literal(alloc, out, *output)?;
+        put_literal(out, *output)?;
         out.push(b'\n')?;
     }
     Ok(())
 }
 
-fn put_gates(alloc: Global, out: &mut Vec<u8>, gates: &[Gate]) -> Result<(), AllocError>
+fn put_gates(out: &mut Vec<u8>, gates: &[Gate]) -> Result<(), AllocError>
     ensures { OnOk result (out.new.items ≡ out.old.items ++ lines_text (map gate_line gates.now)) }
 {
     for gate in gates {
-        put_gate(alloc, out, gate)?;
+        put_gate(out, gate)?;
     }
     Ok(())
 }
 
 /// Puts the lines of a graph.
 #[tactic(auto, using(crate::proofs::Puts::graph_put))]
-fn put_graph(alloc: Global, out: &mut Vec<u8>, a: &Aig) -> Result<(), AllocError>
+fn put_graph(out: &mut Vec<u8>, a: &Aig) -> Result<(), AllocError>
     requires few { length a.now.inputs.items + length a.now.latches.items + length a.now.gates.items < 4294967296 }
     requires outputs { length a.now.outputs.items < 4294967296 }
     ensures { OnOk result (out.new.items ≡ out.old.items ++ lines_text (aig_lines (length a.now.inputs.items + length a.now.latches.items + length a.now.gates.items) (plain_aig a.now))) }
 {
-    put_header(alloc, out, header(a))?;
-    put_inputs(alloc, out, &a.inputs)?;
-    put_latches(alloc, out, &a.latches)?;
-    put_outputs(alloc, out, &a.outputs)?;
-    put_gates(alloc, out, &a.gates)?;
+    put_header(out, header(a))?;
+    put_inputs(out, &a.inputs)?;
+    put_latches(out, &a.latches)?;
+    put_outputs(out, &a.outputs)?;
+    put_gates(out, &a.gates)?;
     Ok(())
 }
 
 /// Puts the line of a symbol: its letter and number, and the name of net x.
-fn put_symbol(
-    alloc: Global,
-    out: &mut Vec<u8>,
-    letter: u8,
-    k: u32,
-    name: &[u8],
-) -> Result<(), AllocError>
+fn put_symbol(out: &mut Vec<u8>, letter: u8, k: u32, name: &[u8]) -> Result<(), AllocError>
     ensures { OnOk result (out.new.items ≡ out.old.items ++ line_text (symbol_line letter k name.now)) }
 {
     out.push(letter)?;
-    put_number(alloc, out, k as u64)?;
+    put_number(out, k as u64)?;
     out.push(b' ')?;
     out.extend_from_slice(name)?;
     out.push(b'\n')?;
@@ -183,30 +178,24 @@ fn put_symbol(
 }
 
 /// Puts the names of the inputs.
-fn put_input_symbols(alloc: Global, out: &mut Vec<u8>, n: &FlatNet) -> Result<(), AllocError>
+fn put_input_symbols(out: &mut Vec<u8>, n: &FlatNet) -> Result<(), AllocError>
     ensures { OnOk result (out.new.items ≡ out.old.items ++ lines_text (symbol_lines 105 0 n.now.net.inputs)) }
 {
     for i in 0..n.input_count() {
-        put_symbol(alloc, out, b'i', i, n.name(NetId(i)).bytes())?;
+        put_symbol(out, b'i', i, n.name(NetId(i)).bytes())?;
     }
     Ok(())
 }
 
 /// Puts the name of net x, where it is a register, and gives the number of the next one.
-fn put_register_symbol(
-    alloc: Global,
-    out: &mut Vec<u8>,
-    n: &FlatNet,
-    j: u32,
-    x: NetId,
-) -> Result<u32, AllocError>
+fn put_register_symbol(out: &mut Vec<u8>, n: &FlatNet, j: u32, x: NetId) -> Result<u32, AllocError>
     requires range { x.0 < net_count n.now.net }
     requires few { j < 4294967295 }
     ensures symbols { OnOk result (out.new.items ≡ out.old.items ++ lines_text (register_symbols n.now.net j x.0)) }
     ensures next { IfOk result (λ next. next ≡ next_symbol n.now.net j x.0) }
 {
     if is_register(n, x) {
-        put_symbol(alloc, out, b'l', j, n.name(x).bytes())?;
+        put_symbol(out, b'l', j, n.name(x).bytes())?;
         Ok(j + 1)
     } else {
         Ok(j)
@@ -214,23 +203,23 @@ fn put_register_symbol(
 }
 
 /// Puts the names of the registers.
-fn put_register_symbols(alloc: Global, out: &mut Vec<u8>, n: &FlatNet) -> Result<(), AllocError>
+fn put_register_symbols(out: &mut Vec<u8>, n: &FlatNet) -> Result<(), AllocError>
     ensures { OnOk result (out.new.items ≡ out.old.items ++ lines_text (symbol_lines 108 0 (map (name_of n.now.net) (registers n.now.net)))) }
 {
     let inputs = n.input_count();
     let mut j = 0;
     for i in 0..n.node_count() {
-        j = put_register_symbol(alloc, out, n, j, NetId(inputs + i))?;
+        j = put_register_symbol(out, n, j, NetId(inputs + i))?;
     }
     Ok(())
 }
 
 /// Puts the names of the outputs.
-fn put_output_symbols(alloc: Global, out: &mut Vec<u8>, n: &FlatNet) -> Result<(), AllocError>
+fn put_output_symbols(out: &mut Vec<u8>, n: &FlatNet) -> Result<(), AllocError>
     ensures { OnOk result (out.new.items ≡ out.old.items ++ lines_text (symbol_lines 111 0 (map (name_of n.now.net) n.now.net.outputs))) }
 {
     for k in 0..n.output_count() {
-        put_symbol(alloc, out, b'o', k, n.name(n.output(k)).bytes())?;
+        put_symbol(out, b'o', k, n.name(n.output(k)).bytes())?;
     }
     Ok(())
 }
@@ -242,9 +231,9 @@ pub fn text_of(alloc: Global, a: &Aig, n: &FlatNet) -> Result<Vec<u8>, AllocErro
     ensures { IfOk result (λ bytes. bytes.items ≡ aag_text (length a.now.inputs.items + length a.now.latches.items + length a.now.gates.items) (plain_aig a.now) n.now.net) }
 {
     let mut out = Vec::new(alloc);
-    put_graph(alloc, &mut out, a)?;
-    put_input_symbols(alloc, &mut out, n)?;
-    put_register_symbols(alloc, &mut out, n)?;
-    put_output_symbols(alloc, &mut out, n)?;
+    put_graph(&mut out, a)?;
+    put_input_symbols(&mut out, n)?;
+    put_register_symbols(&mut out, n)?;
+    put_output_symbols(&mut out, n)?;
     Ok(out)
 }

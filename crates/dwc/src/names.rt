@@ -8,7 +8,7 @@ ghost use Rattle.dwc.specs.Guard.{twin_text, guard_net};
 use flat_net::FlatNet;
 use indexmap::IndexSet;
 use std::alloc::Global;
-use tmr_base::{Edge, Name, NameFault, NetId, OutOfMemory, clock_name};
+use tmr_base::{CopyNo, Edge, Name, NameFault, NetId, OutOfMemory, clock_name, copy_name};
 
 /// The name with these bytes, which are one.
 pub fn name_of_bytes(alloc: Global, bytes: &[u8]) -> Result<Name, OutOfMemory>
@@ -39,11 +39,9 @@ pub fn twin_name(alloc: Global, x: &Name, c: u32) -> Result<Name, OutOfMemory>
     ensures { IfOk result (λ name. name ≡ twin_text x.now c) }
 {
     if c == 0 {
-        let first = suffixed(alloc, x, b"~0")?;
-        return Ok(first);
+        return copy_name(alloc, x, CopyNo::First);
     }
-    let second = suffixed(alloc, x, b"~1")?;
-    Ok(second)
+    copy_name(alloc, x, CopyNo::Second)
 }
 
 /// Adds the name of copy c of input i.

@@ -27,7 +27,7 @@ fn twin_pins(alloc: Global, n: &FlatNet, x: NetId, c: u32) -> Result<Vec<NetId>,
     requires copy { c < 2 }
     ensures { IfOk result (λ pins. map number_of pins.items ≡ map (twin c) (pins_at (node_of n.now.net x.0))) }
 {
-    let mut pins = Vec::new(alloc);
+    let mut pins = Vec::with_capacity(alloc, n.pin_count(x) as usize)?;
     for j in 0..n.pin_count(x) {
         pins.push(twin(n.pin(x, j), c))?;
     }
