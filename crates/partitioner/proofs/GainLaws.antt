@@ -25,7 +25,7 @@ use Rattle.partitioner.proofs.CountLaws.{any_by_count}
 use Rattle.partitioner.proofs.LossLaws.{loss_at_least}
 
 -- those that pass and those that do not are all
-count_both : (f : ℕ → Bool) (xs : List ℕ) → count_by (λ x. not (f x)) xs + count_by f xs ≡ length xs
+pub count_both : (f : ℕ → Bool) (xs : List ℕ) → count_by (λ x. not (f x)) xs + count_by f xs ≡ length xs
 count_both f [] = refl
 count_both f (x ∷ xs) = go (f x) refl (count_both f xs)
   where

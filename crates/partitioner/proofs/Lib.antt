@@ -17,3 +17,4 @@ pub mod WideLaws
 pub mod SetLaws
 pub mod SpotLaws
 pub mod RestLaws
+pub mod HintLaws

@@ -9,3 +9,4 @@ pub mod Spotting
 pub mod Gaining
 pub mod Ready
 pub mod Resting
+pub mod Hinting

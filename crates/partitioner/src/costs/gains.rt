@@ -84,7 +84,7 @@ fn near_since(spot: Spot, from: u32) -> u32
 }
 
 /// How many are counted in partition q.
-fn near_in(gains: &Gains, q: u32) -> u32
+pub fn near_in(gains: &Gains, q: u32) -> u32
     requires { q < length gains.now.spots.items }
     ensures { result ≡ near_in gains.now q }
 {
@@ -92,7 +92,7 @@ fn near_in(gains: &Gains, q: u32) -> u32
 }
 
 /// Counts one more in partition q, unless it was counted there in this turn.
-fn count_once(gains: &mut Gains, q: u32)
+pub fn count_once(gains: &mut Gains, q: u32)
     requires long { q < length gains.old.spots.items }
     requires turn { gains.old.from < gains.old.turn }
     requires few { near_in gains.old q < 4294967295 }
@@ -161,9 +161,9 @@ fn count_readers(n: &FlatNet, p: &Partitioning, gains: &mut Gains, i: u32)
     }
 }
 
-/// Counts where node i is read, and then the nodes that it reads, from the first to one that has over 16 readers and more than one for
-/// eight partitions, or until turns run out. Such a node is read in many partitions: to look it up in those that are tried takes less
-/// time than to go through its readers.
+/// Counts where node i is read, and then the nodes that it reads, from the first to one that has over 64 readers, or over 16 and more than
+/// one for eight partitions, or until turns run out. Such a node is read in many partitions: to look it up in those that are tried takes
+/// less time than to go through its readers.
 pub fn count_gains(n: &FlatNet, p: &Partitioning, gains: &mut Gains, i: u32)
     requires tracks { Tracks n.now.net p.now }
     requires node { i < length n.now.net.nodes }
@@ -174,7 +174,7 @@ pub fn count_gains(n: &FlatNet, p: &Partitioning, gains: &mut Gains, i: u32)
     let _nodes = nodes_of(n);
     count_readers(n, p, gains, i);
     let row = p.sources.row(i);
-    let most = (p.count / 8).max(16) as usize;
+    let most = (p.count / 8).max(16).min(64) as usize;
     for x in row {
         let readers = p.readers.row(*x);
         if readers.len() > most || gains.turn == u32::MAX {

@@ -5,7 +5,7 @@ ghost use Rattle.partitioner.specs.Refining.{IsMinimal};
 ghost use Rattle.partitioner.specs.Private.Tracking.{parts_of};
 ghost use Rattle.partitioner.specs.Private.Ready.{IsReady};
 
-use crate::costs::gains::{Gains, no_gains};
+use crate::costs::hints::{Tallies, no_tallies};
 use crate::counts::partitioning::Partitioning;
 use crate::counts::spots::{Spots, shut_full, spots_of};
 use crate::counts::tracking::track;
@@ -15,15 +15,15 @@ use std::alloc::Global;
 use tmr_base::{OutOfMemory, Parts};
 
 /// Each node goes to where it stands.
-fn all_stay(n: &FlatNet, p: &Partitioning, spots: &Spots, gains: &mut Gains, size: u32) -> bool
-    requires ready { IsReady n.now.net size p.now spots.now gains.old }
+fn all_stay(n: &FlatNet, p: &Partitioning, spots: &Spots, tallies: &mut Tallies, size: u32) -> bool
+    requires ready { IsReady n.now.net size p.now spots.now tallies.old }
     ensures { IsTrue result ↔ IsMinimal n.now.net size (parts_of p.now) }
 {
     if !some_room(n, p, size) {
         return true;
     }
     for i in 0..nodes_of(n) {
-        if place_of(n, p, spots, gains, size, i).place != part_of(n, p, i) {
+        if place_of(n, p, spots, tallies, size, i).place != part_of(n, p, i) {
             return false;
         }
     }
@@ -35,18 +35,18 @@ pub fn no_move_helps(
     n: &FlatNet,
     p: &Partitioning,
     spots: &Spots,
-    gains: &mut Gains,
+    tallies: &mut Tallies,
     size: u32,
     settled: bool,
 ) -> bool
-    requires ready { IsReady n.now.net size p.now spots.now gains.old }
+    requires ready { IsReady n.now.net size p.now spots.now tallies.old }
     requires settled { settled ≡ true → IsMinimal n.now.net size (parts_of p.now) }
     ensures { IsTrue result ↔ IsMinimal n.now.net size (parts_of p.now) }
 {
     if settled {
         return true;
     }
-    all_stay(n, p, spots, gains, size)
+    all_stay(n, p, spots, tallies, size)
 }
 
 /// No single node moved to a partition with room lowers the cost. `parts` keeps the rule of sizes.
@@ -58,6 +58,6 @@ pub fn is_minimal(alloc: Global, n: &FlatNet, parts: &Parts, size: u32) -> Resul
     let p = track(alloc, n, parts)?;
     let mut spots = spots_of(alloc, n, &p)?;
     shut_full(n, &p, &mut spots, size);
-    let mut gains = no_gains(alloc, p.count)?;
-    Ok(all_stay(n, &p, &spots, &mut gains, size))
+    let mut tallies = no_tallies(alloc, p.count)?;
+    Ok(all_stay(n, &p, &spots, &mut tallies, size))
 }

@@ -8,10 +8,12 @@ ghost use Rattle.partitioner.specs.Private.Tracking.{IsPlaced, Tracks, parts_of,
 ghost use Rattle.partitioner.specs.Private.Spotting.{AreSpots};
 ghost use Rattle.partitioner.specs.Private.Ready.{IsReady};
 ghost use Rattle.partitioner.specs.Private.Gaining.{IsCounted};
+ghost use Rattle.partitioner.specs.Private.Hinting.{AreHints};
 ghost use Rattle.partitioner.specs.Private.Loss.{IsContent};
 ghost use Rattle.partitioner.specs.Private.Leading.{HasNoRoom, IsFixed, IsLead, Leads, LeadsOpen, LeadsOrLoses, LeadsReaders, is_better, is_settled, start_of};
 
 use crate::costs::gains::{Gains, begin, count_gains, least_loss};
+use crate::costs::hints::{Tallies, count_hints, least_in, no_hints};
 use crate::costs::losses::loss_up_to;
 use crate::counts::partitioning::{Partitioning, Placed};
 use crate::counts::spots::Spots;
@@ -150,13 +152,65 @@ pub fn may_move(n: &FlatNet, p: &Placed, size: u32) -> bool
     1 < p.count && any_room(p.held.as_slice(), size)
 }
 
+/// The lead after partition q is tried for node i, unless it loses too many by what is counted.
+fn consider_hinted(
+    n: &FlatNet,
+    p: &Partitioning,
+    gains: &Gains,
+    hints: &Gains,
+    size: u32,
+    i: u32,
+    lead: Lead,
+    q: u32,
+) -> Lead
+    requires counted { IsCounted n.now.net p.now i gains.now }
+    requires hints { AreHints n.now.net size p.now i gains.now hints.now }
+    requires partition { q < p.now.count }
+    requires lead { IsLead n.now.net size p.now i lead }
+    ensures lead { IsLead n.now.net size p.now i result }
+    ensures kept { (c : ℕ) → Leads n.now.net p.now i lead.place c → Leads n.now.net p.now i result.place c }
+    ensures tried { LeadsOpen n.now.net size p.now i result.place q }
+{
+    let least = least_in(n, p, gains, hints, size, i, q);
+    if is_better(lead, part_of(n, p, i), least, q) {
+        consider(n, p, gains, size, i, lead, q)
+    } else {
+        lead
+    }
+}
+
+/// Counts hints for node i where they are wanted and there are none.
+fn hint_late(
+    n: &FlatNet,
+    p: &Partitioning,
+    spots: &Spots,
+    gains: &Gains,
+    hints: &mut Gains,
+    size: u32,
+    i: u32,
+    wanted: bool,
+    most: usize,
+)
+    requires counted { IsCounted n.now.net p.now i gains.now }
+    requires spots { AreSpots n.now.net size (parts_of p.now) spots.now }
+    requires hints { AreHints n.now.net size p.now i gains.now hints.old }
+    ensures { AreHints n.now.net size p.now i gains.now hints.new }
+{
+    if wanted && hints.counted == 0 {
+        count_hints(n, p, spots, gains, hints, size, i, most);
+    }
+}
+
 /// The lead after the partitions with room in which wide node x is read are tried for node i, in
 /// ascending order, until none that is left can take the lead: those not met yet lose at least `tried`.
+///
+/// Once an eighth of them are tried, to count where all that node i reads is read takes less time than to look it up in each.
 fn consider_spots(
     n: &FlatNet,
     p: &Partitioning,
     spots: &Spots,
     gains: &Gains,
+    hints: &mut Gains,
     size: u32,
     i: u32,
     lead: Lead,
@@ -165,6 +219,7 @@ fn consider_spots(
 ) -> Lead
     requires counted { IsCounted n.now.net p.now i gains.now }
     requires spots { AreSpots n.now.net size (parts_of p.now) spots.now }
+    requires hints { AreHints n.now.net size p.now i gains.now hints.old }
     requires read { x < length n.now.net.nodes }
     requires wide { is_wide n.now.net x ≡ true }
     requires lead { IsLead n.now.net size p.now i lead }
@@ -172,11 +227,18 @@ fn consider_spots(
     ensures lead { IsLead n.now.net size p.now i result }
     ensures kept { (c : ℕ) → Leads n.now.net p.now i lead.place c → Leads n.now.net p.now i result.place c }
     ensures tried { LeadsReaders n.now.net size p.now i result.place x }
+    ensures hints { AreHints n.now.net size p.now i gains.now hints.new }
 {
     let mut lead = lead;
-    for q in spots.free.set(x).iter() {
+    let free = spots.free.set(x);
+    let most = free.len().saturating_mul(8);
+    let enough = (free.len() / 8).max(8);
+    let mut tries: usize = 0;
+    for q in free.iter() {
         if *q < p.count {
-            lead = consider(n, p, gains, size, i, lead, *q);
+            tries = tries.wrapping_add(1);
+            hint_late(n, p, spots, gains, hints, size, i, tries == enough, most);
+            lead = consider_hinted(n, p, gains, hints, size, i, lead, *q);
             if lead.loss <= tried && lead.place <= *q {
                 return lead;
             }
@@ -192,6 +254,7 @@ fn consider_source(
     p: &Partitioning,
     spots: &Spots,
     gains: &Gains,
+    hints: &mut Gains,
     size: u32,
     i: u32,
     lead: Lead,
@@ -200,6 +263,7 @@ fn consider_source(
 ) -> Lead
     requires counted { IsCounted n.now.net p.now i gains.now }
     requires spots { AreSpots n.now.net size (parts_of p.now) spots.now }
+    requires hints { AreHints n.now.net size p.now i gains.now hints.old }
     requires read { x < length n.now.net.nodes }
     requires lead { IsLead n.now.net size p.now i lead }
     requires least { (c : ℕ) → c < p.now.count → has_room size (parts_of p.now) c ≡ true → LeadsOrLoses n.now.net p.now i lead.place tried c }
@@ -207,10 +271,11 @@ fn consider_source(
     ensures kept { (c : ℕ) → Leads n.now.net p.now i lead.place c → Leads n.now.net p.now i result.place c }
     ensures own { LeadsOpen n.now.net size p.now i result.place (start_of p.now x) }
     ensures tried { LeadsReaders n.now.net size p.now i result.place x }
+    ensures hints { AreHints n.now.net size p.now i gains.now hints.new }
 {
     let lead = consider(n, p, gains, size, i, lead, part_of(n, p, x));
     if is_wide(n, &p.readers, x) {
-        consider_spots(n, p, spots, gains, size, i, lead, x, tried)
+        consider_spots(n, p, spots, gains, hints, size, i, lead, x, tried)
     } else {
         consider_readers(n, p, gains, size, i, lead, x)
     }
@@ -225,14 +290,17 @@ fn best_place(
     p: &Partitioning,
     spots: &Spots,
     gains: &Gains,
+    hints: &mut Gains,
     size: u32,
     i: u32,
     lead: Lead,
 ) -> u32
     requires counted { IsCounted n.now.net p.now i gains.now }
     requires spots { AreSpots n.now.net size (parts_of p.now) spots.now }
+    requires hints { AreHints n.now.net size p.now i gains.now hints.old }
     requires lead { IsLead n.now.net size p.now i lead }
-    ensures { result ≡ place n.now.net size (parts_of p.now) i }
+    ensures place { result ≡ place n.now.net size (parts_of p.now) i }
+    ensures hints { AreHints n.now.net size p.now i gains.now hints.new }
 {
     let start = part_of(n, p, i);
     let mut lead = consider_readers(n, p, gains, size, i, lead, i);
@@ -241,7 +309,7 @@ fn best_place(
         if is_settled(lead, start, tried) {
             return lead.place;
         }
-        lead = consider_source(n, p, spots, gains, size, i, lead, *x, tried);
+        lead = consider_source(n, p, spots, gains, hints, size, i, lead, *x, tried);
         tried += 1;
     }
     lead.place
@@ -255,31 +323,41 @@ pub fn place_of(
     n: &FlatNet,
     p: &Partitioning,
     spots: &Spots,
-    gains: &mut Gains,
+    tallies: &mut Tallies,
     size: u32,
     i: u32,
 ) -> Found
-    requires ready { IsReady n.now.net size p.now spots.now gains.old }
+    requires ready { IsReady n.now.net size p.now spots.now tallies.old }
     requires node { i < length n.now.net.nodes }
     ensures place { result.place ≡ place n.now.net size (parts_of p.now) i }
     ensures content { result.content ≡ true → IsContent n.now.net p.now.of.items i }
-    ensures ready { IsReady n.now.net size p.now spots.now gains.new }
+    ensures ready { IsReady n.now.net size p.now spots.now tallies.new }
 {
     let start = part_of(n, p, i);
-    begin(gains, p.count);
-    count_gains(n, p, gains, i);
+    begin(&mut tallies.gains, p.count);
+    count_gains(n, p, &mut tallies.gains, i);
     let lead = Lead {
         place: start,
-        loss: loss_up_to(n, p, gains, i, start, u64::MAX),
+        loss: loss_up_to(n, p, &tallies.gains, i, start, u64::MAX),
     };
-    if is_settled(lead, start, least_loss(gains)) {
+    if is_settled(lead, start, least_loss(&tallies.gains)) {
         return Found {
             place: start,
             content: true,
         };
     }
+    no_hints(n, p, &tallies.gains, &mut tallies.hints, size, i);
     Found {
-        place: best_place(n, p, spots, gains, size, i, lead),
+        place: best_place(
+            n,
+            p,
+            spots,
+            &tallies.gains,
+            &mut tallies.hints,
+            size,
+            i,
+            lead,
+        ),
         content: false,
     }
 }

@@ -9,7 +9,7 @@ ghost use Rattle.partitioner.specs.Private.Tracking.{IsPlaced, Tracks, parts_of,
 ghost use Rattle.partitioner.specs.Private.Ready.{IsReady};
 ghost use Rattle.partitioner.specs.Private.Resting.{Rests};
 
-use crate::costs::gains::{Gains, no_gains};
+use crate::costs::hints::{Tallies, no_tallies};
 use crate::costs::pairs::pairs_in;
 use crate::counts::partitioning::{Partitioning, Placed};
 use crate::counts::spots::{Spots, shut_full, spots_of};
@@ -29,15 +29,15 @@ fn move_node(
     n: &FlatNet,
     p: &mut Partitioning,
     spots: &mut Spots,
-    gains: &mut Gains,
+    tallies: &mut Tallies,
     rest: &mut Rest,
     size: u32,
     i: u32,
 ) -> Result<bool, OutOfMemory>
-    requires ready { IsReady n.now.net size p.old spots.old gains.old }
+    requires ready { IsReady n.now.net size p.old spots.old tallies.old }
     requires rests { Rests n.now.net p.old.of.items rest.old }
     requires node { i < length n.now.net.nodes }
-    ensures ready { OnOk result (IsReady n.now.net size p.new spots.new gains.new) }
+    ensures ready { OnOk result (IsReady n.now.net size p.new spots.new tallies.new) }
     ensures rests { OnOk result (Rests n.now.net p.new.of.items rest.new) }
     ensures parts { OnOk result (parts_of p.new ≡ move n.now.net size (parts_of p.old) i) }
     ensures still { IfOk result (λ moved. moved ≡ false → parts_of p.new ≡ parts_of p.old) }
@@ -46,7 +46,7 @@ fn move_node(
     if is_resting(n, p, rest, i) {
         return Ok(false);
     }
-    let found = place_of(n, p, spots, gains, size, i);
+    let found = place_of(n, p, spots, tallies, size, i);
     if found.content {
         note_rest(rest, i);
         return Ok(false);
@@ -64,13 +64,13 @@ fn pass_once(
     n: &FlatNet,
     p: &mut Partitioning,
     spots: &mut Spots,
-    gains: &mut Gains,
+    tallies: &mut Tallies,
     rest: &mut Rest,
     size: u32,
 ) -> Result<bool, OutOfMemory>
-    requires ready { IsReady n.now.net size p.old spots.old gains.old }
+    requires ready { IsReady n.now.net size p.old spots.old tallies.old }
     requires rests { Rests n.now.net p.old.of.items rest.old }
-    ensures ready { OnOk result (IsReady n.now.net size p.new spots.new gains.new) }
+    ensures ready { OnOk result (IsReady n.now.net size p.new spots.new tallies.new) }
     ensures rests { OnOk result (Rests n.now.net p.new.of.items rest.new) }
     ensures parts { OnOk result (parts_of p.new ≡ pass n.now.net size (parts_of p.old)) }
     ensures still { IfOk result (λ moved. moved ≡ false → parts_of p.new ≡ parts_of p.old) }
@@ -81,7 +81,7 @@ fn pass_once(
     }
     let mut moved = false;
     for i in 0..nodes_of(n) {
-        if move_node(n, p, spots, gains, rest, size, i)? {
+        if move_node(n, p, spots, tallies, rest, size, i)? {
             moved = true;
         }
     }
@@ -93,21 +93,21 @@ fn pass_often(
     n: &FlatNet,
     p: &mut Partitioning,
     spots: &mut Spots,
-    gains: &mut Gains,
+    tallies: &mut Tallies,
     rest: &mut Rest,
     size: u32,
     passes: u32,
 ) -> Result<bool, OutOfMemory>
-    requires ready { IsReady n.now.net size p.old spots.old gains.old }
+    requires ready { IsReady n.now.net size p.old spots.old tallies.old }
     requires rests { Rests n.now.net p.old.of.items rest.old }
-    ensures ready { OnOk result (IsReady n.now.net size p.new spots.new gains.new) }
+    ensures ready { OnOk result (IsReady n.now.net size p.new spots.new tallies.new) }
     ensures rests { OnOk result (Rests n.now.net p.new.of.items rest.new) }
     ensures parts { OnOk result (parts_of p.new ≡ refined n.now.net size (parts_of p.old) passes) }
     ensures minimal { IfOk result (λ settled. settled ≡ true → IsMinimal n.now.net size (parts_of p.new)) }
 {
     let mut left = passes;
     while left > 0 {
-        if !pass_once(n, p, spots, gains, rest, size)? {
+        if !pass_once(n, p, spots, tallies, rest, size)? {
             return Ok(true);
         }
         left -= 1;
@@ -119,7 +119,7 @@ fn pass_often(
 #[derive(Drop)]
 struct Passed {
     spots: Spots,
-    gains: Gains,
+    tallies: Tallies,
     settled: bool,
 }
 
@@ -132,18 +132,18 @@ fn pass_all(
     passes: u32,
 ) -> Result<Passed, OutOfMemory>
     requires { Tracks n.now.net p.old }
-    ensures ready { IfOk result (λ passed. IsReady n.now.net size p.new passed.spots passed.gains) }
+    ensures ready { IfOk result (λ passed. IsReady n.now.net size p.new passed.spots passed.tallies) }
     ensures parts { OnOk result (parts_of p.new ≡ refined n.now.net size (parts_of p.old) passes) }
     ensures minimal { IfOk result (λ passed. passed.settled ≡ true → IsMinimal n.now.net size (parts_of p.new)) }
 {
     let mut spots = spots_of(alloc, n, p)?;
     shut_full(n, p, &mut spots, size);
-    let mut gains = no_gains(alloc, p.count)?;
+    let mut tallies = no_tallies(alloc, p.count)?;
     let mut rest = no_rest(alloc, n)?;
-    let settled = pass_often(n, p, &mut spots, &mut gains, &mut rest, size, passes)?;
+    let settled = pass_often(n, p, &mut spots, &mut tallies, &mut rest, size, passes)?;
     Ok(Passed {
         spots,
-        gains,
+        tallies,
         settled,
     })
 }
@@ -196,7 +196,7 @@ fn refine_placed(
     let mut p = tracked(alloc, n, placed)?;
     let mut done = pass_all(alloc, n, &mut p, size, passes)?;
     let cost = pairs_in(alloc, n, &p.readers, p.count, p.of.as_slice())?;
-    let minimal = no_move_helps(n, &p, &done.spots, &mut done.gains, size, done.settled);
+    let minimal = no_move_helps(n, &p, &done.spots, &mut done.tallies, size, done.settled);
     let Partitioning { count, of, .. } = p;
     Ok(Refined {
         parts: Parts::make(count, of),

@@ -5,4 +5,4 @@ use Rattle.partitioner.specs.Private.Ready.{IsReady}
 use Rattle.partitioner.proofs.refinement.minimal.all_stay.Given as goal
 
 abbrev pub invariant-loop-i : goal.invariant-loop-i
-invariant-loop-i l = IsReady l.n.net l.size l.p l.spots l.gains × ((k : ℕ) → k < l.i → place l.n.net l.size (parts_of l.p) k ≡ slice_index l.p.of.items k)
+invariant-loop-i l = IsReady l.n.net l.size l.p l.spots l.tallies × ((k : ℕ) → k < l.i → place l.n.net l.size (parts_of l.p) k ≡ slice_index l.p.of.items k)

@@ -7,10 +7,10 @@ use Rattle.partitioner.proofs.refinement.placing.best_place.Goals as goal
 
 pub loop-x-init : goal.loop-x-init
 loop-x-init c =
-    (c.consider_readers-lead.ensures.lead, readers_tried c.args.n.now.net c.args.size c.args.p.now c.args.i c.consider_readers-lead.result.place c.row-x-items.result.now c.consider_readers-lead.ensures.tried, refl)
+    (c.consider_readers-lead.ensures.lead, readers_tried c.args.n.now.net c.args.size c.args.p.now c.args.i c.consider_readers-lead.result.place c.row-x-items.result.now c.consider_readers-lead.ensures.tried, refl, c.requires.hints)
 
-pub returns-then-is_settled : goal.returns-then-is_settled
-returns-then-is_settled c =
+pub returns-then-is_settled-clause-place : goal.returns-then-is_settled-clause-place
+returns-then-is_settled-clause-place c =
     let perm : IsPermutation (other_sources c.args.n.now.net c.args.i) c.row-x-items.result.now = subst (λ (row : List ℕ). IsPermutation (other_sources c.args.n.now.net c.args.i) row) (sym c.row-x-items.ensures) (c.requires.counted.tracks.sources c.args.i c.requires.counted.node) in
     let settled : is_settled c.loop-x.lead (start_of c.args.p.now c.args.i) (c.loop-x.x-index + 1) ≡ true =
     ap (λ (s : ℕ). is_settled c.loop-x.lead s (c.loop-x.x-index + 1)) (sym c.part_of-start.ensures.value) ∙ (ap (λ (t : ℕ). is_settled c.loop-x.lead c.part_of-start.result t) (sym c.loop-x.invariant.2) ∙ sym c.if-is_settled.ensures) in
@@ -28,10 +28,11 @@ loop-x-preserved c =
       source_tried c.args.n.now.net c.args.size c.args.p.now c.args.i c.loop-x.lead.place now.place c.row-x-items.result.now c.loop-x.x-index c.loop-x-test.true c.loop-x.invariant.1
           c.consider_source-lead.ensures.kept c.consider_source-lead.ensures.own c.consider_source-lead.ensures.tried,
       ap (λ (t : ℕ). t + 1) c.loop-x.invariant.2,
+      c.consider_source-lead.ensures.hints,
     )
 
-pub returns : goal.returns
-returns c =
+pub returns-clause-place : goal.returns-clause-place
+returns-clause-place c =
     let perm : IsPermutation (other_sources c.args.n.now.net c.args.i) c.row-x-items.result.now = subst (λ (row : List ℕ). IsPermutation (other_sources c.args.n.now.net c.args.i) row) (sym c.row-x-items.ensures) (c.requires.counted.tracks.sources c.args.i c.requires.counted.node) in
     exhausted_place c.args.n.now.net c.args.size c.args.p.now c.args.i c.loop-x.x-index c.row-x-items.result.now c.loop-x.lead c.requires.counted.tracks c.requires.counted.node perm c.loop-x.invariant.0 c.loop-x.invariant.1 c.loop-x-test.false
 

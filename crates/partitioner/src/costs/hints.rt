@@ -1,0 +1,125 @@
+//! What a node loses at least in partitions with room, counted where the wide nodes that it reads are read.
+ghost use Rattle.std.specs.Prelude.{◌≡◌, ◌<◌, ◌≤◌, ◌+◌, ℕ, true, length, IfOk};
+ghost use Rattle.flat_net.specs.Net.{Net};
+ghost use Rattle.node_reads.specs.Sources.{is_wide};
+ghost use Rattle.partitioner.specs.Below.{one_if};
+ghost use Rattle.partitioner.specs.Refining.{has_room};
+ghost use Rattle.partitioner.specs.Private.Gaining.{AreBegun, AreKept, IsCounted, IsMost, is_near, last_in, near_in};
+ghost use Rattle.partitioner.specs.Private.Hinting.{AreHints};
+ghost use Rattle.partitioner.specs.Private.Loss.{loss};
+ghost use Rattle.partitioner.specs.Private.Spotting.{AreSpots};
+ghost use Rattle.partitioner.specs.Private.Tracking.{Tracks, parts_of};
+
+use crate::costs::gains::{Gains, begin, count_once, missed_in, near_in, no_gains};
+use crate::counts::partitioning::Partitioning;
+use crate::counts::spots::Spots;
+use crate::refinement::placing::part_of;
+use flat_net::{FlatNet, nodes_of};
+use node_reads::is_wide;
+use std::alloc::Global;
+use tmr_base::OutOfMemory;
+
+/// What is counted for one node: in `gains` exactly, for the nodes that it reads and few others read; in `hints` no fewer than are near in
+/// partitions with room, for those that come next.
+#[derive(Drop)]
+pub struct Tallies {
+    pub gains: Gains,
+    pub hints: Gains,
+}
+
+/// No counts, of so many partitions.
+pub fn no_tallies(alloc: Global, count: u32) -> Result<Tallies, OutOfMemory>
+    ensures gains { IfOk result (λ tallies. AreKept count tallies.gains) }
+    ensures hints { IfOk result (λ tallies. AreKept count tallies.hints) }
+{
+    let gains = no_gains(alloc, count)?;
+    let hints = no_gains(alloc, count)?;
+    Ok(Tallies { gains, hints })
+}
+
+/// Counts one more in the partition of wide node x and in each with room in which it is read.
+fn hint_source(n: &FlatNet, p: &Partitioning, spots: &Spots, hints: &mut Gains, size: u32, x: u32)
+    requires tracks { Tracks n.now.net p.now }
+    requires spots { AreSpots n.now.net size (parts_of p.now) spots.now }
+    requires source { x < length n.now.net.nodes }
+    requires wide { is_wide n.now.net x ≡ true }
+    requires long { length hints.old.spots.items ≡ p.now.count }
+    requires begun { hints.old.from < hints.old.turn }
+    requires turn { (q : ℕ) → last_in hints.old q < hints.old.turn }
+    requires few { (q : ℕ) → near_in hints.old q < 4294967294 }
+    requires most { IsMost (near_in hints.old) hints.old.most }
+    ensures counted { hints.new.counted ≡ hints.old.counted }
+    ensures from { hints.new.from ≡ hints.old.from }
+    ensures turn { hints.new.turn ≡ hints.old.turn }
+    ensures near { (i q : ℕ) → q < p.now.count → has_room size (parts_of p.now) q ≡ true → near_in hints.old q + one_if (is_near n.now.net p.now.of.items i q x) ≤ near_in hints.new q }
+    ensures once { (q : ℕ) → near_in hints.new q ≤ near_in hints.old q + 1 }
+    ensures most { IsMost (near_in hints.new) hints.new.most }
+    ensures kept { AreKept p.now.count hints.new }
+{
+    count_once(hints, part_of(n, p, x));
+    for q in spots.free.set(x).iter() {
+        if *q < p.count {
+            count_once(hints, *q);
+        }
+    }
+}
+
+/// No hints for node i, whose gains are counted.
+pub fn no_hints(n: &FlatNet, p: &Partitioning, gains: &Gains, hints: &mut Gains, size: u32, i: u32)
+    requires counted { IsCounted n.now.net p.now i gains.now }
+    requires kept { AreKept p.now.count hints.old }
+    ensures begun { AreBegun p.now.count hints.new }
+    ensures none { (q : ℕ) → near_in hints.new q ≡ 0 }
+    ensures hints { AreHints n.now.net size p.now i gains.now hints.new }
+{
+    begin(hints, p.count);
+}
+
+/// Counts the nodes that node i reads from the first that is not counted yet to one that is not wide, or that is read in over `most`
+/// partitions with room, or until turns run out.
+pub fn count_hints(
+    n: &FlatNet,
+    p: &Partitioning,
+    spots: &Spots,
+    gains: &Gains,
+    hints: &mut Gains,
+    size: u32,
+    i: u32,
+    most: usize,
+)
+    requires counted { IsCounted n.now.net p.now i gains.now }
+    requires spots { AreSpots n.now.net size (parts_of p.now) spots.now }
+    requires kept { AreKept p.now.count hints.old }
+    ensures { AreHints n.now.net size p.now i gains.now hints.new }
+{
+    let _nodes = nodes_of(n);
+    no_hints(n, p, gains, hints, size, i);
+    let row = p.sources.row(i);
+    for j in gains.counted as usize..row.len() {
+        let x = row[j];
+        if hints.turn == u32::MAX || !is_wide(n, &p.readers, x) || spots.free.set(x).len() > most {
+            return;
+        }
+        hints.turn += 1;
+        hint_source(n, p, spots, hints, size, x);
+        hints.counted += 1;
+    }
+}
+
+/// No more than node i loses in partition q, if that has room.
+pub fn least_in(
+    n: &FlatNet,
+    p: &Partitioning,
+    gains: &Gains,
+    hints: &Gains,
+    size: u32,
+    i: u32,
+    q: u32,
+) -> u64
+    requires counted { IsCounted n.now.net p.now i gains.now }
+    requires hints { AreHints n.now.net size p.now i gains.now hints.now }
+    requires partition { q < p.now.count }
+    ensures { has_room size (parts_of p.now) q ≡ true → result ≤ loss n.now.net p.now.of.items i q }
+{
+    u64::from(missed_in(n, p, gains, i, q)) + u64::from(hints.counted - near_in(hints, q))
+}
