@@ -11,13 +11,22 @@ use tmr_base::OutOfMemory;
 const MOST_RATED: usize = 10;
 
 /// Clusters as they grow. The group that others join leads them: `leaders` has the leader of each group, `sizes` how many nodes each
-/// leader's cluster holds. `rates` tells how closely one group is tied to each cluster, and `met` the leaders that have a rate.
+/// leader's cluster holds. `rates` tells how closely one group is tied to each cluster, and `met` the leaders that have a rate. `weighed` is how
+/// many nodes the largest cluster would hold that was thought of.
 #[derive(Drop)]
 struct Clusters {
     leaders: Vec<u32>,
     sizes: Vec<u32>,
     rates: Vec<u32>,
     met: Vec<u32>,
+    weighed: u32,
+}
+
+/// The groups of a level joined, and how many nodes the largest cluster holds that was weighed.
+#[derive(Drop)]
+pub struct Joined {
+    pub of: Numbering,
+    pub weighed: u32,
 }
 
 /// Raises the rates of the clusters that a net of group v touches, by a whole number: nets of few groups tie most.
@@ -49,8 +58,9 @@ fn rate_clusters(level: &Level, c: &mut Clusters, v: u32) -> Result<(), OutOfMem
 
 /// The cluster of the highest rate with which group v of so many nodes holds at most `most`, of several the smallest, and of these the
 /// one with the lowest leader; v itself if there is none.
-fn best_cluster(c: &Clusters, v: u32, size: u32, most: u32) -> u32 {
+fn best_cluster(c: &mut Clusters, v: u32, size: u32, most: u32) -> u32 {
     let mut best = (0, Reverse(0), Reverse(v));
+    let mut weighed = c.weighed;
     for leader in &c.met {
         let joined = at(c.sizes.as_slice(), *leader);
         let choice = (
@@ -58,10 +68,13 @@ fn best_cluster(c: &Clusters, v: u32, size: u32, most: u32) -> u32 {
             Reverse(joined),
             Reverse(*leader),
         );
-        if joined.saturating_add(size) <= most && choice > best {
+        let together = joined.saturating_add(size);
+        weighed = weighed.max(together);
+        if together <= most && choice > best {
             best = choice;
         }
     }
+    c.weighed = weighed;
     let (_, _, Reverse(leader)) = best;
     leader
 }
@@ -90,7 +103,7 @@ fn join_group(level: &Level, c: &mut Clusters, v: u32, most: u32) -> Result<(), 
 }
 
 /// The groups of a level joined to clusters of at most `most` nodes.
-pub fn join_groups(alloc: Global, level: &Level, most: u32) -> Result<Numbering, OutOfMemory> {
+pub fn join_groups(alloc: Global, level: &Level, most: u32) -> Result<Joined, OutOfMemory> {
     let groups = count(level.sizes.as_slice());
     let leaders = (0..groups).collect(alloc)?;
     let sizes = level.sizes.clone()?;
@@ -100,9 +113,14 @@ pub fn join_groups(alloc: Global, level: &Level, most: u32) -> Result<Numbering,
         sizes,
         rates,
         met: Vec::new(alloc),
+        weighed: 0,
     };
     for v in 0..groups {
         join_group(level, &mut clusters, v, most)?;
     }
-    numbering_of(alloc, clusters.leaders.as_slice())
+    let of = numbering_of(alloc, clusters.leaders.as_slice())?;
+    Ok(Joined {
+        of,
+        weighed: clusters.weighed,
+    })
 }

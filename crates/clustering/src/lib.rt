@@ -18,5 +18,6 @@ mod numberings;
 pub mod numbers;
 mod settling;
 
-pub use multilevel::clusters;
+pub use levels::Level;
+pub use multilevel::{clusters, clusters_from, levels_of};
 pub use settling::settled_parts;

@@ -19,7 +19,7 @@ const MOST_LEVELS: u32 = 16;
 fn next_level(alloc: Global, level: &Level, most: u32) -> Result<Option<Level>, OutOfMemory> {
     let joined = join_groups(alloc, level, most)?;
     let groups = level.sizes.len();
-    if joined.count as usize >= groups - groups / 20 {
+    if joined.of.count as usize >= groups - groups / 20 {
         return Ok(None);
     }
     let above = level_above(alloc, level, joined)?;
@@ -38,16 +38,37 @@ fn push_level(alloc: Global, levels: &mut Vec<Level>, most: u32) -> Result<bool,
     Ok(true)
 }
 
-/// All levels, the lowest first, of groups of at most `most` nodes.
-fn levels_of(alloc: Global, n: &FlatNet, most: u32) -> Result<Vec<Level>, OutOfMemory> {
-    let mut levels = Vec::new(alloc);
-    levels.push(lowest_level(alloc, n)?)?;
-    for made in 0..MOST_LEVELS {
-        let _made = made;
-        if !push_level(alloc, &mut levels, most)? {
-            return Ok(levels);
+/// How many levels, from the lowest up, would be the same where groups of at most `most` nodes are joined.
+fn same_levels(levels: &[Level], most: u32) -> usize {
+    for k in 0..levels.len() {
+        if levels[k].weighed > most {
+            return k;
         }
     }
+    levels.len()
+}
+
+/// Leaves these levels alone.
+fn keep_levels(levels: &mut Vec<Level>, most: u32) {
+    let kept = same_levels(levels.as_slice(), most);
+    levels.truncate(kept);
+}
+
+/// Puts all levels, of groups of at most `most` nodes, behind those that are there.
+fn add_levels(alloc: Global, levels: &mut Vec<Level>, most: u32) -> Result<(), OutOfMemory> {
+    for made in 0..MOST_LEVELS {
+        let _made = made;
+        if levels.len() > MOST_LEVELS as usize || !push_level(alloc, levels, most)? {
+            return Ok(());
+        }
+    }
+    Ok(())
+}
+
+/// The lowest level, from which clusters are made.
+pub fn levels_of(alloc: Global, n: &FlatNet) -> Result<Vec<Level>, OutOfMemory> {
+    let mut levels = Vec::new(alloc);
+    levels.push(lowest_level(alloc, n)?)?;
     Ok(levels)
 }
 
@@ -81,9 +102,28 @@ pub fn clusters(alloc: Global, n: &FlatNet, size: u32) -> Result<Parts, OutOfMem
     requires { 0 < size }
     ensures { IfOk result (λ parts. KeepsSize n.now.net size parts) }
 {
+    let mut levels = levels_of(alloc, n)?;
+    let parts = clusters_from(alloc, n, &mut levels, size)?;
+    Ok(parts)
+}
+
+/// The same from levels that `levels_of` gave, or that an earlier call left. It leaves those levels that hang on no size: no group was too
+/// large to be joined there, so they are the same for a size that is no smaller.
+pub fn clusters_from(
+    alloc: Global,
+    n: &FlatNet,
+    levels: &mut Vec<Level>,
+    size: u32,
+) -> Result<Parts, OutOfMemory>
+    requires { 0 < size }
+    ensures { IfOk result (λ parts. KeepsSize n.now.net size parts) }
+{
     let nodes = nodes_of(n);
-    let levels = levels_of(alloc, n, size / 4)?;
+    let most = size / 4;
+    keep_levels(levels, most);
+    add_levels(alloc, levels, most)?;
     let wanted = wanted(alloc, levels.as_slice(), size, nodes.div_ceil(size))?;
+    keep_levels(levels, most);
     let parts = settled_parts(alloc, n, wanted.as_slice(), size)?;
     Ok(parts)
 }

@@ -1,7 +1,8 @@
 //! What the search looks up of a design.
 ghost use Rattle.std.specs.Prelude.{◌≡◌, ◌<◌, length};
 
-use clustering::numbers::{at, put, raise};
+use crate::loops::loop_groups;
+use clustering::numbers::{at, count, put, raise};
 use feedback_cut::is_register;
 use flat_net::{FlatNet, nodes_of};
 use graph::Graph;
@@ -9,16 +10,21 @@ use node_reads::{packed_readers_of, sources_of};
 use std::alloc::Global;
 use tmr_base::OutOfMemory;
 
-/// For each node the others that read it and those that it reads, whether it is a register, and how many outputs it is. `order` has the
-/// nodes in an order in which each table stands behind each table that it reads, and `ranks` the place of each node in it.
+/// For each node the others that read it and those that it reads, whether it is a register, and how many outputs it is. `ends` has the nodes
+/// at which paths end: registers and outputs. `order` has the nodes in an order in which each table stands behind each table that it
+/// reads, and `ranks` the place of each node in it. `whole` has for each node the group of those that stand on loops with it in the whole
+/// design, and `alone` whether it stands alone there.
 #[derive(Drop)]
 pub struct Circuit {
     pub readers: Graph,
     pub sources: Graph,
     pub registers: Vec<bool>,
     pub outputs: Vec<u32>,
+    pub ends: Vec<u32>,
     pub order: Vec<u32>,
     pub ranks: Vec<u32>,
+    pub whole: Vec<u32>,
+    pub alone: Vec<bool>,
 }
 
 /// Bit i of these, or false past their end.
@@ -79,18 +85,64 @@ fn ranks_of(alloc: Global, order: &[u32], nodes: u32) -> Result<Vec<u32>, OutOfM
     Ok(ranks)
 }
 
-/// What the search looks up of a design.
+/// The nodes that are registers or outputs.
+fn ends_of(alloc: Global, registers: &[bool], outputs: &[u32]) -> Result<Vec<u32>, OutOfMemory> {
+    let mut ends = Vec::new(alloc);
+    for x in 0..count(outputs) {
+        if bit(registers, x) || at(outputs, x) > 0 {
+            ends.push(x)?;
+        }
+    }
+    Ok(ends)
+}
+
+/// The group of each node in the whole design.
+fn whole_groups(alloc: Global, sources: &Graph, nodes: u32) -> Result<Vec<u32>, OutOfMemory> {
+    let one = vec![in alloc; 0u32; nodes as usize]?;
+    let none = Vec::new(alloc);
+    loop_groups(
+        alloc,
+        sources,
+        one.as_slice(),
+        one.as_slice(),
+        none.as_slice(),
+    )
+}
+
+/// Whether each node stands alone in its group, whose number is that of one of its nodes.
+fn alone_in(alloc: Global, groups: &[u32]) -> Result<Vec<bool>, OutOfMemory> {
+    let mut sizes = vec![in alloc; 0u32; groups.len()]?;
+    for group in groups {
+        raise(&mut sizes, *group, 1);
+    }
+    let mut alone = Vec::with_capacity(alloc, groups.len())?;
+    for group in groups {
+        alone.push(at(sizes.as_slice(), *group) == 1)?;
+    }
+    Ok(alone)
+}
+
+/// What the search looks up of a design. It does not hang on the partitions: so it is made once for many sizes.
 pub fn circuit_of(alloc: Global, n: &FlatNet) -> Result<Circuit, OutOfMemory> {
+    let nodes = nodes_of(n);
     let readers = packed_readers_of(alloc, n)?;
     let sources = sources_of(alloc, n, &readers)?;
+    let registers = registers_of(alloc, n)?;
+    let outputs = outputs_of(alloc, n)?;
+    let ends = ends_of(alloc, registers.as_slice(), outputs.as_slice())?;
     let order = order_of(alloc, n)?;
-    let ranks = ranks_of(alloc, order.as_slice(), nodes_of(n))?;
+    let ranks = ranks_of(alloc, order.as_slice(), nodes)?;
+    let whole = whole_groups(alloc, &sources, nodes)?;
+    let alone = alone_in(alloc, whole.as_slice())?;
     Ok(Circuit {
         readers,
         sources,
-        registers: registers_of(alloc, n)?,
-        outputs: outputs_of(alloc, n)?,
+        registers,
+        outputs,
+        ends,
         order,
         ranks,
+        whole,
+        alone,
     })
 }

@@ -1,7 +1,7 @@
 //! Levels: how many tables and voters stand on the longest path to each node.
 
 use crate::design::{Circuit, bit};
-use clustering::numbers::{at, count, put, row};
+use clustering::numbers::{at, put, row};
 use std::cmp::Reverse;
 use std::collections::BinaryHeap;
 use tmr_base::OutOfMemory;
@@ -19,13 +19,14 @@ pub struct Change {
     pub level: u32,
 }
 
-/// For each node how many tables and voters stand on the longest path to it, the node itself counted if it is a table, and whether it is a
-/// register that is fed back. `worst` is the worst level of a path's end when the round began, and `weight` the weight of all ends.
+/// For each node how many tables and voters stand on the longest path to it, the node itself counted if it is a table; what it gives to its
+/// readers: the same, or 0 if it is a register; and whether it is a register that is fed back. `worst` is the worst level of a path's end when the round began, and `weight` the weight of all ends.
 /// `changes` tells what a trial changed, `waiting` has the ranks of nodes whose level is to be computed, and `computed` counts those that
 /// were, `spent` in all trials of a round.
 #[derive(Drop)]
 pub struct Levels {
     pub of: Vec<u32>,
+    pub given: Vec<u32>,
     pub fed: Vec<bool>,
     pub worst: u32,
     pub weight: u64,
@@ -36,12 +37,8 @@ pub struct Levels {
 }
 
 /// The level at which node y sees node x: what x gives, and one more for a voter between them.
-pub fn seen_level(circuit: &Circuit, levels: &Levels, parts: &[u32], x: u32, y: u32) -> u32 {
-    let given = if bit(circuit.registers.as_slice(), x) {
-        0
-    } else {
-        at(levels.of.as_slice(), x)
-    };
+pub fn seen_level(levels: &Levels, parts: &[u32], x: u32, y: u32) -> u32 {
+    let given = at(levels.given.as_slice(), x);
     if at(parts, x) != at(parts, y) || bit(levels.fed.as_slice(), y) {
         given.saturating_add(1)
     } else {
@@ -49,15 +46,35 @@ pub fn seen_level(circuit: &Circuit, levels: &Levels, parts: &[u32], x: u32, y: 
     }
 }
 
+/// The highest level at which node y sees a node of a row, where all that it reads comes through voters.
+fn most_given(levels: &Levels, row: &[u32]) -> u32 {
+    let mut most = 0;
+    for x in row {
+        most = at(levels.given.as_slice(), *x).saturating_add(1).max(most);
+    }
+    most
+}
+
+/// The same, where voters stand between it and those of other partitions than its own.
+fn most_seen(levels: &Levels, parts: &[u32], row: &[u32], own: u32) -> u32 {
+    let mut most = 0;
+    for x in row {
+        let voters = u32::from(at(parts, *x) != own);
+        most = at(levels.given.as_slice(), *x)
+            .saturating_add(voters)
+            .max(most);
+    }
+    most
+}
+
 /// The level of node y, from those of what it reads.
 fn computed_level(circuit: &Circuit, levels: &Levels, parts: &[u32], y: u32) -> u32 {
-    let mut most = 0;
-    for x in row(&circuit.sources, y) {
-        let level = seen_level(circuit, levels, parts, *x, y);
-        if level > most {
-            most = level;
-        }
-    }
+    let row = row(&circuit.sources, y);
+    let most = if bit(levels.fed.as_slice(), y) {
+        most_given(levels, row)
+    } else {
+        most_seen(levels, parts, row, at(parts, y))
+    };
     if bit(circuit.registers.as_slice(), y) {
         most
     } else {
@@ -80,20 +97,21 @@ fn end_weight(worst: u32, level: u32, ends: u32) -> u64 {
     if ends == 0 || above < worst {
         return 0;
     }
-    let mut weight: u64 = 1;
-    for _turn in 0..(above - worst).min(20) {
-        weight = weight.saturating_mul(4);
-    }
+    let turns = (above - worst).min(20);
+    let weight = 1u64 << (2 * turns);
     weight.saturating_mul(u64::from(ends))
 }
 
 /// Computes all levels, and what is told of their ends.
 pub fn compute_all(circuit: &Circuit, levels: &mut Levels, parts: &[u32]) {
     for y in &circuit.order {
-        let level = computed_level(circuit, levels, parts, *y);
-        put(&mut levels.of, *y, level);
+        if !bit(circuit.registers.as_slice(), *y) {
+            let level = computed_level(circuit, levels, parts, *y);
+            put(&mut levels.of, *y, level);
+            put(&mut levels.given, *y, level);
+        }
     }
-    for y in &circuit.order {
+    for y in &circuit.ends {
         if bit(circuit.registers.as_slice(), *y) {
             let level = computed_level(circuit, levels, parts, *y);
             put(&mut levels.of, *y, level);
@@ -104,11 +122,8 @@ pub fn compute_all(circuit: &Circuit, levels: &mut Levels, parts: &[u32]) {
 /// The worst level of an end.
 fn worst_level(circuit: &Circuit, levels: &Levels) -> u32 {
     let mut worst = 0;
-    for y in 0..count(levels.of.as_slice()) {
-        let level = at(levels.of.as_slice(), y);
-        if level > worst && ends_at(circuit, y) > 0 {
-            worst = level;
-        }
+    for y in &circuit.ends {
+        worst = at(levels.of.as_slice(), *y).max(worst);
     }
     worst
 }
@@ -117,10 +132,10 @@ fn worst_level(circuit: &Circuit, levels: &Levels) -> u32 {
 pub fn weigh_ends(circuit: &Circuit, levels: &mut Levels) {
     let worst = worst_level(circuit, levels);
     let mut weight: u64 = 0;
-    for y in 0..count(levels.of.as_slice()) {
-        let level = at(levels.of.as_slice(), y);
+    for y in &circuit.ends {
+        let level = at(levels.of.as_slice(), *y);
         if level.saturating_add(SEEN) >= worst {
-            weight = weight.saturating_add(end_weight(worst, level, ends_at(circuit, y)));
+            weight = weight.saturating_add(end_weight(worst, level, ends_at(circuit, *y)));
         }
     }
     levels.worst = worst;
@@ -165,6 +180,9 @@ fn set_level(
         level: was,
     })?;
     put(&mut levels.of, y, level);
+    if !bit(circuit.registers.as_slice(), y) {
+        put(&mut levels.given, y, level);
+    }
     let less = levels
         .weight
         .saturating_sub(end_weight(levels.worst, was, ends));
@@ -211,9 +229,12 @@ pub fn follow(circuit: &Circuit, levels: &mut Levels, parts: &[u32]) -> Result<b
 }
 
 /// The levels of before the trial, and the weight that they had.
-pub fn take_back(levels: &mut Levels, weight: u64) {
+pub fn take_back(circuit: &Circuit, levels: &mut Levels, weight: u64) {
     for change in levels.changes.iter().rev() {
         put(&mut levels.of, change.node, change.level);
+        if !bit(circuit.registers.as_slice(), change.node) {
+            put(&mut levels.given, change.node, change.level);
+        }
     }
     levels.weight = weight;
     forget(levels);

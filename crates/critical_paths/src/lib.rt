@@ -14,6 +14,7 @@
 mod design;
 mod feedback;
 mod levels;
+mod loops;
 mod placing;
 mod room;
 mod rounds;
@@ -21,4 +22,5 @@ mod shortening;
 mod trials;
 mod worst_path;
 
-pub use shortening::shortened;
+pub use design::{Circuit, circuit_of};
+pub use shortening::{shortened, shortened_from};

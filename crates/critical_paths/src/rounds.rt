@@ -1,17 +1,13 @@
 //! Rounds, each over one worst path.
-ghost use Rattle.std.specs.Prelude.{◌≡◌, ◌<◌, length};
-ghost use Rattle.partitioner.specs.Sizes.{KeepsSize};
 
-use crate::design::circuit_of;
-use crate::feedback::{components_of, fed_back, whole_components};
+use crate::design::Circuit;
+use crate::feedback::fed_back;
 use crate::levels::{Levels, compute_all, weigh_ends};
 use crate::placing::{Pairs, Placing};
 use crate::room::{begin_round, no_rooms};
 use crate::trials::{Search, make_best};
 use crate::worst_path::{Path, follow_worst};
-use clustering::numbers::raise;
-use clustering::settled_parts;
-use flat_net::{FlatNet, nodes_of};
+use clustering::numbers::{count, raise};
 use std::alloc::Global;
 use std::collections::BinaryHeap;
 use tmr_base::OutOfMemory;
@@ -52,6 +48,7 @@ fn first_placing(
 fn no_levels(alloc: Global, nodes: u32) -> Result<Levels, OutOfMemory> {
     Ok(Levels {
         of: vec![in alloc; 0u32; nodes as usize]?,
+        given: vec![in alloc; 0u32; nodes as usize]?,
         fed: Vec::new(alloc),
         worst: 0,
         weight: 0,
@@ -65,15 +62,13 @@ fn no_levels(alloc: Global, nodes: u32) -> Result<Levels, OutOfMemory> {
 /// A search that begins where the nodes stand.
 fn begun(
     alloc: Global,
-    n: &FlatNet,
+    nodes: u32,
     of: Vec<u32>,
     parts: u32,
     size: u32,
 ) -> Result<Search, OutOfMemory> {
-    let nodes = nodes_of(n);
     let room = size.saturating_add(size / 4);
     Ok(Search {
-        circuit: circuit_of(alloc, n)?,
         placing: first_placing(alloc, of, parts, room)?,
         levels: no_levels(alloc, nodes)?,
         path: Path {
@@ -86,45 +81,27 @@ fn begun(
 }
 
 /// Finds out which registers are fed back, and computes all levels.
-fn begin_spell(
-    alloc: Global,
-    n: &FlatNet,
-    s: &mut Search,
-    whole: &[u32],
-    size: u32,
-) -> Result<(), OutOfMemory>
-    requires { 0 < size }
-{
-    let parts = settled_parts(alloc, n, s.placing.of.as_slice(), size)?;
-    let inside = components_of(alloc, n, &parts)?;
+fn begin_spell(alloc: Global, circuit: &Circuit, s: &mut Search) -> Result<(), OutOfMemory> {
     let of = s.placing.of.as_slice();
-    s.levels.fed = fed_back(alloc, &s.circuit, of, inside.as_slice(), whole, nodes_of(n))?;
-    compute_all(&s.circuit, &mut s.levels, of);
+    s.levels.fed = fed_back(alloc, circuit, of)?;
+    compute_all(circuit, &mut s.levels, of);
     Ok(())
 }
 
 /// One round: the best trial at a worst path is made, if one is worth it. Says whether it was.
-fn round(s: &mut Search) -> Result<bool, OutOfMemory> {
-    weigh_ends(&s.circuit, &mut s.levels);
-    follow_worst(&s.circuit, &s.levels, s.placing.of.as_slice(), &mut s.path)?;
+fn round(circuit: &Circuit, s: &mut Search) -> Result<bool, OutOfMemory> {
+    weigh_ends(circuit, &mut s.levels);
+    follow_worst(circuit, &s.levels, s.placing.of.as_slice(), &mut s.path)?;
     begin_round(&mut s.rooms);
-    make_best(s)
+    make_best(circuit, s)
 }
 
 /// The rounds of one spell. Says whether one of them made a trial.
-fn spell(
-    alloc: Global,
-    n: &FlatNet,
-    s: &mut Search,
-    whole: &[u32],
-    size: u32,
-) -> Result<bool, OutOfMemory>
-    requires { 0 < size }
-{
-    begin_spell(alloc, n, s, whole, size)?;
+fn spell(alloc: Global, circuit: &Circuit, s: &mut Search) -> Result<bool, OutOfMemory> {
+    begin_spell(alloc, circuit, s)?;
     let mut made = false;
     for _turn in 0..ROUNDS {
-        if round(s)? {
+        if round(circuit, s)? {
             made = true;
         }
     }
@@ -134,17 +111,14 @@ fn spell(
 /// The partition of each node after all rounds, from the one of each of so many at first. They end when a spell made no trial.
 pub fn searched(
     alloc: Global,
-    n: &FlatNet,
+    circuit: &Circuit,
     of: Vec<u32>,
     parts: u32,
     size: u32,
-) -> Result<Vec<u32>, OutOfMemory>
-    requires { 0 < size }
-{
-    let whole = whole_components(alloc, n)?;
-    let mut s = begun(alloc, n, of, parts, size)?;
+) -> Result<Vec<u32>, OutOfMemory> {
+    let mut s = begun(alloc, count(of.as_slice()), of, parts, size)?;
     for _turn in 0..SPELLS {
-        if !spell(alloc, n, &mut s, whole.as_slice(), size)? {
+        if !spell(alloc, circuit, &mut s)? {
             break;
         }
     }

@@ -1,12 +1,14 @@
 //! Partitions with shorter paths, from others.
 ghost use Rattle.std.specs.Prelude.{◌≡◌, ◌<◌, ◌≤◌, ◌*◌, ◌+◌, List, ℕ, All, length, take, IfOk};
 ghost use Rattle.partitioner.specs.Cost.{cost};
+ghost use Rattle.partitioner.specs.Reads.{AreReads};
 ghost use Rattle.partitioner.specs.Sizes.{KeepsSize};
 
+use crate::design::{Circuit, circuit_of};
 use crate::rounds::searched;
 use clustering::settled_parts;
 use flat_net::{FlatNet, nodes_of};
-use partitioner::cost;
+use partitioner::{Reads, cost_by, reads_of};
 use std::alloc::Global;
 use tmr_base::{OutOfMemory, Parts};
 
@@ -32,6 +34,34 @@ fn copied(alloc: Global, parts: &Parts) -> Result<Parts, OutOfMemory>
     Ok(Parts::make(parts.count(), of))
 }
 
+/// The same as `shortened`, from what is looked up of the design, which is made once for many sizes.
+pub fn shortened_from(
+    alloc: Global,
+    n: &FlatNet,
+    reads: &Reads,
+    circuit: &Circuit,
+    parts: &Parts,
+    size: u32,
+) -> Result<Parts, OutOfMemory>
+    requires size { 0 < size }
+    requires reads { AreReads n.now.net reads.now }
+    requires parts { KeepsSize n.now.net size parts.now }
+    ensures size { IfOk result (λ found. KeepsSize n.now.net size found) }
+    ensures cost { IfOk result (λ found. 8 * cost n.now.net found ≤ 9 * cost n.now.net parts.now) }
+{
+    let start = parts_list(alloc, parts)?;
+    let wanted = searched(alloc, circuit, start, parts.count(), size)?;
+    let found = settled_parts(alloc, n, wanted.as_slice(), size)?;
+    let now = cost_by(alloc, n, &reads.readers, &found)?;
+    let before = cost_by(alloc, n, &reads.readers, parts)?;
+    if now.saturating_sub(before) <= before / 8 {
+        Ok(found)
+    } else {
+        let copy = copied(alloc, parts)?;
+        Ok(copy)
+    }
+}
+
 /// Partitions in which fewer voters stand on the longest paths. They keep the rule of sizes, and cost at most nine eighths of those
 /// given: where the search finds dearer ones, they are a copy of these.
 pub fn shortened(alloc: Global, n: &FlatNet, parts: &Parts, size: u32) -> Result<Parts, OutOfMemory>
@@ -40,15 +70,8 @@ pub fn shortened(alloc: Global, n: &FlatNet, parts: &Parts, size: u32) -> Result
     ensures size { IfOk result (λ found. KeepsSize n.now.net size found) }
     ensures cost { IfOk result (λ found. 8 * cost n.now.net found ≤ 9 * cost n.now.net parts.now) }
 {
-    let start = parts_list(alloc, parts)?;
-    let wanted = searched(alloc, n, start, parts.count(), size)?;
-    let found = settled_parts(alloc, n, wanted.as_slice(), size)?;
-    let now = cost(alloc, n, &found)?;
-    let before = cost(alloc, n, parts)?;
-    if now.saturating_sub(before) <= before / 8 {
-        Ok(found)
-    } else {
-        let copy = copied(alloc, parts)?;
-        Ok(copy)
-    }
+    let reads = reads_of(alloc, n)?;
+    let circuit = circuit_of(alloc, n)?;
+    let found = shortened_from(alloc, n, &reads, &circuit, parts, size)?;
+    Ok(found)
 }

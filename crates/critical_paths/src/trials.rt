@@ -32,10 +32,9 @@ struct Best {
     worth: u64,
 }
 
-/// All that a trial reads and changes.
+/// All that a trial changes.
 #[derive(Drop)]
 pub struct Search {
-    pub circuit: Circuit,
     pub placing: Placing,
     pub levels: Levels,
     pub path: Path,
@@ -63,20 +62,20 @@ fn worth(nodes: u32, before: u64, after: u64, pairs: Pairs) -> u64 {
 }
 
 /// Moves the nodes of a run, and others that make room for them. Says whether there is room, and the levels were computed in time.
-fn move_run(s: &mut Search, run: Run) -> Result<bool, OutOfMemory> {
+fn move_run(circuit: &Circuit, s: &mut Search, run: Run) -> Result<bool, OutOfMemory> {
     let together = at(s.placing.held.as_slice(), run.to).saturating_add(run.count);
     let needed = together.saturating_sub(s.placing.room);
     if needed > MOST_LEAVING {
         return Ok(false);
     }
     if needed > 0 {
-        let seen = find_leavers(&s.circuit, &s.placing, &s.path, &mut s.rooms, run.to)?;
+        let seen = find_leavers(circuit, &s.placing, &s.path, &mut s.rooms, run.to)?;
         s.levels.spent = s
             .levels
             .spent
             .saturating_add(seen.saturating_mul(SEEN_WORK));
         make_room(
-            &s.circuit,
+            circuit,
             &mut s.placing,
             &mut s.levels,
             &s.rooms,
@@ -86,34 +85,39 @@ fn move_run(s: &mut Search, run: Run) -> Result<bool, OutOfMemory> {
     }
     for k in 0..run.count {
         let v = at(s.path.nodes.as_slice(), run.first.saturating_add(k));
-        move_node(&s.circuit, &mut s.placing, v, run.to)?;
-        wait_for(&s.circuit, &mut s.levels, v)?;
+        move_node(circuit, &mut s.placing, v, run.to)?;
+        wait_for(circuit, &mut s.levels, v)?;
     }
     if at(s.placing.held.as_slice(), run.to) > s.placing.room {
         return Ok(false);
     }
-    follow(&s.circuit, &mut s.levels, s.placing.of.as_slice())
+    follow(circuit, &mut s.levels, s.placing.of.as_slice())
 }
 
 /// Makes a trial and takes it back. Gives its worth.
-fn try_run(s: &mut Search, run: Run) -> Result<u64, OutOfMemory> {
+fn try_run(circuit: &Circuit, s: &mut Search, run: Run) -> Result<u64, OutOfMemory> {
     let before = s.levels.weight;
     let mut worth_of = 0;
-    if move_run(s, run)? {
+    if move_run(circuit, s, run)? {
         let nodes = count(s.placing.of.as_slice());
         worth_of = worth(nodes, before, s.levels.weight, s.placing.pairs);
     }
-    take_back(&mut s.levels, before);
+    take_back(circuit, &mut s.levels, before);
     move_back(&mut s.placing);
     Ok(worth_of)
 }
 
 /// The better of the best trial so far and this one.
-fn better_run(s: &mut Search, best: Best, run: Run) -> Result<Best, OutOfMemory> {
+fn better_run(
+    circuit: &Circuit,
+    s: &mut Search,
+    best: Best,
+    run: Run,
+) -> Result<Best, OutOfMemory> {
     if s.levels.spent > MOST_SPENT {
         return Ok(best);
     }
-    let worth = try_run(s, run)?;
+    let worth = try_run(circuit, s, run)?;
     if worth > best.worth {
         Ok(Best { run, worth })
     } else {
@@ -128,7 +132,14 @@ fn stands_in(s: &Search, k: u32, p: u32) -> bool {
 }
 
 /// Tries the runs that begin behind the border before node k of the path, and go over it.
-fn try_behind(s: &mut Search, best: Best, k: u32, own: u32, to: u32) -> Result<Best, OutOfMemory> {
+fn try_behind(
+    circuit: &Circuit,
+    s: &mut Search,
+    best: Best,
+    k: u32,
+    own: u32,
+    to: u32,
+) -> Result<Best, OutOfMemory> {
     let mut best = best;
     for more in 0..LONGEST_RUN {
         if !stands_in(s, k.saturating_add(more), own) {
@@ -139,13 +150,20 @@ fn try_behind(s: &mut Search, best: Best, k: u32, own: u32, to: u32) -> Result<B
             count: more.saturating_add(1),
             to,
         };
-        best = better_run(s, best, run)?;
+        best = better_run(circuit, s, best, run)?;
     }
     Ok(best)
 }
 
 /// Tries the runs that end before node k of the path, and go over the border there.
-fn try_before(s: &mut Search, best: Best, k: u32, own: u32, to: u32) -> Result<Best, OutOfMemory> {
+fn try_before(
+    circuit: &Circuit,
+    s: &mut Search,
+    best: Best,
+    k: u32,
+    own: u32,
+    to: u32,
+) -> Result<Best, OutOfMemory> {
     let mut best = best;
     for more in 1..LONGEST_RUN + 1 {
         if more > k || !stands_in(s, k.saturating_sub(more), own) {
@@ -156,13 +174,13 @@ fn try_before(s: &mut Search, best: Best, k: u32, own: u32, to: u32) -> Result<B
             count: more,
             to,
         };
-        best = better_run(s, best, run)?;
+        best = better_run(circuit, s, best, run)?;
     }
     Ok(best)
 }
 
 /// The best trial at the borders of the path.
-fn best_run(s: &mut Search) -> Result<Best, OutOfMemory> {
+fn best_run(circuit: &Circuit, s: &mut Search) -> Result<Best, OutOfMemory> {
     let none = Run {
         first: 0,
         count: 0,
@@ -179,20 +197,20 @@ fn best_run(s: &mut Search) -> Result<Best, OutOfMemory> {
         );
         let behind = at(s.placing.of.as_slice(), at(s.path.nodes.as_slice(), k));
         if before != behind {
-            best = try_before(s, best, k, before, behind)?;
-            best = try_behind(s, best, k, behind, before)?;
+            best = try_before(circuit, s, best, k, before, behind)?;
+            best = try_behind(circuit, s, best, k, behind, before)?;
         }
     }
     Ok(best)
 }
 
 /// Makes the best trial at the borders of the path, if one is worth its pairs. Says whether it did.
-pub fn make_best(s: &mut Search) -> Result<bool, OutOfMemory> {
-    let best = best_run(s)?;
+pub fn make_best(circuit: &Circuit, s: &mut Search) -> Result<bool, OutOfMemory> {
+    let best = best_run(circuit, s)?;
     if best.worth == 0 {
         return Ok(false);
     }
-    move_run(s, best.run)?;
+    move_run(circuit, s, best.run)?;
     forget(&mut s.levels);
     settle(&mut s.placing);
     Ok(true)

@@ -1,7 +1,7 @@
 //! One of the worst paths.
 
 use crate::design::{Circuit, bit, put_bit};
-use crate::levels::{Levels, ends_at, seen_level};
+use crate::levels::{Levels, seen_level};
 use clustering::numbers::{at, count, row};
 use tmr_base::OutOfMemory;
 
@@ -23,24 +23,24 @@ fn chosen(path: &mut Path, count: u32) -> u32 {
     (path.random / 65536) % count
 }
 
-/// A path of the worst level ends at node y.
-fn is_worst(circuit: &Circuit, levels: &Levels, y: u32) -> bool {
-    at(levels.of.as_slice(), y) == levels.worst && ends_at(circuit, y) > 0
+/// A path of the worst level ends at this end.
+fn is_worst(levels: &Levels, y: u32) -> bool {
+    at(levels.of.as_slice(), y) == levels.worst
 }
 
 /// One of the ends of the worst level.
 fn worst_end(circuit: &Circuit, levels: &Levels, path: &mut Path) -> Option<u32> {
     let mut ends: u32 = 0;
-    for y in 0..count(levels.of.as_slice()) {
-        if is_worst(circuit, levels, y) {
+    for y in &circuit.ends {
+        if is_worst(levels, *y) {
             ends = ends.saturating_add(1);
         }
     }
     let mut left = chosen(path, ends);
-    for y in 0..count(levels.of.as_slice()) {
-        if is_worst(circuit, levels, y) {
+    for y in &circuit.ends {
+        if is_worst(levels, *y) {
             if left == 0 {
-                return Some(y);
+                return Some(*y);
             }
             left = left.saturating_sub(1);
         }
@@ -69,13 +69,13 @@ fn node_before(
     let wanted = wanted_level(circuit, levels, y);
     let mut ways: u32 = 0;
     for x in row(&circuit.sources, y) {
-        if seen_level(circuit, levels, parts, *x, y) == wanted {
+        if seen_level(levels, parts, *x, y) == wanted {
             ways = ways.saturating_add(1);
         }
     }
     let mut left = chosen(path, ways);
     for x in row(&circuit.sources, y) {
-        if seen_level(circuit, levels, parts, *x, y) == wanted {
+        if seen_level(levels, parts, *x, y) == wanted {
             if left == 0 {
                 return Some(*x);
             }

@@ -1,10 +1,8 @@
 -- Counting the readers of all nodes.
-use Rattle.std.proofs.Common.{ℕ, ◌<◌, ◌≤◌, Bool, List, [], length, sym, subst, arith, get_or, IsPermutation}
+use Rattle.std.proofs.Common.{ℕ, ◌<◌, ◌≤◌, Bool, List, [], length, sym, subst, arith, get_or}
 use Rattle.std.specs.List.{range_with_len}
 use Rattle.std.proofs.lemmas.List.FromFn.{length-range_with_len}
 use Rattle.std.proofs.lemmas.List.Sums.{length-filter, count_by-le-length}
-use Rattle.flat_net.specs.Net.{Net}
-use Rattle.node_reads.specs.Sources.{is_source, other_sources}
 use Rattle.node_reads.specs.Noting.{Lists, related}
 
 pub related_few : (r : ℕ → ℕ → Bool) (k x : ℕ) → length (related r k x) ≤ k
@@ -12,6 +10,3 @@ related_few r k x = omega (arith, length-filter (λ z. r z x) (range_with_len 0 
 
 pub row_few : (r : ℕ → ℕ → Bool) (k count : ℕ) (rows : List (List ℕ)) (x : ℕ) → Lists r k count rows → x < count → length (get_or rows x []) ≤ k
 row_few r k count rows x lists l = subst (λ (row : List ℕ). length row ≤ k) (sym (lists.row x l)) (related_few r k x)
-
-pub sources_are : (n : Net) (rows sorted : List (List ℕ)) (i : ℕ) → Lists (is_source n) (length n.nodes) (length n.nodes) rows → i < length n.nodes → IsPermutation (get_or rows i []) (get_or sorted i []) → IsPermutation (other_sources n i) (get_or sorted i [])
-sources_are n rows sorted i lists l perm = subst (λ (row : List ℕ). IsPermutation row (get_or sorted i [])) (lists.row i l) perm

@@ -8,9 +8,11 @@
 mod costs;
 mod counts;
 mod plain_cut;
+mod reading;
 mod refinement;
 
-pub use costs::pairs::cost;
+pub use costs::pairs::{cost, cost_by};
 pub use plain_cut::plain;
+pub use reading::{Reads, Sources, reads_of};
 pub use refinement::minimal::is_minimal;
-pub use refinement::refining::{Refined, refine, refine_counted};
+pub use refinement::refining::{Refined, RefinedFrom, refine, refine_counted, refine_from};

@@ -7,6 +7,7 @@ use Rattle.partitioner.specs.declared.counts.partitioning.Placed.{Placed}
 use Rattle.node_reads.specs.Sources.{AreOtherReaders, other_readers, other_sources, is_wide, wide_sources}
 use Rattle.partitioner.specs.Private.Counting.{count_at}
 use Rattle.partitioner.specs.Sizes.{held}
+use Rattle.partitioner.specs.Reads.{AreReads}
 
 -- how many other nodes read node x from partition p
 unfoldable pub reader_count : Net → List ℕ → ℕ → ℕ → ℕ
@@ -25,7 +26,7 @@ pub record IsPlaced (n : Net) (p : Placed) : Type 0 where
   pub few : length n.nodes < 4294967295
   pub long : length p.of.items ≡ length n.nodes
   pub in_range : All (λ q. q < p.count) p.of.items
-  pub readers : AreOtherReaders n p.readers
+  pub reads : AreReads n p.reads
   pub held_long : length p.held.items ≡ p.count
   pub held_right : (q : ℕ) → q < p.count → slice_index p.held.items q ≡ held p.of.items q
 

@@ -69,14 +69,29 @@ pub fn pairs_in(
     Ok(total)
 }
 
+/// The same as `cost`, from the other nodes that read each node.
+pub fn cost_by(
+    alloc: Global,
+    n: &FlatNet,
+    readers: &Graph,
+    parts: &Parts,
+) -> Result<u64, OutOfMemory>
+    requires readers { AreOtherReaders n.now.net readers.now }
+    requires parts { length parts.now.of ≡ length n.now.net.nodes }
+    ensures { IfOk result (λ pairs. pairs ≡ cost n.now.net parts.now) }
+{
+    let of = parts_list(alloc, parts)?;
+    let pairs = pairs_in(alloc, n, readers, parts.count(), of.as_slice())?;
+    Ok(pairs)
+}
+
 /// The number of pairs of a node and a partition other than its own in which some node reads it.
 /// `parts` has one number per node.
 pub fn cost(alloc: Global, n: &FlatNet, parts: &Parts) -> Result<u64, OutOfMemory>
     requires { length parts.now.of ≡ length n.now.net.nodes }
     ensures { IfOk result (λ pairs. pairs ≡ cost n.now.net parts.now) }
 {
-    let of = parts_list(alloc, parts)?;
     let readers = packed_readers_of(alloc, n)?;
-    let pairs = pairs_in(alloc, n, &readers, parts.count(), of.as_slice())?;
+    let pairs = cost_by(alloc, n, &readers, parts)?;
     Ok(pairs)
 }

@@ -1,15 +1,16 @@
 //! Where each node stands, and what is counted for it.
 
+use crate::reading::Reads;
 use graph::Graph;
 use std::collections::HashMap;
 
-/// The partition of each node, and beside it for each node the other nodes that read it, and for each
+/// The partition of each node, and beside it what is looked up of the design, and for each
 /// partition how many nodes it holds: what tells whether a node may move at all.
 #[derive(Drop)]
 pub struct Placed {
     pub count: u32,
     pub of: Vec<u32>,
-    pub readers: Graph,
+    pub reads: Reads,
     pub held: Vec<u32>,
 }
 

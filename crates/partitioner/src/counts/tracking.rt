@@ -4,13 +4,15 @@ ghost use Rattle.flat_net.specs.Net.{Net};
 ghost use Rattle.node_reads.specs.Sources.{is_wide, AreOtherReaders};
 ghost use Rattle.partitioner.specs.Private.Counting.{count_at};
 ghost use Rattle.partitioner.specs.Sizes.{held};
+ghost use Rattle.partitioner.specs.Reads.{AreReads};
 ghost use Rattle.partitioner.specs.Private.Tracking.{IsPlaced, Tracks, parts_of, placed_parts, reader_count};
 
 use crate::counts::counting::{count_at, set_count};
 use crate::counts::partitioning::{Partitioning, Placed};
+use crate::reading::{Reads, Sources, reads_of, sorted_sources};
 use flat_net::{FlatNet, nodes_of};
 use graph::Graph;
-use node_reads::{is_wide, packed_readers_of, sorted_rows, sources_of, wide_sources_of};
+use node_reads::is_wide;
 use std::alloc::Global;
 use std::collections::HashMap;
 use tmr_base::{OutOfMemory, Parts};
@@ -82,21 +84,26 @@ fn counts_of(
     Ok(counts)
 }
 
-/// The partition of each node, with its readers and the numbers of nodes held.
-pub fn placed(alloc: Global, n: &FlatNet, parts: &Parts) -> Result<Placed, OutOfMemory>
-    requires { length parts.now.of ≡ length n.now.net.nodes }
+/// The partition of each node, with what is looked up of the design and the numbers of nodes held.
+pub fn placed(
+    alloc: Global,
+    n: &FlatNet,
+    reads: Reads,
+    parts: &Parts,
+) -> Result<Placed, OutOfMemory>
+    requires reads { AreReads n.now.net reads }
+    requires parts { length parts.now.of ≡ length n.now.net.nodes }
     ensures placed { IfOk result (λ p. IsPlaced n.now.net p) }
     ensures parts { IfOk result (λ p. placed_parts p ≡ parts.now) }
 {
     let _nodes = nodes_of(n);
     let count = parts.count();
     let of = parts_list(alloc, parts)?;
-    let readers = packed_readers_of(alloc, n)?;
     let held = held_of(alloc, count, of.as_slice())?;
     Ok(Placed {
         count,
         of,
-        readers,
+        reads,
         held,
     })
 }
@@ -108,22 +115,20 @@ pub fn tracked(alloc: Global, n: &FlatNet, placed: Placed) -> Result<Partitionin
     ensures tracks { IfOk result (λ p. Tracks n.now.net p) }
     ensures parts { IfOk result (λ p. parts_of p ≡ placed_parts placed) }
 {
-    let nodes = nodes_of(n);
     let Placed {
         count,
         of,
-        readers,
+        reads,
         held,
     } = placed;
-    let ascending = sources_of(alloc, n, &readers)?;
-    let sources = sorted_rows(alloc, &ascending, &readers, nodes)?;
-    let wide = wide_sources_of(alloc, n, &readers, &ascending)?;
+    let Reads { readers, sources } = reads;
+    let Sources { rows, wide } = sorted_sources(alloc, n, &readers, sources)?;
     let counts = counts_of(alloc, n, &readers, of.as_slice())?;
     Ok(Partitioning {
         count,
         of,
         readers,
-        sources,
+        sources: rows,
         wide,
         held,
         counts,
@@ -136,7 +141,8 @@ pub fn track(alloc: Global, n: &FlatNet, parts: &Parts) -> Result<Partitioning, 
     ensures tracks { IfOk result (λ p. Tracks n.now.net p) }
     ensures parts { IfOk result (λ p. parts_of p ≡ parts.now) }
 {
-    let placed = placed(alloc, n, parts)?;
+    let reads = reads_of(alloc, n)?;
+    let placed = placed(alloc, n, reads, parts)?;
     let p = tracked(alloc, n, placed)?;
     Ok(p)
 }

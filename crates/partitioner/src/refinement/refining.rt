@@ -4,6 +4,7 @@ ghost use Rattle.tmr_base.specs.Parts.{AreParts};
 ghost use Rattle.flat_net.specs.Net.{Net};
 ghost use Rattle.partitioner.specs.Cost.{cost};
 ghost use Rattle.partitioner.specs.Sizes.{KeepsSize};
+ghost use Rattle.partitioner.specs.Reads.{AreReads};
 ghost use Rattle.partitioner.specs.Refining.{move, pass, place, refined, IsMinimal};
 ghost use Rattle.partitioner.specs.Private.Tracking.{IsPlaced, Tracks, parts_of, placed_parts};
 ghost use Rattle.partitioner.specs.Private.Ready.{IsReady};
@@ -14,6 +15,7 @@ use crate::costs::pairs::pairs_in;
 use crate::counts::partitioning::{Partitioning, Placed};
 use crate::counts::spots::{Spots, shut_full, spots_of};
 use crate::counts::tracking::{placed, tracked};
+use crate::reading::{Reads, Sources, reads_of};
 use crate::refinement::minimal::no_move_helps;
 use crate::refinement::moving::move_to;
 use crate::refinement::placing::{may_move, part_of, place_of, some_room};
@@ -158,23 +160,37 @@ pub struct Refined {
     pub minimal: bool,
 }
 
+/// The same, with what was looked up of the design, for the next partitions of it.
+#[derive(Drop)]
+pub struct RefinedFrom {
+    pub refined: Refined,
+    pub reads: Reads,
+}
+
 /// What refining gives where no node can move.
-fn unmoved(placed: Placed, before: u64) -> Refined
+fn unmoved(placed: Placed, before: u64) -> RefinedFrom
     requires few { length placed.of.items < 4294967295 }
     requires in_range { All (λ q. q < placed.count) placed.of.items }
-    ensures parts { result.parts ≡ placed_parts placed }
-    ensures range { AreParts result.parts }
-    ensures cost { result.cost ≡ before }
-    ensures before { result.before ≡ before }
-    ensures minimal { result.minimal ≡ true }
+    ensures parts { result.refined.parts ≡ placed_parts placed }
+    ensures range { AreParts result.refined.parts }
+    ensures cost { result.refined.cost ≡ before }
+    ensures before { result.refined.before ≡ before }
+    ensures minimal { result.refined.minimal ≡ true }
+    ensures reads { result.reads ≡ placed.reads }
 {
-    let Placed { count, of, .. } = placed;
-    Refined {
+    let Placed {
+        count,
+        of,
+        reads,
+        ..
+    } = placed;
+    let refined = Refined {
         parts: Parts::make(count, of),
         cost: before,
         before,
         minimal: true,
-    }
+    };
+    RefinedFrom { refined, reads }
 }
 
 /// What refining gives, from where the nodes stand and what that costs.
@@ -185,25 +201,71 @@ fn refine_placed(
     before: u64,
     size: u32,
     passes: u32,
-) -> Result<Refined, OutOfMemory>
+) -> Result<RefinedFrom, OutOfMemory>
     requires { IsPlaced n.now.net placed }
-    ensures exact { IfOk result (λ r. r.parts ≡ refined n.now.net size (placed_parts placed) passes) }
-    ensures range { IfOk result (λ r. AreParts r.parts) }
-    ensures cost { IfOk result (λ r. r.cost ≡ cost n.now.net r.parts) }
-    ensures before { IfOk result (λ r. r.before ≡ before) }
-    ensures minimal { IfOk result (λ r. IsTrue r.minimal ↔ IsMinimal n.now.net size r.parts) }
+    ensures exact { IfOk result (λ r. r.refined.parts ≡ refined n.now.net size (placed_parts placed) passes) }
+    ensures range { IfOk result (λ r. AreParts r.refined.parts) }
+    ensures cost { IfOk result (λ r. r.refined.cost ≡ cost n.now.net r.refined.parts) }
+    ensures before { IfOk result (λ r. r.refined.before ≡ before) }
+    ensures minimal { IfOk result (λ r. IsTrue r.refined.minimal ↔ IsMinimal n.now.net size r.refined.parts) }
+    ensures reads { IfOk result (λ r. AreReads n.now.net r.reads) }
 {
     let mut p = tracked(alloc, n, placed)?;
     let mut done = pass_all(alloc, n, &mut p, size, passes)?;
     let cost = pairs_in(alloc, n, &p.readers, p.count, p.of.as_slice())?;
     let minimal = no_move_helps(n, &p, &done.spots, &mut done.tallies, size, done.settled);
-    let Partitioning { count, of, .. } = p;
-    Ok(Refined {
+    let Partitioning {
+        count,
+        of,
+        readers,
+        sources: rows,
+        wide,
+        ..
+    } = p;
+    let refined = Refined {
         parts: Parts::make(count, of),
         cost,
         before,
         minimal,
-    })
+    };
+    let sources = Some(Sources { rows, wide });
+    let reads = Reads { readers, sources };
+    Ok(RefinedFrom { refined, reads })
+}
+
+/// The parts of `refine`, and what `cost` and `is_minimal` tell of them, from what is looked up of the design. It comes back for the next
+/// partitions of the same design.
+pub fn refine_from(
+    alloc: Global,
+    n: &FlatNet,
+    reads: Reads,
+    parts: &Parts,
+    size: u32,
+    passes: u32,
+) -> Result<RefinedFrom, OutOfMemory>
+    requires size { 0 < size }
+    requires reads { AreReads n.now.net reads }
+    requires parts { KeepsSize n.now.net size parts.now }
+    ensures exact { IfOk result (λ r. r.refined.parts ≡ refined n.now.net size parts.now passes) }
+    ensures range { IfOk result (λ r. AreParts r.refined.parts) }
+    ensures cost { IfOk result (λ r. r.refined.cost ≡ cost n.now.net r.refined.parts) }
+    ensures before { IfOk result (λ r. r.refined.before ≡ cost n.now.net parts.now) }
+    ensures minimal { IfOk result (λ r. IsTrue r.refined.minimal ↔ IsMinimal n.now.net size r.refined.parts) }
+    ensures reads { IfOk result (λ r. AreReads n.now.net r.reads) }
+{
+    let start = placed(alloc, n, reads, parts)?;
+    let before = pairs_in(
+        alloc,
+        n,
+        &start.reads.readers,
+        start.count,
+        start.of.as_slice(),
+    )?;
+    if !may_move(n, &start, size) {
+        return Ok(unmoved(start, before));
+    }
+    let refined = refine_placed(alloc, n, start, before, size, passes)?;
+    Ok(refined)
 }
 
 /// The parts of `refine`, and what `cost` and `is_minimal` tell of them, from one reading of the design.
@@ -222,13 +284,9 @@ pub fn refine_counted(
     ensures before { IfOk result (λ r. r.before ≡ cost n.now.net parts.now) }
     ensures minimal { IfOk result (λ r. IsTrue r.minimal ↔ IsMinimal n.now.net size r.parts) }
 {
-    let start = placed(alloc, n, parts)?;
-    let before = pairs_in(alloc, n, &start.readers, start.count, start.of.as_slice())?;
-    if !may_move(n, &start, size) {
-        return Ok(unmoved(start, before));
-    }
-    let refined = refine_placed(alloc, n, start, before, size, passes)?;
-    Ok(refined)
+    let reads = reads_of(alloc, n)?;
+    let found = refine_from(alloc, n, reads, parts, size, passes)?;
+    Ok(found.refined)
 }
 
 /// The parts after so many passes of moves, in each of which every node in turn goes to the partition

@@ -12,9 +12,9 @@ pub returns-clause-placed : goal.returns-clause-placed
 returns-clause-placed c =
     record {
       few = omega (arith, c.nodes_of-nodes.ensures.few);
-      long = ap length c.in_ok-of.ensures.same ∙ c.requires;
+      long = ap length c.in_ok-of.ensures.same ∙ c.requires.parts;
       in_range = subst (λ (count : ℕ). All (λ q. q < count) c.in_ok-of.of.items) (sym c.count-count.ensures) c.in_ok-of.ensures.in_range;
-      readers = c.in_ok-readers.ensures;
+      reads = c.requires.reads;
       held_long = c.in_ok-held.ensures.long;
       held_right = λ q l. c.in_ok-held.ensures.held q l ∙ ap (λ (of : List ℕ). held of q) c.as_slice.ensures.value;
     }
