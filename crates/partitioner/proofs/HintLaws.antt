@@ -16,7 +16,7 @@ use Rattle.partitioner.specs.Private.Hinting.{AreHints}
 use Rattle.partitioner.specs.Private.Loss.{is_fresh, is_kept, is_wanted, loss}
 use Rattle.partitioner.specs.Private.Sets.{has}
 use Rattle.partitioner.specs.Private.Spotting.{AreSpots}
-use Rattle.partitioner.specs.Private.Tracking.{parts_of, reader_count}
+use Rattle.partitioner.specs.Private.Tracking.{held_parts, reader_count}
 use Rattle.node_reads.specs.Sources.{is_wide, other_readers}
 use Rattle.partitioner.proofs.BelowLaws.{one_if_le, one_of_two}
 use Rattle.partitioner.proofs.CountLaws.{any_by_count}
@@ -174,8 +174,8 @@ kept_read n of i x q e =
     ltb-true 0 (reader_count n of x q) (sym (any_by_count (λ y. eqb (get_or of y 0) q) (other_readers n x)) ∙ some)
 
 -- each partition with room in which x is near was met
-pub told_near : (n : Net) (size : ℕ) (p : Partitioning) (spots : Spots) (old new : Gains) (x : ℕ) (left : List ℕ) → AreSpots n size (parts_of p) spots → x < length n.nodes → is_wide n x ≡ true → left ≡ [] → IsTold old new p.count spots.free x (get_or p.of.items x 0) left
-    → (i q : ℕ) → q < p.count → has_room size (parts_of p) q ≡ true → near_in old q + one_if (is_near n p.of.items i q x) ≤ near_in new q
+pub told_near : (n : Net) (size : ℕ) (p : Partitioning) (spots : Spots) (old new : Gains) (x : ℕ) (left : List ℕ) → AreSpots n size (held_parts p) spots → x < length n.nodes → is_wide n x ≡ true → left ≡ [] → IsTold old new p.count spots.free x (get_or p.of.items x 0) left
+    → (i q : ℕ) → q < p.count → has_room size (held_parts p) q ≡ true → near_in old q + one_if (is_near n p.of.items i q x) ≤ near_in new q
 told_near n size p spots old new x left are l wide e is i q m room = go (cases_Bool (is_near n p.of.items i q x))
   where
     both : (b : Bool) → not (not b) ≡ true → b ≡ true
@@ -225,7 +225,7 @@ pub record Hinted (n : Net) (size : ℕ) (p : Partitioning) (i : ℕ) (row : Lis
   pub within : j ≤ length row
   pub turn : hints.turn ≡ hints.from + hints.counted
   pub few : (q : ℕ) → near_in hints q ≤ hints.counted
-  pub near : (q : ℕ) → q < p.count → has_room size (parts_of p) q ≡ true → one_if (is_wanted n p.of.items i q) + count_by (is_near n p.of.items i q) (take j row) ≤ near_in gains q + near_in hints q
+  pub near : (q : ℕ) → q < p.count → has_room size (held_parts p) q ≡ true → one_if (is_wanted n p.of.items i q) + count_by (is_near n p.of.items i q) (take j row) ≤ near_in gains q + near_in hints q
   pub most : IsMost (near_in hints) hints.most
 
 pub hinted_first : (n : Net) (size : ℕ) (p : Partitioning) (i : ℕ) (row : List ℕ) (gains hints : Gains) → row ≡ get_or p.sources i [] → IsCounted n p i gains → AreBegun p.count hints → ((q : ℕ) → near_in hints q ≡ 0) → Hinted n size p i row gains hints gains.counted
@@ -240,7 +240,7 @@ hinted_first n size p i row gains hints at is begun none = record {
 }
 
 pub hinted_more : (n : Net) (size : ℕ) (p : Partitioning) (i : ℕ) (row : List ℕ) (gains old new : Gains) (j : ℕ) → Hinted n size p i row gains old j → j < length row → AreKept p.count new → new.counted ≡ old.counted + 1 → new.from ≡ old.from → new.turn ≡ old.turn + 1
-    → ((q : ℕ) → q < p.count → has_room size (parts_of p) q ≡ true → near_in old q + one_if (is_near n p.of.items i q (get_or row j 0)) ≤ near_in new q) → ((q : ℕ) → near_in new q ≤ near_in old q + 1) → IsMost (near_in new) new.most → Hinted n size p i row gains new (j + 1)
+    → ((q : ℕ) → q < p.count → has_room size (held_parts p) q ≡ true → near_in old q + one_if (is_near n p.of.items i q (get_or row j 0)) ≤ near_in new q) → ((q : ℕ) → near_in new q ≤ near_in old q + 1) → IsMost (near_in new) new.most → Hinted n size p i row gains new (j + 1)
 hinted_more n size p i row gains old new j is l kept counted from turn near once most = record {
   kept = kept;
   counted = omega (arith, counted, is.counted);
@@ -260,7 +260,7 @@ hinted_hints n size p i row gains hints j at is = record {
 }
 
 -- a node loses no less than what the hints leave
-pub hinted_loss : (n : Net) (size : ℕ) (p : Partitioning) (i q : ℕ) (gains hints : Gains) → IsCounted n p i gains → AreHints n size p i gains hints → q < p.count → has_room size (parts_of p) q ≡ true
+pub hinted_loss : (n : Net) (size : ℕ) (p : Partitioning) (i q : ℕ) (gains hints : Gains) → IsCounted n p i gains → AreHints n size p i gains hints → q < p.count → has_room size (held_parts p) q ≡ true
     → (one_if (not (is_wanted n p.of.items i q)) + count_by (λ x. is_fresh n p.of.items i x q) (take gains.counted (get_or p.sources i []))) + (hints.counted - near_in hints q) ≤ loss n p.of.items i q
 hinted_loss n size p i q gains hints is are l room =
     let row : List ℕ = get_or p.sources i [] in

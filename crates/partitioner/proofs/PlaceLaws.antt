@@ -13,7 +13,7 @@ use Rattle.node_reads.specs.Sources.{other_readers, other_sources}
 use Rattle.partitioner.specs.Cost.{cost}
 use Rattle.partitioner.specs.Private.Loss.{is_fresh, is_kept, is_wanted, loss, IsContent}
 use Rattle.partitioner.specs.Refining.{has_room, put, place}
-use Rattle.partitioner.specs.Private.Tracking.{Tracks, parts_of}
+use Rattle.partitioner.specs.Private.Tracking.{Tracks, held_parts}
 use Rattle.partitioner.specs.Private.Leading.{AsGood, IsReached, IsLead, Leads, LeadsOpen, LeadsReaders, LeadsOrLoses, is_settled, start_of}
 use Rattle.partitioner.proofs.BelowLaws.{one_if_le}
 use Rattle.partitioner.proofs.LowestLaws.{IsLowest, is_lowest}
@@ -36,16 +36,16 @@ lowest_both f g b passes start bound a same within is = record { reached = reach
     best c h l (inl lower) = inl (omega (arith, same a l, same c h, lower))
     best c h l (inr (e, or)) = inr (omega (arith, same a l, same c h, e), or)
 
-pub place_is : (n : Net) (size : ℕ) (p : Partitioning) (i a : ℕ) → Tracks n p → i < length n.nodes → IsLowest (loss n p.of.items i) (has_room size (parts_of p)) (start_of p i) p.count a → a ≡ place n size (parts_of p) i
+pub place_is : (n : Net) (size : ℕ) (p : Partitioning) (i a : ℕ) → Tracks n p → i < length n.nodes → IsLowest (loss n p.of.items i) (has_room size (held_parts p)) (start_of p i) p.count a → a ≡ place n size (held_parts p) i
 place_is n size p i a tracks l is =
-    is_lowest (λ q. cost n (put (parts_of p) i q)) (has_room size (parts_of p)) (start_of p i) p.count a
-    (lowest_both (λ q. cost n (put (parts_of p) i q)) (loss n p.of.items i) (base n (parts_of p) i) (has_room size (parts_of p)) (start_of p i) p.count a
-    (λ c h. cost_put n (parts_of p) i c tracks.long l h) (tracks.in_range i 0 (omega (arith, tracks.long, l))) is)
+    is_lowest (λ q. cost n (put (held_parts p) i q)) (has_room size (held_parts p)) (start_of p i) p.count a
+    (lowest_both (λ q. cost n (put (held_parts p) i q)) (loss n p.of.items i) (base n (held_parts p) i) (has_room size (held_parts p)) (start_of p i) p.count a
+    (λ c h. cost_put n (held_parts p) i c tracks.long l h) (tracks.in_range i 0 (omega (arith, tracks.long, l))) is)
 
 lead_low : (n : Net) (size : ℕ) (p : Partitioning) (i : ℕ) (lead : Lead) → IsLead n size p i lead → loss n p.of.items i lead.place ≤ loss n p.of.items i (start_of p i)
 lead_low n size p i lead is = go is.reached
   where
-    go : IsReached (loss n p.of.items i) (has_room size (parts_of p)) (start_of p i) p.count lead.place → loss n p.of.items i lead.place ≤ loss n p.of.items i (start_of p i)
+    go : IsReached (loss n p.of.items i) (has_room size (held_parts p)) (start_of p i) p.count lead.place → loss n p.of.items i lead.place ≤ loss n p.of.items i (start_of p i)
     go (inl e) = omega (arith, ap (loss n p.of.items i) e)
     go (inr h) = omega (arith, h)
 
@@ -65,9 +65,9 @@ settled_leads n size p i tried c lead is settled least = go (or_cases (ltb lead.
 
 -- each partition with room is no better than the lead, or was not met by the first rows
 abbrev pub LeadsOrMissed : Net → ℕ → Partitioning → ℕ → ℕ → List ℕ → ℕ → Type 0
-LeadsOrMissed n size p i a row j = (c : ℕ) → c < p.count → has_room size (parts_of p) c ≡ true → Leads n p i a c ⊎ (loss_so_far n p.of.items i c row j ≡ j + 1)
+LeadsOrMissed n size p i a row j = (c : ℕ) → c < p.count → has_room size (held_parts p) c ≡ true → Leads n p i a c ⊎ (loss_so_far n p.of.items i c row j ≡ j + 1)
 
-pub settled_place : (n : Net) (size : ℕ) (p : Partitioning) (i j : ℕ) (row : List ℕ) (lead : Lead) → Tracks n p → i < length n.nodes → IsPermutation (other_sources n i) row → IsLead n size p i lead → LeadsOrMissed n size p i lead.place row j → is_settled lead (start_of p i) (j + 1) ≡ true → lead.place ≡ place n size (parts_of p) i
+pub settled_place : (n : Net) (size : ℕ) (p : Partitioning) (i j : ℕ) (row : List ℕ) (lead : Lead) → Tracks n p → i < length n.nodes → IsPermutation (other_sources n i) row → IsLead n size p i lead → LeadsOrMissed n size p i lead.place row j → is_settled lead (start_of p i) (j + 1) ≡ true → lead.place ≡ place n size (held_parts p) i
 settled_place n size p i j row lead tracks l perm is tried settled =
     place_is n size p i lead.place tracks l (record { reached = is.reached; best = λ c h room. at c (tried c h room) })
   where
@@ -75,11 +75,11 @@ settled_place n size p i j row lead tracks l perm is tried settled =
     at c (inl h) = h
     at c (inr e) = settled_leads n size p i (j + 1) c lead is settled (omega (arith, e, loss_at_least n p.of.items i c row j perm))
 
-pub settled_at_once : (n : Net) (size : ℕ) (p : Partitioning) (i least : ℕ) (lead : Lead) → Tracks n p → i < length n.nodes → IsLead n size p i lead → ((q : ℕ) → least ≤ loss n p.of.items i q) → is_settled lead (start_of p i) least ≡ true → lead.place ≡ place n size (parts_of p) i
+pub settled_at_once : (n : Net) (size : ℕ) (p : Partitioning) (i least : ℕ) (lead : Lead) → Tracks n p → i < length n.nodes → IsLead n size p i lead → ((q : ℕ) → least ≤ loss n p.of.items i q) → is_settled lead (start_of p i) least ≡ true → lead.place ≡ place n size (held_parts p) i
 settled_at_once n size p i least lead tracks l is low settled =
     place_is n size p i lead.place tracks l (record { reached = is.reached; best = λ c h room. settled_leads n size p i least c lead is settled (low c) })
 
-pub exhausted_place : (n : Net) (size : ℕ) (p : Partitioning) (i j : ℕ) (row : List ℕ) (lead : Lead) → Tracks n p → i < length n.nodes → IsPermutation (other_sources n i) row → IsLead n size p i lead → LeadsOrMissed n size p i lead.place row j → length row ≤ j → lead.place ≡ place n size (parts_of p) i
+pub exhausted_place : (n : Net) (size : ℕ) (p : Partitioning) (i j : ℕ) (row : List ℕ) (lead : Lead) → Tracks n p → i < length n.nodes → IsPermutation (other_sources n i) row → IsLead n size p i lead → LeadsOrMissed n size p i lead.place row j → length row ≤ j → lead.place ≡ place n size (held_parts p) i
 exhausted_place n size p i j row lead tracks l perm is tried past =
     place_is n size p i lead.place tracks l (record { reached = is.reached; best = λ c h room. at c (tried c h room) })
   where
@@ -91,7 +91,7 @@ exhausted_place n size p i j row lead tracks l perm is tried past =
         let long = length-take (length row) row in
         omega (arith, all, one, few, long)
 
-    stays : (c : ℕ) → loss n p.of.items i c ≡ j + 1 → IsReached (loss n p.of.items i) (has_room size (parts_of p)) (start_of p i) p.count lead.place → Leads n p i lead.place c
+    stays : (c : ℕ) → loss n p.of.items i c ≡ j + 1 → IsReached (loss n p.of.items i) (has_room size (held_parts p)) (start_of p i) p.count lead.place → Leads n p i lead.place c
     stays c e (inl s) = first (cases_lt (loss n p.of.items i lead.place) (loss n p.of.items i c))
       where
         first : (loss n p.of.items i lead.place < loss n p.of.items i c) ⊎ (loss n p.of.items i c ≤ loss n p.of.items i lead.place) → Leads n p i lead.place c
@@ -112,7 +112,7 @@ any_reached f P Q (y ∷ ys) e all use' = go (cases_Bool (f y)) (λ h. any_reach
     go (inr h) later = later (sym (ap (λ (b : Bool). b || list_any f ys) h) ∙ e)
 
 -- the partitions of a node's readers were tried
-readers_lead : (n : Net) (size : ℕ) (p : Partitioning) (i a x c : ℕ) (f : ℕ → Bool) → ((y : ℕ) → f y ≡ true → start_of p y ≡ c) → list_any f (other_readers n x) ≡ true → LeadsReaders n size p i a x → has_room size (parts_of p) c ≡ true → Leads n p i a c
+readers_lead : (n : Net) (size : ℕ) (p : Partitioning) (i a x c : ℕ) (f : ℕ → Bool) → ((y : ℕ) → f y ≡ true → start_of p y ≡ c) → list_any f (other_readers n x) ≡ true → LeadsReaders n size p i a x → has_room size (held_parts p) c ≡ true → Leads n p i a c
 readers_lead n size p i a x c f means some tried room =
     any_reached f (λ y. LeadsOpen n size p i a (start_of p y)) (Leads n p i a c) (other_readers n x) some tried
     (λ y h free. subst (λ (q : ℕ). LeadsOpen n size p i a q) (means y h) free room)
@@ -120,7 +120,7 @@ readers_lead n size p i a x c f means some tried room =
 pub readers_tried : (n : Net) (size : ℕ) (p : Partitioning) (i a : ℕ) (row : List ℕ) → LeadsReaders n size p i a i → LeadsOrMissed n size p i a row 0
 readers_tried n size p i a row tried = λ c h room. at c room (cases_Bool (is_wanted n p.of.items i c))
   where
-    at : (c : ℕ) → has_room size (parts_of p) c ≡ true → (is_wanted n p.of.items i c ≡ true) ⊎ (is_wanted n p.of.items i c ≡ false) → Leads n p i a c ⊎ (loss_so_far n p.of.items i c row 0 ≡ 0 + 1)
+    at : (c : ℕ) → has_room size (held_parts p) c ≡ true → (is_wanted n p.of.items i c ≡ true) ⊎ (is_wanted n p.of.items i c ≡ false) → Leads n p i a c ⊎ (loss_so_far n p.of.items i c row 0 ≡ 0 + 1)
     at c room (inl e) = inl (readers_lead n size p i a i c (λ y. eqb (start_of p y) c) (λ y h. eqb-true (start_of p y) c h) e tried room)
     at c room (inr e) = let one : one_if (not (is_wanted n p.of.items i c)) ≡ 1 = ap (λ (b : Bool). one_if (not b)) e in inr (omega (arith, one))
 
@@ -130,13 +130,13 @@ source_tried n size p i a b row j l before kept own tried = λ c h room. at c ro
     x : ℕ
     x = get_or row j 0
 
-    met : (c : ℕ) → has_room size (parts_of p) c ≡ true → (eqb (start_of p (get_or row j 0)) c ≡ true) ⊎ (eqb (start_of p (get_or row j 0)) c ≡ false) → is_fresh n p.of.items i (get_or row j 0) c ≡ false → Leads n p i b c
+    met : (c : ℕ) → has_room size (held_parts p) c ≡ true → (eqb (start_of p (get_or row j 0)) c ≡ true) ⊎ (eqb (start_of p (get_or row j 0)) c ≡ false) → is_fresh n p.of.items i (get_or row j 0) c ≡ false → Leads n p i b c
     met c room (inl e) f = subst (λ (q : ℕ). LeadsOpen n size p i b q) (eqb-true (start_of p (get_or row j 0)) c e) own room
     met c room (inr e) f =
         let some : is_kept n p.of.items i (get_or row j 0) c ≡ true = not-false (is_kept n p.of.items i (get_or row j 0) c) (sym (ap (λ (d : Bool). not d && not (is_kept n p.of.items i (get_or row j 0) c)) e) ∙ f) in
         readers_lead n size p i b (get_or row j 0) c (λ y. not (eqb i y) && eqb (start_of p y) c) (λ y h. eqb-true (start_of p y) c (and_parts (not (eqb i y)) (eqb (start_of p y) c) h).1) some tried room
 
-    at : (c : ℕ) → has_room size (parts_of p) c ≡ true → Leads n p i a c ⊎ (loss_so_far n p.of.items i c row j ≡ j + 1) → (is_fresh n p.of.items i (get_or row j 0) c ≡ true) ⊎ (is_fresh n p.of.items i (get_or row j 0) c ≡ false) → Leads n p i b c ⊎ (loss_so_far n p.of.items i c row (j + 1) ≡ (j + 1) + 1)
+    at : (c : ℕ) → has_room size (held_parts p) c ≡ true → Leads n p i a c ⊎ (loss_so_far n p.of.items i c row j ≡ j + 1) → (is_fresh n p.of.items i (get_or row j 0) c ≡ true) ⊎ (is_fresh n p.of.items i (get_or row j 0) c ≡ false) → Leads n p i b c ⊎ (loss_so_far n p.of.items i c row (j + 1) ≡ (j + 1) + 1)
     at c room (inl h) f = inl (kept c h)
     at c room (inr e) (inl f) =
         let more = loss_more n p.of.items i c row j l in
@@ -145,7 +145,7 @@ source_tried n size p i a b row j l before kept own tried = λ c h room. at c ro
     at c room (inr e) (inr f) = inl (met c room (cases_Bool (eqb (start_of p (get_or row j 0)) c)) f)
 
 -- what was missed by the rows so far loses as many
-pub missed_loses : (n : Net) (size : ℕ) (p : Partitioning) (i a : ℕ) (row : List ℕ) (j : ℕ) → IsPermutation (other_sources n i) row → LeadsOrMissed n size p i a row j → (c : ℕ) → c < p.count → has_room size (parts_of p) c ≡ true → LeadsOrLoses n p i a (j + 1) c
+pub missed_loses : (n : Net) (size : ℕ) (p : Partitioning) (i a : ℕ) (row : List ℕ) (j : ℕ) → IsPermutation (other_sources n i) row → LeadsOrMissed n size p i a row j → (c : ℕ) → c < p.count → has_room size (held_parts p) c ≡ true → LeadsOrLoses n p i a (j + 1) c
 missed_loses n size p i a row j perm tried c h room = at (tried c h room)
   where
     at : Leads n p i a c ⊎ (loss_so_far n p.of.items i c row j ≡ j + 1) → LeadsOrLoses n p i a (j + 1) c
@@ -165,7 +165,7 @@ later_leads n size p i tried q c lead is low early later (inr h) = go (cases_lt 
     go (inl k) = inl k
     go (inr k) = inr (omega (arith, k, h, low, is.value), inr (omega (arith, early, later)))
 
-pub all_place : (n : Net) (size : ℕ) (p : Partitioning) (i : ℕ) (lead : Lead) → Tracks n p → i < length n.nodes → IsLead n size p i lead → ((c : ℕ) → c < p.count → LeadsOpen n size p i lead.place c) → lead.place ≡ place n size (parts_of p) i
+pub all_place : (n : Net) (size : ℕ) (p : Partitioning) (i : ℕ) (lead : Lead) → Tracks n p → i < length n.nodes → IsLead n size p i lead → ((c : ℕ) → c < p.count → LeadsOpen n size p i lead.place c) → lead.place ≡ place n size (held_parts p) i
 all_place n size p i lead tracks l is all = place_is n size p i lead.place tracks l (record { reached = is.reached; best = all })
 
 -- a node that is known to lose least where it stands is content
@@ -180,7 +180,7 @@ settled_content n size p i least lead is own low settled = λ q. go q (or_cases 
     go q (inr h) = omega (arith, eqb-true lead.loss least (and_parts (eqb lead.loss least) (eqb lead.place (start_of p i)) h).0, here, low q)
 
 -- a content node goes nowhere
-pub content_stays : (n : Net) (size : ℕ) (p : Partitioning) (i : ℕ) → Tracks n p → i < length n.nodes → IsContent n p.of.items i → place n size (parts_of p) i ≡ start_of p i
+pub content_stays : (n : Net) (size : ℕ) (p : Partitioning) (i : ℕ) → Tracks n p → i < length n.nodes → IsContent n p.of.items i → place n size (held_parts p) i ≡ start_of p i
 content_stays n size p i tracks l content =
     sym (place_is n size p i (start_of p i) tracks l (record { reached = inl refl; best = λ c h room. at c (cases_lt (loss n p.of.items i (start_of p i)) (loss n p.of.items i c)) }))
   where

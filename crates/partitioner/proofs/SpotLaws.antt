@@ -12,7 +12,7 @@ use Rattle.node_reads.specs.Sources.{reads_other, other_readers, is_wide, wide_s
 use Rattle.partitioner.specs.Private.Sets.{has}
 use Rattle.partitioner.specs.Sizes.{capacity, held}
 use Rattle.partitioner.specs.Refining.{has_room, put}
-use Rattle.partitioner.specs.Private.Tracking.{Tracks, parts_of, reader_count}
+use Rattle.partitioner.specs.Private.Tracking.{Tracks, held_parts, reader_count}
 use Rattle.partitioner.specs.Private.Spotting.{AreSpots}
 use Rattle.partitioner.proofs.SetLaws.{any_known, same_number}
 use Rattle.node_reads.proofs.SourceLaws.{related_below}
@@ -166,7 +166,7 @@ spotted_narrow n of count x s narrow before =
     below z l wide (inr ne) = omega (arith, l, ne)
 
 -- as good as the partitions that a set has, and so as those of the readers
-pub spots_lead : (n : Net) (size : ℕ) (p : Partitioning) (spots : Spots) (i x a : ℕ) → Tracks n p → AreSpots n size (parts_of p) spots → x < length n.nodes → is_wide n x ≡ true → ((c : ℕ) → c < p.count → has spots.free x c ≡ true → LeadsOpen n size p i a c) → LeadsReaders n size p i a x
+pub spots_lead : (n : Net) (size : ℕ) (p : Partitioning) (spots : Spots) (i x a : ℕ) → Tracks n p → AreSpots n size (held_parts p) spots → x < length n.nodes → is_wide n x ≡ true → ((c : ℕ) → c < p.count → has spots.free x c ≡ true → LeadsOpen n size p i a c) → LeadsReaders n size p i a x
 spots_lead n size p spots i x a tracks are l wide all = λ k d h room.
     let y = get_or (other_readers n x) k d in
     let within : y < length p.of.items = omega (arith, tracks.long, related_below (reads_other n) (length n.nodes) x k d h) in

@@ -7,7 +7,7 @@ use Rattle.partitioner.specs.declared.refinement.placing.Lead.{Lead}
 use Rattle.node_reads.specs.Sources.{other_readers}
 use Rattle.partitioner.specs.Private.Loss.{loss}
 use Rattle.partitioner.specs.Refining.{has_room}
-use Rattle.partitioner.specs.Private.Tracking.{parts_of}
+use Rattle.partitioner.specs.Private.Tracking.{held_parts}
 
 -- a is as good as c: f is lower there, or it is the same and a is the start or no later
 abbrev pub AsGood : (ℕ → ℕ) → ℕ → ℕ → ℕ → Type 0
@@ -24,7 +24,7 @@ start_of p i = slice_index p.of.items i
 -- the partition that leads for node i has its loss beside it
 pub record IsLead (n : Net) (size : ℕ) (p : Partitioning) (i : ℕ) (lead : Lead) : Type 0 where
   pub value : lead.loss ≡ loss n p.of.items i lead.place
-  pub reached : IsReached (loss n p.of.items i) (has_room size (parts_of p)) (start_of p i) p.count lead.place
+  pub reached : IsReached (loss n p.of.items i) (has_room size (held_parts p)) (start_of p i) p.count lead.place
 
 -- partition a is as good for node i as c
 abbrev pub Leads : Net → Partitioning → ℕ → ℕ → ℕ → Type 0
@@ -32,7 +32,7 @@ Leads n p i a c = AsGood (loss n p.of.items i) (start_of p i) a c
 
 -- as good as c where c has room
 abbrev pub LeadsOpen : Net → ℕ → Partitioning → ℕ → ℕ → ℕ → Type 0
-LeadsOpen n size p i a c = has_room size (parts_of p) c ≡ true → Leads n p i a c
+LeadsOpen n size p i a c = has_room size (held_parts p) c ≡ true → Leads n p i a c
 
 -- as good as c, or c loses at least so many
 abbrev pub LeadsOrLoses : Net → Partitioning → ℕ → ℕ → ℕ → ℕ → Type 0

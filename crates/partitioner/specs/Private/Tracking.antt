@@ -14,8 +14,8 @@ unfoldable pub reader_count : Net → List ℕ → ℕ → ℕ → ℕ
 reader_count n of x p = count_by (λ y. slice_index of y == p) (other_readers n x)
 
 -- the partitions that are kept
-abbrev pub parts_of : Partitioning → PlainParts
-parts_of p = record { count = p.count; of = p.of.items }
+abbrev pub held_parts : Partitioning → PlainParts
+held_parts p = record { count = p.count; of = p.of.items }
 
 -- the partitions before any node moves
 abbrev pub placed_parts : Placed → PlainParts

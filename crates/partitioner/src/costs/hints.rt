@@ -8,7 +8,7 @@ ghost use Rattle.partitioner.specs.Private.Gaining.{AreBegun, AreKept, IsCounted
 ghost use Rattle.partitioner.specs.Private.Hinting.{AreHints};
 ghost use Rattle.partitioner.specs.Private.Loss.{loss};
 ghost use Rattle.partitioner.specs.Private.Spotting.{AreSpots};
-ghost use Rattle.partitioner.specs.Private.Tracking.{Tracks, parts_of};
+ghost use Rattle.partitioner.specs.Private.Tracking.{Tracks, held_parts};
 
 use crate::costs::gains::{Gains, begin, count_once, missed_in, near_in, no_gains};
 use crate::counts::partitioning::Partitioning;
@@ -40,7 +40,7 @@ pub fn no_tallies(alloc: Global, count: u32) -> Result<Tallies, OutOfMemory>
 /// Counts one more in the partition of wide node x and in each with room in which it is read.
 fn hint_source(n: &FlatNet, p: &Partitioning, spots: &Spots, hints: &mut Gains, size: u32, x: u32)
     requires tracks { Tracks n.now.net p.now }
-    requires spots { AreSpots n.now.net size (parts_of p.now) spots.now }
+    requires spots { AreSpots n.now.net size (held_parts p.now) spots.now }
     requires source { x < length n.now.net.nodes }
     requires wide { is_wide n.now.net x ≡ true }
     requires long { length hints.old.spots.items ≡ p.now.count }
@@ -51,7 +51,7 @@ fn hint_source(n: &FlatNet, p: &Partitioning, spots: &Spots, hints: &mut Gains, 
     ensures counted { hints.new.counted ≡ hints.old.counted }
     ensures from { hints.new.from ≡ hints.old.from }
     ensures turn { hints.new.turn ≡ hints.old.turn }
-    ensures near { (i q : ℕ) → q < p.now.count → has_room size (parts_of p.now) q ≡ true → near_in hints.old q + one_if (is_near n.now.net p.now.of.items i q x) ≤ near_in hints.new q }
+    ensures near { (i q : ℕ) → q < p.now.count → has_room size (held_parts p.now) q ≡ true → near_in hints.old q + one_if (is_near n.now.net p.now.of.items i q x) ≤ near_in hints.new q }
     ensures once { (q : ℕ) → near_in hints.new q ≤ near_in hints.old q + 1 }
     ensures most { IsMost (near_in hints.new) hints.new.most }
     ensures kept { AreKept p.now.count hints.new }
@@ -88,7 +88,7 @@ pub fn count_hints(
     most: usize,
 )
     requires counted { IsCounted n.now.net p.now i gains.now }
-    requires spots { AreSpots n.now.net size (parts_of p.now) spots.now }
+    requires spots { AreSpots n.now.net size (held_parts p.now) spots.now }
     requires kept { AreKept p.now.count hints.old }
     ensures { AreHints n.now.net size p.now i gains.now hints.new }
 {
@@ -119,7 +119,7 @@ pub fn least_in(
     requires counted { IsCounted n.now.net p.now i gains.now }
     requires hints { AreHints n.now.net size p.now i gains.now hints.now }
     requires partition { q < p.now.count }
-    ensures { has_room size (parts_of p.now) q ≡ true → result ≤ loss n.now.net p.now.of.items i q }
+    ensures { has_room size (held_parts p.now) q ≡ true → result ≤ loss n.now.net p.now.of.items i q }
 {
     u64::from(missed_in(n, p, gains, i, q)) + u64::from(hints.counted - near_in(hints, q))
 }

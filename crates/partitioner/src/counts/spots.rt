@@ -4,7 +4,7 @@ ghost use Rattle.flat_net.specs.Net.{Net};
 ghost use Rattle.node_reads.specs.Sources.{reads_other, is_wide};
 ghost use Rattle.node_reads.specs.Private.Marking.{marked_by_row};
 ghost use Rattle.partitioner.specs.Private.Sets.{has};
-ghost use Rattle.partitioner.specs.Private.Tracking.{Tracks, parts_of};
+ghost use Rattle.partitioner.specs.Private.Tracking.{Tracks, held_parts};
 ghost use Rattle.partitioner.specs.Private.Spotting.{AreSpots, KeepsSpots};
 
 use crate::counts::counting::count_at;
@@ -96,11 +96,11 @@ pub fn shut_spots(free: &mut Sets, nets: &Sets, q: u32, nodes: u32, is_full: boo
 /// Takes partition q from the nodes of the row that are no longer read in it.
 pub fn leave_spots(n: &FlatNet, p: &Partitioning, spots: &mut Spots, size: u32, row: &[u32], q: u32)
     requires tracks { Tracks n.now.net p.now }
-    requires spots { AreSpots n.now.net size (parts_of p.now) spots.old }
+    requires spots { AreSpots n.now.net size (held_parts p.now) spots.old }
     requires row { All (λ x. x < length n.now.net.nodes) row.now }
     requires wide { All (λ x. is_wide n.now.net x ≡ true) row.now }
     requires partition { q < p.now.count }
-    ensures { AreSpots n.now.net size (parts_of p.now) spots.new }
+    ensures { AreSpots n.now.net size (held_parts p.now) spots.new }
 {
     for x in row {
         if count_at(&p.counts, *x, q) == 0 {
@@ -113,8 +113,8 @@ pub fn leave_spots(n: &FlatNet, p: &Partitioning, spots: &mut Spots, size: u32, 
 /// Shuts all full partitions.
 pub fn shut_full(n: &FlatNet, p: &Partitioning, spots: &mut Spots, size: u32)
     requires tracks { Tracks n.now.net p.now }
-    requires spots { AreSpots n.now.net size (parts_of p.now) spots.old }
-    ensures { AreSpots n.now.net size (parts_of p.now) spots.new }
+    requires spots { AreSpots n.now.net size (held_parts p.now) spots.old }
+    ensures { AreSpots n.now.net size (held_parts p.now) spots.new }
 {
     let nodes = nodes_of(n);
     for q in 0..p.count {
@@ -148,7 +148,7 @@ fn note_readers(
 /// Where the readers of all wide nodes stand, as if each partition had room.
 pub fn spots_of(alloc: Global, n: &FlatNet, p: &Partitioning) -> Result<Spots, OutOfMemory>
     requires { Tracks n.now.net p.now }
-    ensures { IfOk result (λ spots. (size : ℕ) → AreSpots n.now.net size (parts_of p.now) spots) }
+    ensures { IfOk result (λ spots. (size : ℕ) → AreSpots n.now.net size (held_parts p.now) spots) }
 {
     let nodes = nodes_of(n);
     let free = Sets::empty(alloc, nodes)?;

@@ -5,7 +5,7 @@ ghost use Rattle.node_reads.specs.Sources.{is_wide, AreOtherReaders};
 ghost use Rattle.partitioner.specs.Private.Counting.{count_at};
 ghost use Rattle.partitioner.specs.Sizes.{held};
 ghost use Rattle.partitioner.specs.Reads.{AreReads};
-ghost use Rattle.partitioner.specs.Private.Tracking.{IsPlaced, Tracks, parts_of, placed_parts, reader_count};
+ghost use Rattle.partitioner.specs.Private.Tracking.{IsPlaced, Tracks, held_parts, placed_parts, reader_count};
 
 use crate::counts::counting::{count_at, set_count};
 use crate::counts::partitioning::{Partitioning, Placed};
@@ -113,7 +113,7 @@ pub fn placed(
 pub fn tracked(alloc: Global, n: &FlatNet, placed: Placed) -> Result<Partitioning, OutOfMemory>
     requires { IsPlaced n.now.net placed }
     ensures tracks { IfOk result (λ p. Tracks n.now.net p) }
-    ensures parts { IfOk result (λ p. parts_of p ≡ placed_parts placed) }
+    ensures parts { IfOk result (λ p. held_parts p ≡ placed_parts placed) }
 {
     let Placed {
         count,
@@ -139,7 +139,7 @@ pub fn tracked(alloc: Global, n: &FlatNet, placed: Placed) -> Result<Partitionin
 pub fn track(alloc: Global, n: &FlatNet, parts: &Parts) -> Result<Partitioning, OutOfMemory>
     requires { length parts.now.of ≡ length n.now.net.nodes }
     ensures tracks { IfOk result (λ p. Tracks n.now.net p) }
-    ensures parts { IfOk result (λ p. parts_of p ≡ parts.now) }
+    ensures parts { IfOk result (λ p. held_parts p ≡ parts.now) }
 {
     let reads = reads_of(alloc, n)?;
     let placed = placed(alloc, n, reads, parts)?;

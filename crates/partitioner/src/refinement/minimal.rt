@@ -2,7 +2,7 @@
 ghost use Rattle.std.specs.Prelude.{◌≡◌, ◌<◌, ◌↔◌, ℕ, true, length, IsTrue, IfOk};
 ghost use Rattle.partitioner.specs.Sizes.{KeepsSize};
 ghost use Rattle.partitioner.specs.Refining.{IsMinimal};
-ghost use Rattle.partitioner.specs.Private.Tracking.{parts_of};
+ghost use Rattle.partitioner.specs.Private.Tracking.{held_parts};
 ghost use Rattle.partitioner.specs.Private.Ready.{IsReady};
 
 use crate::costs::hints::{Tallies, no_tallies};
@@ -17,7 +17,7 @@ use tmr_base::{OutOfMemory, Parts};
 /// Each node goes to where it stands.
 fn all_stay(n: &FlatNet, p: &Partitioning, spots: &Spots, tallies: &mut Tallies, size: u32) -> bool
     requires ready { IsReady n.now.net size p.now spots.now tallies.old }
-    ensures { IsTrue result ↔ IsMinimal n.now.net size (parts_of p.now) }
+    ensures { IsTrue result ↔ IsMinimal n.now.net size (held_parts p.now) }
 {
     if !some_room(n, p, size) {
         return true;
@@ -40,8 +40,8 @@ pub fn no_move_helps(
     settled: bool,
 ) -> bool
     requires ready { IsReady n.now.net size p.now spots.now tallies.old }
-    requires settled { settled ≡ true → IsMinimal n.now.net size (parts_of p.now) }
-    ensures { IsTrue result ↔ IsMinimal n.now.net size (parts_of p.now) }
+    requires settled { settled ≡ true → IsMinimal n.now.net size (held_parts p.now) }
+    ensures { IsTrue result ↔ IsMinimal n.now.net size (held_parts p.now) }
 {
     if settled {
         return true;

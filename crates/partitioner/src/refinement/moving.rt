@@ -4,7 +4,7 @@ ghost use Rattle.flat_net.specs.Net.{Net};
 ghost use Rattle.node_reads.specs.Private.Marking.{marked_by_row};
 ghost use Rattle.partitioner.specs.Private.Counting.{count_at};
 ghost use Rattle.partitioner.specs.Refining.{put};
-ghost use Rattle.partitioner.specs.Private.Tracking.{Tracks, parts_of};
+ghost use Rattle.partitioner.specs.Private.Tracking.{Tracks, held_parts};
 ghost use Rattle.partitioner.specs.Private.Moving.{Shifts};
 ghost use Rattle.partitioner.specs.Private.Spotting.{AreSpots};
 
@@ -58,7 +58,7 @@ fn put_node(n: &FlatNet, p: &mut Partitioning, i: u32, b: u32) -> Result<(), Out
     requires partition { b < p.old.count }
     requires apart { slice_index p.old.of.items i ≢ b }
     ensures tracks { OnOk result (Tracks n.now.net p.new) }
-    ensures parts { OnOk result (parts_of p.new ≡ put (parts_of p.old) i b) }
+    ensures parts { OnOk result (held_parts p.new ≡ put (held_parts p.old) i b) }
 {
     let a = part_of(n, p, i);
     shift_counts(&mut p.counts, p.wide.row(i), a, b)?;
@@ -77,13 +77,13 @@ pub fn move_to(
     b: u32,
 ) -> Result<(), OutOfMemory>
     requires tracks { Tracks n.now.net p.old }
-    requires spots { AreSpots n.now.net size (parts_of p.old) spots.old }
+    requires spots { AreSpots n.now.net size (held_parts p.old) spots.old }
     requires node { i < length n.now.net.nodes }
     requires partition { b < p.old.count }
     requires apart { slice_index p.old.of.items i ≢ b }
     ensures tracks { OnOk result (Tracks n.now.net p.new) }
-    ensures spots { OnOk result (AreSpots n.now.net size (parts_of p.new) spots.new) }
-    ensures parts { OnOk result (parts_of p.new ≡ put (parts_of p.old) i b) }
+    ensures spots { OnOk result (AreSpots n.now.net size (held_parts p.new) spots.new) }
+    ensures parts { OnOk result (held_parts p.new ≡ put (held_parts p.old) i b) }
 {
     let nodes = nodes_of(n);
     let a = part_of(n, p, i);

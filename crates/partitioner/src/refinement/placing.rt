@@ -4,7 +4,7 @@ ghost use Rattle.partitioner.specs.Sizes.{capacity};
 ghost use Rattle.flat_net.specs.Net.{Net};
 ghost use Rattle.node_reads.specs.Sources.{is_wide};
 ghost use Rattle.partitioner.specs.Refining.{has_room, place};
-ghost use Rattle.partitioner.specs.Private.Tracking.{IsPlaced, Tracks, parts_of, placed_parts};
+ghost use Rattle.partitioner.specs.Private.Tracking.{IsPlaced, Tracks, held_parts, placed_parts};
 ghost use Rattle.partitioner.specs.Private.Spotting.{AreSpots};
 ghost use Rattle.partitioner.specs.Private.Ready.{IsReady};
 ghost use Rattle.partitioner.specs.Private.Gaining.{IsCounted};
@@ -48,7 +48,7 @@ pub fn part_of(n: &FlatNet, p: &Partitioning, x: u32) -> u32
 pub fn has_room(n: &FlatNet, p: &Partitioning, size: u32, q: u32) -> bool
     requires tracks { Tracks n.now.net p.now }
     requires partition { q < p.now.count }
-    ensures { result ≡ has_room size (parts_of p.now) q }
+    ensures { result ≡ has_room size (held_parts p.now) q }
 {
     u64::from(p.held[q as usize]) < u64::from(size) + u64::from(size / 4)
 }
@@ -139,7 +139,7 @@ pub fn any_room(held: &[u32], size: u32) -> bool
 /// Some partition has room for a node that is not in it.
 pub fn some_room(n: &FlatNet, p: &Partitioning, size: u32) -> bool
     requires { Tracks n.now.net p.now }
-    ensures { result ≡ false → HasNoRoom size (parts_of p.now) }
+    ensures { result ≡ false → HasNoRoom size (held_parts p.now) }
 {
     any_room(p.held.as_slice(), size)
 }
@@ -192,7 +192,7 @@ fn hint_late(
     most: usize,
 )
     requires counted { IsCounted n.now.net p.now i gains.now }
-    requires spots { AreSpots n.now.net size (parts_of p.now) spots.now }
+    requires spots { AreSpots n.now.net size (held_parts p.now) spots.now }
     requires hints { AreHints n.now.net size p.now i gains.now hints.old }
     ensures { AreHints n.now.net size p.now i gains.now hints.new }
 {
@@ -218,12 +218,12 @@ fn consider_spots(
     tried: u64,
 ) -> Lead
     requires counted { IsCounted n.now.net p.now i gains.now }
-    requires spots { AreSpots n.now.net size (parts_of p.now) spots.now }
+    requires spots { AreSpots n.now.net size (held_parts p.now) spots.now }
     requires hints { AreHints n.now.net size p.now i gains.now hints.old }
     requires read { x < length n.now.net.nodes }
     requires wide { is_wide n.now.net x ≡ true }
     requires lead { IsLead n.now.net size p.now i lead }
-    requires least { (c : ℕ) → c < p.now.count → has_room size (parts_of p.now) c ≡ true → LeadsOrLoses n.now.net p.now i lead.place tried c }
+    requires least { (c : ℕ) → c < p.now.count → has_room size (held_parts p.now) c ≡ true → LeadsOrLoses n.now.net p.now i lead.place tried c }
     ensures lead { IsLead n.now.net size p.now i result }
     ensures kept { (c : ℕ) → Leads n.now.net p.now i lead.place c → Leads n.now.net p.now i result.place c }
     ensures tried { LeadsReaders n.now.net size p.now i result.place x }
@@ -262,11 +262,11 @@ fn consider_source(
     tried: u64,
 ) -> Lead
     requires counted { IsCounted n.now.net p.now i gains.now }
-    requires spots { AreSpots n.now.net size (parts_of p.now) spots.now }
+    requires spots { AreSpots n.now.net size (held_parts p.now) spots.now }
     requires hints { AreHints n.now.net size p.now i gains.now hints.old }
     requires read { x < length n.now.net.nodes }
     requires lead { IsLead n.now.net size p.now i lead }
-    requires least { (c : ℕ) → c < p.now.count → has_room size (parts_of p.now) c ≡ true → LeadsOrLoses n.now.net p.now i lead.place tried c }
+    requires least { (c : ℕ) → c < p.now.count → has_room size (held_parts p.now) c ≡ true → LeadsOrLoses n.now.net p.now i lead.place tried c }
     ensures lead { IsLead n.now.net size p.now i result }
     ensures kept { (c : ℕ) → Leads n.now.net p.now i lead.place c → Leads n.now.net p.now i result.place c }
     ensures own { LeadsOpen n.now.net size p.now i result.place (start_of p.now x) }
@@ -296,10 +296,10 @@ fn best_place(
     lead: Lead,
 ) -> u32
     requires counted { IsCounted n.now.net p.now i gains.now }
-    requires spots { AreSpots n.now.net size (parts_of p.now) spots.now }
+    requires spots { AreSpots n.now.net size (held_parts p.now) spots.now }
     requires hints { AreHints n.now.net size p.now i gains.now hints.old }
     requires lead { IsLead n.now.net size p.now i lead }
-    ensures place { result ≡ place n.now.net size (parts_of p.now) i }
+    ensures place { result ≡ place n.now.net size (held_parts p.now) i }
     ensures hints { AreHints n.now.net size p.now i gains.now hints.new }
 {
     let start = part_of(n, p, i);
@@ -329,7 +329,7 @@ pub fn place_of(
 ) -> Found
     requires ready { IsReady n.now.net size p.now spots.now tallies.old }
     requires node { i < length n.now.net.nodes }
-    ensures place { result.place ≡ place n.now.net size (parts_of p.now) i }
+    ensures place { result.place ≡ place n.now.net size (held_parts p.now) i }
     ensures content { result.content ≡ true → IsContent n.now.net p.now.of.items i }
     ensures ready { IsReady n.now.net size p.now spots.now tallies.new }
 {

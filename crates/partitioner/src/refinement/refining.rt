@@ -6,7 +6,7 @@ ghost use Rattle.partitioner.specs.Cost.{cost};
 ghost use Rattle.partitioner.specs.Sizes.{KeepsSize};
 ghost use Rattle.partitioner.specs.Reads.{AreReads};
 ghost use Rattle.partitioner.specs.Refining.{move, pass, place, refined, IsMinimal};
-ghost use Rattle.partitioner.specs.Private.Tracking.{IsPlaced, Tracks, parts_of, placed_parts};
+ghost use Rattle.partitioner.specs.Private.Tracking.{IsPlaced, Tracks, held_parts, placed_parts};
 ghost use Rattle.partitioner.specs.Private.Ready.{IsReady};
 ghost use Rattle.partitioner.specs.Private.Resting.{Rests};
 
@@ -41,9 +41,9 @@ fn move_node(
     requires node { i < length n.now.net.nodes }
     ensures ready { OnOk result (IsReady n.now.net size p.new spots.new tallies.new) }
     ensures rests { OnOk result (Rests n.now.net p.new.of.items rest.new) }
-    ensures parts { OnOk result (parts_of p.new ≡ move n.now.net size (parts_of p.old) i) }
-    ensures still { IfOk result (λ moved. moved ≡ false → parts_of p.new ≡ parts_of p.old) }
-    ensures stays { IfOk result (λ moved. moved ≡ false → place n.now.net size (parts_of p.old) i ≡ slice_index p.old.of.items i) }
+    ensures parts { OnOk result (held_parts p.new ≡ move n.now.net size (held_parts p.old) i) }
+    ensures still { IfOk result (λ moved. moved ≡ false → held_parts p.new ≡ held_parts p.old) }
+    ensures stays { IfOk result (λ moved. moved ≡ false → place n.now.net size (held_parts p.old) i ≡ slice_index p.old.of.items i) }
 {
     if is_resting(n, p, rest, i) {
         return Ok(false);
@@ -74,9 +74,9 @@ fn pass_once(
     requires rests { Rests n.now.net p.old.of.items rest.old }
     ensures ready { OnOk result (IsReady n.now.net size p.new spots.new tallies.new) }
     ensures rests { OnOk result (Rests n.now.net p.new.of.items rest.new) }
-    ensures parts { OnOk result (parts_of p.new ≡ pass n.now.net size (parts_of p.old)) }
-    ensures still { IfOk result (λ moved. moved ≡ false → parts_of p.new ≡ parts_of p.old) }
-    ensures minimal { IfOk result (λ moved. moved ≡ false → IsMinimal n.now.net size (parts_of p.new)) }
+    ensures parts { OnOk result (held_parts p.new ≡ pass n.now.net size (held_parts p.old)) }
+    ensures still { IfOk result (λ moved. moved ≡ false → held_parts p.new ≡ held_parts p.old) }
+    ensures minimal { IfOk result (λ moved. moved ≡ false → IsMinimal n.now.net size (held_parts p.new)) }
 {
     if !some_room(n, p, size) {
         return Ok(false);
@@ -104,8 +104,8 @@ fn pass_often(
     requires rests { Rests n.now.net p.old.of.items rest.old }
     ensures ready { OnOk result (IsReady n.now.net size p.new spots.new tallies.new) }
     ensures rests { OnOk result (Rests n.now.net p.new.of.items rest.new) }
-    ensures parts { OnOk result (parts_of p.new ≡ refined n.now.net size (parts_of p.old) passes) }
-    ensures minimal { IfOk result (λ settled. settled ≡ true → IsMinimal n.now.net size (parts_of p.new)) }
+    ensures parts { OnOk result (held_parts p.new ≡ refined n.now.net size (held_parts p.old) passes) }
+    ensures minimal { IfOk result (λ settled. settled ≡ true → IsMinimal n.now.net size (held_parts p.new)) }
 {
     let mut left = passes;
     while left > 0 {
@@ -135,8 +135,8 @@ fn pass_all(
 ) -> Result<Passed, OutOfMemory>
     requires { Tracks n.now.net p.old }
     ensures ready { IfOk result (λ passed. IsReady n.now.net size p.new passed.spots passed.tallies) }
-    ensures parts { OnOk result (parts_of p.new ≡ refined n.now.net size (parts_of p.old) passes) }
-    ensures minimal { IfOk result (λ passed. passed.settled ≡ true → IsMinimal n.now.net size (parts_of p.new)) }
+    ensures parts { OnOk result (held_parts p.new ≡ refined n.now.net size (held_parts p.old) passes) }
+    ensures minimal { IfOk result (λ passed. passed.settled ≡ true → IsMinimal n.now.net size (held_parts p.new)) }
 {
     let mut spots = spots_of(alloc, n, p)?;
     shut_full(n, p, &mut spots, size);

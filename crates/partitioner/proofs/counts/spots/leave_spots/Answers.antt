@@ -1,6 +1,6 @@
 use Rattle.std.proofs.Common.{◌≡◌, ◌<◌, ◌∙◌, length, get_or, sym, subst}
 use Rattle.partitioner.specs.declared.counts.spots.Spots.{Spots}
-use Rattle.partitioner.specs.Private.Tracking.{parts_of, reader_count}
+use Rattle.partitioner.specs.Private.Tracking.{held_parts, reader_count}
 use Rattle.partitioner.specs.Private.Spotting.{AreSpots}
 use Rattle.partitioner.proofs.SpotLaws.{spots_left}
 use Rattle.partitioner.proofs.counts.spots.leave_spots.Goals as goal
@@ -9,7 +9,7 @@ use Rattle.partitioner.proofs.counts.spots.leave_spots.Goals.{then-count_at-eq0,
 pub loop-x-preserved : goal.loop-x-preserved
 loop-x-preserved c =
     let n = c.args.n.now.net in
-    let parts = parts_of c.args.p.now in
+    let parts = held_parts c.args.p.now in
     let x = get_or c.args.row.now c.loop-x.x-index 0 in
     let within : x < length n.nodes = c.requires.row c.loop-x.x-index 0 c.loop-x-test.true in
     let counted = c.requires.tracks.counts x c.args.q within c.requires.partition (c.requires.wide c.loop-x.x-index 0 c.loop-x-test.true) in

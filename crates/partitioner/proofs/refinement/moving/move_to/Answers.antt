@@ -5,7 +5,7 @@ use Rattle.tmr_base.specs.Parts.{PlainParts}
 use Rattle.node_reads.specs.Sources.{is_wide, wide_sources}
 use Rattle.partitioner.specs.Private.Sets.{has}
 use Rattle.partitioner.specs.Refining.{has_room, put}
-use Rattle.partitioner.specs.Private.Tracking.{parts_of}
+use Rattle.partitioner.specs.Private.Tracking.{held_parts}
 use Rattle.partitioner.specs.Private.Spotting.{AreSpots}
 use Rattle.node_reads.proofs.WideRows.{wide_below, wide_pass}
 use Rattle.partitioner.proofs.SpotLaws.{NotesMoved, spots_moved}
@@ -20,7 +20,7 @@ note_spots-requires-clause-row c =
 pub leave_spots-requires-clause-spots : goal.leave_spots-requires-clause-spots
 leave_spots-requires-clause-spots c =
     let n = c.args.n.now.net in
-    let parts = parts_of c.args.p.now in
+    let parts = held_parts c.args.p.now in
     let row : c.row.result.now ≡ wide_sources n c.args.i = c.row.ensures ∙ c.in_ok-put_node.ensures.tracks.wide c.args.i c.requires.node in
     let notes : NotesMoved n c.args.i c.args.b c.args.spots.now c.note_spots.new.spots = record {
       free_long = c.in_ok-note_spots.ensures.kept.free_long;
@@ -46,8 +46,8 @@ leave_spots-requires-clause-spots c =
     yes true e = absurd (true≢false e)
     yes false e = refl
 
-    full : has_room c.args.size (parts_of c.args.p.now) (get_or c.args.p.now.of.items c.args.i 0) ≡ false → not c.has_room-was_full.result ≡ true
-    full shut = yes c.has_room-was_full.result (c.has_room-was_full.ensures ∙ (ap (has_room c.args.size (parts_of c.args.p.now)) c.part_of-a.ensures.value ∙ shut))
+    full : has_room c.args.size (held_parts c.args.p.now) (get_or c.args.p.now.of.items c.args.i 0) ≡ false → not c.has_room-was_full.result ≡ true
+    full shut = yes c.has_room-was_full.result (c.has_room-was_full.ensures ∙ (ap (has_room c.args.size (held_parts c.args.p.now)) c.part_of-a.ensures.value ∙ shut))
 
 pub leave_spots-requires-clause-row : goal.leave_spots-requires-clause-row
 leave_spots-requires-clause-row c =

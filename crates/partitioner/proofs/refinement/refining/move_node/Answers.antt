@@ -1,6 +1,6 @@
 use Rattle.std.proofs.Common.{◌<◌, ℕ, List, refl, sym, ap, subst, arith}
 use Rattle.tmr_base.specs.Parts.{PlainParts}
-use Rattle.partitioner.specs.Private.Tracking.{parts_of}
+use Rattle.partitioner.specs.Private.Tracking.{held_parts}
 use Rattle.partitioner.specs.Private.Resting.{Rests}
 use Rattle.partitioner.proofs.PlaceLaws.{content_stays}
 use Rattle.partitioner.proofs.RefineLaws.{place_in_range, move_stays}
@@ -11,7 +11,7 @@ pub move_to-requires-clause-partition : goal.move_to-requires-clause-partition
 move_to-requires-clause-partition c =
     let p = c.args.p.now in
     subst (λ (q : ℕ). q < p.count) (sym c.place_of-found.ensures.place)
-    (place_in_range c.args.n.now.net c.args.size (parts_of p) c.args.i (omega (arith, c.part_of.ensures.range, c.part_of.ensures.value)))
+    (place_in_range c.args.n.now.net c.args.size (held_parts p) c.args.i (omega (arith, c.part_of.ensures.range, c.part_of.ensures.value)))
 
 pub returns-then-is_resting-clause-stays : goal.returns-then-is_resting-clause-stays
 returns-then-is_resting-clause-stays c = λ e.
@@ -21,7 +21,7 @@ returns-then-is_resting-clause-stays c = λ e.
 pub returns-then-is_resting-clause-parts : goal.returns-then-is_resting-clause-parts
 returns-then-is_resting-clause-parts c =
     let rests = c.if-is_resting.ensures.0 refl in
-    sym (move_stays c.args.n.now.net c.args.size (parts_of c.args.p.now) c.args.i
+    sym (move_stays c.args.n.now.net c.args.size (held_parts c.args.p.now) c.args.i
     (content_stays c.args.n.now.net c.args.size c.args.p.now c.args.i c.requires.ready.tracks c.requires.node (c.requires.rests.content c.args.i c.requires.node rests)))
 
 pub returns-then-found-clause-stays : goal.returns-then-found-clause-stays
@@ -30,7 +30,7 @@ returns-then-found-clause-stays c = λ e.
 
 pub returns-then-found-clause-parts : goal.returns-then-found-clause-parts
 returns-then-found-clause-parts c =
-    sym (move_stays c.args.n.now.net c.args.size (parts_of c.args.p.now) c.args.i
+    sym (move_stays c.args.n.now.net c.args.size (held_parts c.args.p.now) c.args.i
     (content_stays c.args.n.now.net c.args.size c.args.p.now c.args.i c.requires.ready.tracks c.requires.node (c.place_of-found.ensures.content c.if-found.true)))
 
 pub returns-then-found-clause-rests : goal.returns-then-found-clause-rests
