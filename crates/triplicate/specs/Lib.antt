@@ -11,4 +11,5 @@ pub mod Given
 pub mod Starts
 pub mod Taps
 pub mod Planned
+pub mod Surveyed
 pub mod Private

@@ -2,35 +2,57 @@
 ghost use Rattle.std.specs.Prelude.{◌≡◌, ◌<◌, ◌≤◌, ◌⊎◌, length, IfOk};
 ghost use Rattle.feedback_cut.specs.Cut.{CutsLoops, OrdersUncut};
 ghost use Rattle.feedback_cut.specs.Inner.{inner_rows};
+ghost use Rattle.partitioner.specs.Reads.{AreReads};
 ghost use Rattle.partitioner.specs.Sizes.{KeepsSize};
 ghost use Rattle.triplicate.specs.Choices.{IsCutOf};
+ghost use Rattle.triplicate.specs.Surveyed.{IsSurvey};
 ghost use Rattle.triplicate.specs.Private.Chosen.{AreChosen, AreTold};
 
 use crate::form::Form;
-use clustering::clusters;
-use critical_paths::shortened;
+use crate::surveying::{LeanSurvey, Survey, lean_survey};
+use clustering::{Level, clusters_from};
+use critical_paths::shortened_from;
 use feedback_cut::{OrderedCut, cut_in_order, cut_registers};
 use flat_net::FlatNet;
-use partitioner::{Refined, plain, refine_counted};
+use partitioner::{Reads, Refined, RefinedFrom, plain, refine_from};
 use std::alloc::Global;
 use tmr_base::{OutOfMemory, Parts};
 
+/// Partitions, and what was looked up for them.
+#[derive(Drop)]
+pub(crate) struct Chosen {
+    pub(crate) refined: Refined,
+    pub(crate) survey: Survey,
+}
+
 /// Partitions refined from the plain cut.
-fn plain_partitions(alloc: Global, n: &FlatNet, size: u32) -> Result<Refined, OutOfMemory>
-    requires { 0 < size }
-    ensures { IfOk result (λ r. AreChosen Form.Plain n.now.net size r) }
+fn plain_partitions(
+    alloc: Global,
+    n: &FlatNet,
+    reads: Reads,
+    size: u32,
+) -> Result<RefinedFrom, OutOfMemory>
+    requires size { 0 < size }
+    requires reads { AreReads n.now.net reads }
+    ensures chosen { IfOk result (λ r. AreChosen Form.Plain n.now.net size r.refined) }
+    ensures reads { IfOk result (λ r. AreReads n.now.net r.reads) }
 {
     let start = plain(alloc, n, size)?;
-    let refined = refine_counted(alloc, n, &start, size, 8)?;
+    let refined = refine_from(alloc, n, reads, &start, size, 8)?;
     Ok(refined)
 }
 
 /// Partitions that keep the rule of sizes.
-fn clustered(alloc: Global, n: &FlatNet, size: u32) -> Result<Parts, OutOfMemory>
+fn clustered(
+    alloc: Global,
+    n: &FlatNet,
+    levels: &mut Vec<Level>,
+    size: u32,
+) -> Result<Parts, OutOfMemory>
     requires { 0 < size }
     ensures { IfOk result (λ parts. KeepsSize n.now.net size parts) }
 {
-    let parts = clusters(alloc, n, size)?;
+    let parts = clusters_from(alloc, n, levels, size)?;
     Ok(parts)
 }
 
@@ -60,38 +82,106 @@ fn within(most: u64, first: Refined, second: Refined) -> Refined
 fn refined_from(
     alloc: Global,
     n: &FlatNet,
+    reads: Reads,
     start: &Parts,
     size: u32,
     passes: u32,
-) -> Result<Refined, OutOfMemory>
+) -> Result<RefinedFrom, OutOfMemory>
     requires size { 0 < size }
+    requires reads { AreReads n.now.net reads }
     requires start { KeepsSize n.now.net size start.now }
-    ensures { IfOk result (λ r. AreTold n.now.net size r) }
+    ensures told { IfOk result (λ r. AreTold n.now.net size r.refined) }
+    ensures reads { IfOk result (λ r. AreReads n.now.net r.reads) }
 {
-    let refined = refine_counted(alloc, n, start, size, passes)?;
+    let refined = refine_from(alloc, n, reads, start, size, passes)?;
     Ok(refined)
 }
 
 /// Partitions refined from clusters, and then moved off long paths, where these cost no more than those refined from the plain cut; else
 /// the cheaper of both as they were refined. No pass follows the moves: it would take them back.
-fn lean_partitions(alloc: Global, n: &FlatNet, size: u32) -> Result<Refined, OutOfMemory>
-    requires { 0 < size }
-    ensures { IfOk result (λ r. AreChosen Form.Lean n.now.net size r) }
+fn lean_partitions(
+    alloc: Global,
+    n: &FlatNet,
+    reads: Reads,
+    survey: &mut LeanSurvey,
+    size: u32,
+) -> Result<RefinedFrom, OutOfMemory>
+    requires size { 0 < size }
+    requires reads { AreReads n.now.net reads }
+    ensures chosen { IfOk result (λ r. AreChosen Form.Lean n.now.net size r.refined) }
+    ensures reads { IfOk result (λ r. AreReads n.now.net r.reads) }
 {
-    let standard = plain_partitions(alloc, n, size)?;
+    let first = plain_partitions(alloc, n, reads, size)?;
+    let standard = first.refined;
     let before = standard.before;
     let most = standard.cost;
-    let start = clustered(alloc, n, size)?;
-    let lean = refined_from(alloc, n, &start, size, 8)?;
-    let short = shortened(alloc, n, &lean.parts, size)?;
-    let fast = refined_from(alloc, n, &short, size, 0)?;
-    let other = cheaper(standard, lean);
-    let chosen = within(most, fast, other);
-    Ok(Refined {
+    let start = clustered(alloc, n, &mut survey.levels, size)?;
+    let lean = refined_from(alloc, n, first.reads, &start, size, 8)?;
+    let short = shortened_from(
+        alloc,
+        n,
+        &lean.reads,
+        &survey.circuit,
+        &lean.refined.parts,
+        size,
+    )?;
+    let fast = refined_from(alloc, n, lean.reads, &short, size, 0)?;
+    let other = cheaper(standard, lean.refined);
+    let chosen = within(most, fast.refined, other);
+    let refined = Refined {
         parts: chosen.parts,
         cost: chosen.cost,
         before,
         minimal: chosen.minimal,
+    };
+    let reads = fast.reads;
+    Ok(RefinedFrom { refined, reads })
+}
+
+/// The same, and what was looked up for the next plan.
+fn lean_planned(
+    alloc: Global,
+    n: &FlatNet,
+    survey: Survey,
+    size: u32,
+) -> Result<Chosen, OutOfMemory>
+    requires size { 0 < size }
+    requires survey { IsSurvey n.now.net survey }
+    ensures chosen { IfOk result (λ r. AreChosen Form.Lean n.now.net size r.refined) }
+    ensures survey { IfOk result (λ r. IsSurvey n.now.net r.survey) }
+{
+    let Survey { reads, lean } = survey;
+    let mut lean = lean_survey(alloc, n, lean)?;
+    let found = lean_partitions(alloc, n, reads, &mut lean, size)?;
+    Ok(Chosen {
+        refined: found.refined,
+        survey: Survey {
+            reads: found.reads,
+            lean: Some(lean),
+        },
+    })
+}
+
+/// Partitions refined from the plain cut, and what was looked up for the next plan.
+fn plain_planned(
+    alloc: Global,
+    n: &FlatNet,
+    survey: Survey,
+    size: u32,
+) -> Result<Chosen, OutOfMemory>
+    requires size { 0 < size }
+    requires survey { IsSurvey n.now.net survey }
+    ensures chosen { IfOk result (λ r. AreChosen Form.Plain n.now.net size r.refined) }
+    ensures survey { IfOk result (λ r. IsSurvey n.now.net r.survey) }
+{
+    let Survey { reads, lean } = survey;
+    let found = plain_partitions(alloc, n, reads, size)?;
+    Ok(Chosen {
+        refined: found.refined,
+        survey: Survey {
+            reads: found.reads,
+            lean,
+        },
     })
 }
 
@@ -99,15 +189,18 @@ fn lean_partitions(alloc: Global, n: &FlatNet, size: u32) -> Result<Refined, Out
 pub(crate) fn partitions(
     alloc: Global,
     n: &FlatNet,
+    survey: Survey,
     form: Form,
     size: u32,
-) -> Result<Refined, OutOfMemory>
-    requires { 0 < size }
-    ensures { IfOk result (λ r. AreChosen form n.now.net size r) }
+) -> Result<Chosen, OutOfMemory>
+    requires size { 0 < size }
+    requires survey { IsSurvey n.now.net survey }
+    ensures chosen { IfOk result (λ r. AreChosen form n.now.net size r.refined) }
+    ensures survey { IfOk result (λ r. IsSurvey n.now.net r.survey) }
 {
     match form {
-        Form::Plain => plain_partitions(alloc, n, size),
-        Form::Lean => lean_partitions(alloc, n, size),
+        Form::Plain => plain_planned(alloc, n, survey, size),
+        Form::Lean => lean_planned(alloc, n, survey, size),
     }
 }
 

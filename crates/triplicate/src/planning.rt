@@ -7,17 +7,21 @@ ghost use Rattle.triplicate.specs.Planned.{IsPlan, votes_in, plan_votes};
 ghost use Rattle.triplicate.specs.Numbers.{HasFewNets};
 ghost use Rattle.triplicate.specs.Starts.{AreVoterRows, AreStarts};
 ghost use Rattle.triplicate.specs.Taps.{AreTaps};
+ghost use Rattle.triplicate.specs.Surveyed.{IsSurvey};
+ghost use Rattle.triplicate.specs.Private.Chosen.{AreChosen};
 
 use crate::blocks::{block_starts, hardened_nets};
 use crate::choosing::{cut_of, partitions};
 use crate::depths::depths_of;
 use crate::form::Form;
+use crate::surveying::{Survey, survey_of};
 use crate::taps::{Taps, tap};
 use crate::voters::voting_parts;
 use crate::voting::VotedPins;
 use feedback_cut::CutPins;
 use flat_net::{FlatNet, nodes_of};
 use graph::Graph;
+use partitioner::Refined;
 use recovery_depth::{Extra, bound_in_order};
 use std::alloc::Global;
 use tmr_base::{OutOfMemory, Parts};
@@ -96,6 +100,13 @@ impl Plan {
     }
 }
 
+/// A plan, and what planning looked up of the design.
+#[derive(Drop)]
+pub struct PlanFrom {
+    pub plan: Plan,
+    pub survey: Survey,
+}
+
 /// What a hardened form of a design is made of, for partitions of this size. With `inputs` pins that read inputs are
 /// voted too, as version 2 has it; no depth is above `most`. The one refusal is want of memory.
 pub fn make_plan(
@@ -111,8 +122,53 @@ pub fn make_plan(
     requires few { net_count n.now.net + pin_total n.now.net ≤ 16777216 }
     ensures { IfOk result (λ p. IsPlan form n.now.net size inputs most p) }
 {
+    let survey = survey_of(alloc, n)?;
+    let chosen = partitions(alloc, n, survey, form, size)?;
+    let plan = plan_of(alloc, n, chosen.refined, form, size, inputs, most)?;
+    Ok(plan)
+}
+
+/// The plan of `make_plan`, from what planning looks up of the design. It comes back for the plan of another size or form.
+pub fn plan_from(
+    alloc: Global,
+    n: &FlatNet,
+    survey: Survey,
+    form: Form,
+    size: u32,
+    inputs: bool,
+    most: u32,
+) -> Result<PlanFrom, OutOfMemory>
+    requires survey { IsSurvey n.now.net survey }
+    requires size { 0 < size }
+    requires most { 0 < most }
+    requires few { net_count n.now.net + pin_total n.now.net ≤ 16777216 }
+    ensures plan { IfOk result (λ p. IsPlan form n.now.net size inputs most p.plan) }
+    ensures survey { IfOk result (λ p. IsSurvey n.now.net p.survey) }
+{
+    let chosen = partitions(alloc, n, survey, form, size)?;
+    let plan = plan_of(alloc, n, chosen.refined, form, size, inputs, most)?;
+    Ok(PlanFrom {
+        plan,
+        survey: chosen.survey,
+    })
+}
+
+/// The plan over chosen partitions.
+fn plan_of(
+    alloc: Global,
+    n: &FlatNet,
+    refined: Refined,
+    form: Form,
+    size: u32,
+    inputs: bool,
+    most: u32,
+) -> Result<Plan, OutOfMemory>
+    requires chosen { AreChosen form n.now.net size refined }
+    requires most { 0 < most }
+    requires few { net_count n.now.net + pin_total n.now.net ≤ 16777216 }
+    ensures { IfOk result (λ p. IsPlan form n.now.net size inputs most p) }
+{
     let _nodes = nodes_of(n);
-    let refined = partitions(alloc, n, form, size)?;
     let parts = refined.parts;
     let _count = parts.count();
     let found = cut_of(alloc, n, form, &parts)?;

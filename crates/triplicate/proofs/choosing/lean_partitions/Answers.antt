@@ -17,14 +17,14 @@ one_told : (n : Net) (size : ℕ) (first second chosen : Refined) → AreTold n 
 one_told n size first second chosen a b (inl e) = subst (AreTold n size) (sym e) a
 one_told n size first second chosen a b (inr e) = subst (AreTold n size) (sym e) b
 
-pub returns : goal.returns
-returns c =
+pub returns-clause-chosen : goal.returns-clause-chosen
+returns-clause-chosen c =
     let n = c.args.n.now.net in
     let size = c.args.size in
-    let standard = c.in_ok-standard.ensures in
-    let plain_told : AreTold n size c.in_ok-standard.standard = record { keeps = refined_size n size (plain_parts n size) c.in_ok-standard.standard.parts standard.parts (plain_keeps_size n size c.requires); range = standard.range; pairs = standard.pairs; minimal = standard.minimal } in
-    let other = one_told n size c.in_ok-standard.standard c.in_ok-lean.lean c.cheaper-other.result plain_told c.in_ok-lean.ensures c.cheaper-other.ensures.given in
-    let told = one_told n size c.in_ok-fast.fast c.cheaper-other.result c.within-chosen.result c.in_ok-fast.ensures other c.within-chosen.ensures.given in
+    let standard = c.in_ok-first.ensures.chosen in
+    let plain_told : AreTold n size c.in_ok-first.first.refined = record { keeps = refined_size n size (plain_parts n size) c.in_ok-first.first.refined.parts standard.parts (plain_keeps_size n size c.requires.size); range = standard.range; pairs = standard.pairs; minimal = standard.minimal } in
+    let other = one_told n size c.in_ok-first.first.refined c.in_ok-lean.lean.refined c.cheaper-other.result plain_told c.in_ok-lean.ensures.told c.cheaper-other.ensures.given in
+    let told = one_told n size c.in_ok-fast.fast.refined c.cheaper-other.result c.within-chosen.result c.in_ok-fast.ensures.told other c.within-chosen.ensures.given in
     record {
       parts = record {
         keeps = told.keeps;

@@ -3,8 +3,8 @@ use Rattle.partitioner.specs.Sizes.{KeepsSize}
 use Rattle.partitioner.proofs.RefineLaws.{refined_keeps}
 use Rattle.triplicate.proofs.choosing.refined_from.Goals as goal
 
-pub returns : goal.returns
-returns c =
+pub returns-clause-told : goal.returns-clause-told
+returns-clause-told c =
     let n = c.args.n.now.net in
     let size = c.args.size in
     let refined = c.in_ok-refined.ensures in
