@@ -106,8 +106,8 @@ edge_line parts e =
 unfoldable pub head_text : Net → List ℕ
 head_text n =
     concat (codes "digraph partitions {\n  label=\"" ∷ quoted n.model ∷ codes "\";\n  node [shape=box];\n  inputs [label=\"inputs\\n"
-    ∷ decimal (length n.inputs) ∷ codes "\", shape=ellipse];\n  outputs [label=\"outputs\\n" ∷ decimal (length n.outputs) ∷ codes "\", shape=ellipse];\n"
-    ∷ [])
+    ∷ decimal (length n.inputs) ∷ codes "\", shape=ellipse];\n  outputs [label=\"outputs\\n"
+    ∷ decimal (length n.outputs) ∷ codes "\", shape=ellipse];\n" ∷ [])
 
 -- the whole text
 abbrev pub picture_text : Net → PlainCert → List (List ℕ) → BTreeMap (ℕ × ℕ) ℕ → List ℕ

@@ -24,7 +24,8 @@ IsAbove threes i e = (c : CopyNo) → of_copy (three_at threes i) c ≤ e
 
 -- no depths that reach the labels are smaller: neither those of these partitions, nor those of partitions that hold these
 pub record AreDepths (numbers : List ℕ) (threes : List Three) (depths : List ℕ) : Type 0 where
-  pub parts : (d : ℕ → ℕ) → ((i : ℕ) → i < length numbers → IsAbove threes i (d (slice_index numbers i))) → (p : ℕ) → slice_index depths p ≤ d p
+  pub parts : (d : ℕ → ℕ) → ((i : ℕ) → i < length numbers → IsAbove threes i (d (slice_index numbers i)))
+      → (p : ℕ) → slice_index depths p ≤ d p
   pub nodes : (e : ℕ → ℕ) → ((i : ℕ) → i < length numbers → IsAbove threes i (e i))
       → ((i j : ℕ) → i < length numbers → j < length numbers → slice_index numbers i ≡ slice_index numbers j → e i ≡ e j)
       → (i : ℕ) → i < length numbers → slice_index depths (slice_index numbers i) ≤ e i

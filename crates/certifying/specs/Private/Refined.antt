@@ -12,8 +12,8 @@ use Rattle.certifying.specs.Private.Renumbered.{AreRenumbered, refined}
 use Rattle.certifying.specs.Private.Found.{AreJoined}
 
 -- what the found lists are for certificate k
-pub record AreFound (n h : Net) (k : PlainCert) (up : List ℕ) (readers : List (Option ℕ)) (depth part labels : List ℕ) (threes : List Three) (roles : List Role)
-    : Type 0 where
+pub record AreFound (n h : Net) (k : PlainCert) (up : List ℕ) (readers : List (Option ℕ)) (depth part labels : List ℕ)
+    (threes : List Three) (roles : List Role) : Type 0 where
   pub joined : AreJoined n h k up readers
   pub nodes : length part ≡ length n.nodes
   pub few : length depth < 4294967295

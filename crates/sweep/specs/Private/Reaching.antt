@@ -66,8 +66,8 @@ pub record AreReached (n : Net) (voted : ℕ → ℕ → Bool) (order : List ℕ
   pub long : length reach ≡ net_count n
   pub sound : (x tables : ℕ) → slice_index reach x ≡ tables + 1 → VotedPath n voted x tables
   pub starts : (x : ℕ) → IsStart n x → slice_index reach x ≡ 1
-  pub closed : (k y j : ℕ) → k < i → slice_index order k ≡ length n.inputs + y → IsTable (node_of n (length n.inputs + y)) → j < length (node_pins n y)
-      → 0 < along n voted reach y j → along n voted reach y j + 1 ≤ slice_index reach (length n.inputs + y)
+  pub closed : (k y j : ℕ) → k < i → slice_index order k ≡ length n.inputs + y → IsTable (node_of n (length n.inputs + y))
+      → j < length (node_pins n y) → 0 < along n voted reach y j → along n voted reach y j + 1 ≤ slice_index reach (length n.inputs + y)
   pub few : (x : ℕ) → slice_index reach x ≤ 2 * i + 1
 
 -- the most at an output

@@ -28,7 +28,8 @@ pub record ArePairBytes (p : Pair) (loaded : PairBytes) (held : Contents) : Type
 
 -- the stop is the refusal for this reason, where there was memory for it, and behind it this line of the bytes
 abbrev pub ShowsFor : {E : Type 0} → List ℕ → Result (Vec ℕ Global) E → List ℕ → ℕ → Stop → Type 0
-ShowsFor name reason bytes number why = MatchResult reason (λ r. Refuses (refused_line name r.items ++ line_shown bytes number) why) (λ _. why ≡ stop.Memory)
+ShowsFor name reason bytes number why =
+    MatchResult reason (λ r. Refuses (refused_line name r.items ++ line_shown bytes number) why) (λ _. why ≡ stop.Memory)
 
 -- the file is no design: its refusal, and behind it the line that it names
 pub record IsShownNetlist (load : Load) (text : List ℕ) (held : Contents) : Type 0 where
