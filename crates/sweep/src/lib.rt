@@ -15,4 +15,4 @@ mod votes;
 
 pub use longest::levels;
 pub use sweeping::sweep;
-pub use swept::{Swept, sweep_size};
+pub use swept::{Swept, SweptFrom, sweep_size};

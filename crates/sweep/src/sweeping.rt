@@ -1,6 +1,7 @@
 //! All sizes, and the text of a sweep.
 ghost use Rattle.std.specs.Prelude.{◌≡◌, ◌+◌, ◌<◌, ◌≤◌, ◌⊎◌, length, IfOk};
 ghost use Rattle.flat_net.specs.Net.{net_count, pin_total};
+ghost use Rattle.triplicate.specs.Surveyed.{IsSurvey};
 ghost use Rattle.sweep.specs.Sweep.{IsSweep, IsSweepText};
 
 use crate::lines::{put_original, put_swept};
@@ -9,7 +10,16 @@ use crate::swept::{Swept, sweep_size};
 use flat_net::{FreeNet, nodes_of};
 use std::alloc::Global;
 use tmr_base::OutOfMemory;
-use triplicate::Form;
+use triplicate::{Form, Survey, survey_of};
+
+/// What planning looks up of the design.
+fn survey_free(alloc: Global, n: &FreeNet) -> Result<Survey, OutOfMemory>
+    ensures { IfOk result (λ survey. IsSurvey n.now.design.net survey) }
+{
+    let net = n.net();
+    let survey = survey_of(alloc, net)?;
+    Ok(survey)
+}
 
 /// What the hardened forms of the sizes 16, 32, 64 and so on have, up to the first size that is at least the number of nodes.
 fn all_swept(
@@ -27,10 +37,15 @@ fn all_swept(
     let nodes = nodes_of(n.net());
     let mut lines = Vec::new(alloc);
     let mut size = 16;
-    lines.push(sweep_size(alloc, n, form, size, version, most)?)?;
+    let survey = survey_free(alloc, n)?;
+    let first = sweep_size(alloc, n, survey, form, size, version, most)?;
+    lines.push(first.swept)?;
+    let mut survey = first.survey;
     while size < nodes {
         size *= 2;
-        lines.push(sweep_size(alloc, n, form, size, version, most)?)?;
+        let next = sweep_size(alloc, n, survey, form, size, version, most)?;
+        lines.push(next.swept)?;
+        survey = next.survey;
     }
     Ok(lines)
 }

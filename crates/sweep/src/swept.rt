@@ -1,6 +1,8 @@
 //! What the hardened form of one size has.
-ghost use Rattle.std.specs.Prelude.{◌≡◌, ◌+◌, ◌<◌, ◌≤◌, ◌⊎◌, length, IfOk};
+ghost use Rattle.std.specs.Prelude.{◌≡◌, ◌+◌, ◌<◌, ◌≤◌, ◌⊎◌, length, nat_eq, IfOk};
 ghost use Rattle.flat_net.specs.Net.{net_count, pin_total};
+ghost use Rattle.triplicate.specs.Planned.{IsPlan};
+ghost use Rattle.triplicate.specs.Surveyed.{IsSurvey};
 ghost use Rattle.sweep.specs.Sweep.{greatest, IsSwept};
 
 use crate::counting::copy_counts;
@@ -8,10 +10,10 @@ use crate::longest::voted_levels;
 use crate::near::near_all;
 use crate::reaching::greater;
 use crate::votes::Votes;
-use flat_net::{FreeNet, nodes_of};
+use flat_net::{FlatNet, FreeNet, nodes_of};
 use std::alloc::Global;
 use tmr_base::OutOfMemory;
-use triplicate::{Form, make_plan};
+use triplicate::{Form, Plan, Survey, plan_from};
 
 /// What the hardened form of one size has.
 #[derive(Clone, Copy, Drop)]
@@ -41,29 +43,34 @@ fn greatest(depths: &[u32]) -> u32
     most
 }
 
-/// What the design made threefold in this form has, with a certificate of this version. `size` is the size of partitions; no
-/// depth is above `most`, and a bound above the number of nodes adds no voters. All is told of one pair in the hardened form,
-/// which is not made. The one refusal is want of memory.
-pub fn sweep_size(
+/// The same, and what planning looked up of the design, for the next size.
+#[derive(Drop)]
+pub struct SweptFrom {
+    pub swept: Swept,
+    pub survey: Survey,
+}
+
+/// What the design made threefold by this plan has. `net` is that of `n`.
+fn swept_of(
     alloc: Global,
     n: &FreeNet,
+    net: &FlatNet,
+    plan: &Plan,
     form: Form,
     size: u32,
     version: u8,
     most: u32,
 ) -> Result<Swept, OutOfMemory>
-    requires size { 0 < size }
     requires version { (version ≡ 1) ⊎ (version ≡ 2) }
-    requires most { 0 < most }
-    requires few { net_count n.now.design.net + pin_total n.now.design.net ≤ 16777216 }
+    requires same { net.now ≡ n.now.design }
+    requires plan { IsPlan form net.now.net size (nat_eq version 2) most plan.now }
+    requires few { net_count net.now.net + pin_total net.now.net ≤ 16777216 }
     ensures { IfOk result (λ s. IsSwept form n.now size version most s) }
 {
-    let net = n.net();
     let count = nodes_of(net);
-    let plan = make_plan(alloc, net, form, size, version == 2, most)?;
     let depths = plan.depths(alloc)?;
-    let counts = copy_counts(alloc, net, &plan)?;
-    let levels = voted_levels(alloc, net, &Votes::Planned(&plan))?;
+    let counts = copy_counts(alloc, net, plan)?;
+    let levels = voted_levels(alloc, net, &Votes::Planned(plan))?;
     let nodes = plan.nets(net) - 3 * net.input_count();
     Ok(Swept {
         size,
@@ -71,6 +78,35 @@ pub fn sweep_size(
         voters: nodes - 3 * count,
         depth: greatest(&depths),
         levels,
-        near: near_all(net, &plan, &counts, &depths),
+        near: near_all(net, plan, &counts, &depths),
+    })
+}
+
+/// What the design made threefold in this form has, with a certificate of this version. `size` is the size of partitions; no
+/// depth is above `most`, and a bound above the number of nodes adds no voters. All is told of one pair in the hardened form,
+/// which is not made. `survey` is that of the design. The one refusal is want of memory.
+pub fn sweep_size(
+    alloc: Global,
+    n: &FreeNet,
+    survey: Survey,
+    form: Form,
+    size: u32,
+    version: u8,
+    most: u32,
+) -> Result<SweptFrom, OutOfMemory>
+    requires survey { IsSurvey n.now.design.net survey }
+    requires size { 0 < size }
+    requires version { (version ≡ 1) ⊎ (version ≡ 2) }
+    requires most { 0 < most }
+    requires few { net_count n.now.design.net + pin_total n.now.design.net ≤ 16777216 }
+    ensures swept { IfOk result (λ s. IsSwept form n.now size version most s.swept) }
+    ensures survey { IfOk result (λ s. IsSurvey n.now.design.net s.survey) }
+{
+    let net = n.net();
+    let made = plan_from(alloc, net, survey, form, size, version == 2, most)?;
+    let swept = swept_of(alloc, n, net, &made.plan, form, size, version, most)?;
+    Ok(SweptFrom {
+        swept,
+        survey: made.survey,
     })
 }

@@ -4,6 +4,8 @@ use Rattle.sweep.proofs.SweepLaws.{next_swept}
 use Rattle.sweep.proofs.sweeping.all_swept.Goals as goal
 
 pub loop-size-preserved : goal.loop-size-preserved
-loop-size-preserved c =
-    next_swept c.args.form c.args.n.now c.args.version c.args.most c.loop-size.lines.items c.push-in-loop-size.new.self.items c.loop-size.size (c.loop-size.size * 2) c.in_ok-sweep_size-2.field-0 c.loop-size.invariant
-    (omega (arith, c.loop-size-test.true, c.nodes_of-nodes.ensures.count, ap (λ (d : Design). length d.net.nodes) c.net.ensures.net)) refl c.in_ok-push-2.ensures.items c.in_ok-sweep_size-2.ensures
+loop-size-preserved c = record {
+  sweeping = next_swept c.args.form c.args.n.now c.args.version c.args.most c.loop-size.lines.items c.push-in-loop-size.new.self.items c.loop-size.size (c.loop-size.size * 2) c.in_ok-next.next.swept c.loop-size.invariant.sweeping
+      (omega (arith, c.loop-size-test.true, c.nodes_of-nodes.ensures.count, ap (λ (d : Design). length d.net.nodes) c.net.ensures.net)) refl c.in_ok-push-2.ensures.items c.in_ok-next.ensures.swept;
+  survey = c.in_ok-next.ensures.survey;
+}
