@@ -28,6 +28,26 @@ fn take_text(alloc: Global, progress: &mut Progress, text: &[u8]) -> Result<(), 
     }
 }
 
+/// Takes the statement of a joined line, the first of whose lines has this number.
+fn take_statement(
+    alloc: Global,
+    progress: &mut Progress,
+    line: u32,
+    text: &[u8],
+) -> Result<(), TextFault>
+    requires text { length text.now < 2 ^ 32 - 1 }
+    requires rows { rows_in progress.old.open_model < 2 ^ 32 - 1 }
+    ensures taken { OnOk result (Takes (spoken line (tokens text.now)) progress.old progress.new (Ok tt)) }
+    ensures refused { IfErr result (λ fault. Refuses line (λ r. Takes (spoken line (tokens text.now)) progress.old progress.new r) fault) }
+    ensures sound { OnOk result (IsSound progress.old → IsSound progress.new) }
+{
+    match take_text(alloc, progress, text) {
+        Ok(()) => Ok(()),
+        Err(Refusal::Bad(kind)) => Err(TextFault::Bad { line, kind }),
+        Err(Refusal::Memory) => Err(TextFault::Memory),
+    }
+}
+
 /// Takes the statement of the joined line in hand, and begins the next.
 fn take_joined(
     alloc: Global,
@@ -43,13 +63,12 @@ fn take_joined(
     ensures number { lines.new.number ≡ lines.old.number }
 {
     let line = lines.first();
-    match take_text(alloc, progress, lines.text()) {
+    match take_statement(alloc, progress, line, lines.text()) {
         Ok(()) => {
             lines.begin();
             Ok(())
         }
-        Err(Refusal::Bad(kind)) => Err(TextFault::Bad { line, kind }),
-        Err(Refusal::Memory) => Err(TextFault::Memory),
+        Err(fault) => Err(fault),
     }
 }
 
@@ -89,6 +108,49 @@ fn take_inner(lines: &mut PendingLine, bytes: &[u8]) -> Result<(), TextFault>
     }
 }
 
+/// Takes what is left of the line in hand, and ends it.
+fn take_last(
+    alloc: Global,
+    lines: &mut PendingLine,
+    progress: &mut Progress,
+    bytes: &[u8],
+) -> Result<(), TextFault>
+    requires number { lines.old.number < 2 ^ 32 - 1 }
+    requires short { IsShort (with_bytes lines.old bytes.now) progress.old 0 }
+    ensures short { OnOk result ((more : ℕ) → IsShort (with_bytes lines.old bytes.now) progress.old more → IsShort lines.new progress.new more) }
+    ensures ok { OnOk result ((given : List ℕ) → Stands (with_bytes lines.old bytes.now) progress.old given → Stands lines.new progress.new (given ++ 10 ∷ [])) }
+    ensures bad { IfErr result (λ fault. (given : List ℕ) → Stands (with_bytes lines.old bytes.now) progress.old given → IsBadOf (given ++ 10 ∷ []) fault) }
+    ensures sound { OnOk result (IsSound progress.old → IsSound progress.new) }
+    ensures number { lines.new.number ≤ lines.old.number + 1 }
+{
+    match take_inner(lines, bytes) {
+        Ok(()) => end_line(alloc, lines, progress),
+        Err(fault) => Err(fault),
+    }
+}
+
+/// The same. A line that stands whole in one piece, and joins no next line, is read where it stands, and is not copied.
+fn take_line(
+    alloc: Global,
+    lines: &mut PendingLine,
+    progress: &mut Progress,
+    bytes: &[u8],
+) -> Result<(), TextFault>
+    requires number { lines.old.number < 2 ^ 32 - 1 }
+    requires short { IsShort (with_bytes lines.old bytes.now) progress.old 0 }
+    ensures short { OnOk result ((more : ℕ) → IsShort (with_bytes lines.old bytes.now) progress.old more → IsShort lines.new progress.new more) }
+    ensures ok { OnOk result ((given : List ℕ) → Stands (with_bytes lines.old bytes.now) progress.old given → Stands lines.new progress.new (given ++ 10 ∷ [])) }
+    ensures bad { IfErr result (λ fault. (given : List ℕ) → Stands (with_bytes lines.old bytes.now) progress.old given → IsBadOf (given ++ 10 ∷ []) fault) }
+    ensures sound { OnOk result (IsSound progress.old → IsSound progress.new) }
+    ensures number { lines.new.number ≤ lines.old.number + 1 }
+{
+    let line = lines.first();
+    match lines.pass(bytes) {
+        Some(text) => take_statement(alloc, progress, line, text),
+        None => take_last(alloc, lines, progress, bytes),
+    }
+}
+
 /// Takes bytes up to the first end of a line, or all. The result is how many.
 fn take_front(
     alloc: Global,
@@ -108,8 +170,7 @@ fn take_front(
 {
     match line_end(bytes) {
         Some(end) => {
-            take_inner(lines, &bytes[..end])?;
-            end_line(alloc, lines, progress)?;
+            take_line(alloc, lines, progress, &bytes[..end])?;
             Ok(end + 1)
         }
         None => {
