@@ -80,7 +80,7 @@ spread_words j row spread bits long third same =
         ∙ (ap (word_bit j) (third m l ∙ ap (slice_index row) e)
         ∙ (sym (bit_of_words j row k) ∙ ap (λ (bs : List Bool). bit bs k) same))
 
-forced_in-append : (j : ℕ) (fs gs : List (NetId × ℕ × ℕ)) (x : ℕ) → forced_in j (fs ++ gs) x ≡ or_else (forced_in j fs x) (forced_in j gs x)
+pub forced_in-append : (j : ℕ) (fs gs : List (NetId × ℕ × ℕ)) (x : ℕ) → forced_in j (fs ++ gs) x ≡ or_else (forced_in j fs x) (forced_in j gs x)
 forced_in-append j [] gs x = refl
 forced_in-append j (f ∷ fs) gs x = go (nat_eq f.0.0 x && word_bit j f.1) (forced_in-append j fs gs x)
   where

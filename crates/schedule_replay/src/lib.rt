@@ -5,12 +5,10 @@
 #![tactic(auto)]
 
 mod allowing;
-mod comparing;
 mod outcome;
 mod replaying;
-mod rows;
-mod running;
 mod starts;
+mod striking;
 mod waving;
 mod wide;
 mod wide_comparing;

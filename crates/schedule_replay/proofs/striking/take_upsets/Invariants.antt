@@ -3,7 +3,7 @@ use Rattle.std.specs.Prelude.{All}
 use Rattle.net_meaning.specs.Meaning.{upset_at}
 use Rattle.net_simulator.specs.Cycle.{forced_to}
 use Rattle.schedule_replay.specs.Striking.{IsUpTo, AreLatest}
-use Rattle.schedule_replay.proofs.rows.take_upsets.Given as goal
+use Rattle.schedule_replay.proofs.striking.take_upsets.Given as goal
 
 abbrev pub invariant-loop-j : goal.invariant-loop-j
 invariant-loop-j l = record {

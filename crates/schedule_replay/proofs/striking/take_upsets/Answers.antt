@@ -7,7 +7,7 @@ use Rattle.schedule_replay.proofs.Taking.{none_before, struck_more, all_struck, 
 use Rattle.certificate.specs.Cert.{role_of}
 use Rattle.schedule_replay.specs.Outcome.{part_of_role}
 use Rattle.schedule_replay.specs.Striking.{AreLatest}
-use Rattle.schedule_replay.proofs.rows.take_upsets.Goals as goal
+use Rattle.schedule_replay.proofs.striking.take_upsets.Goals as goal
 
 pub loop-j-init : goal.loop-j-init
 loop-j-init c = record {
