@@ -9,10 +9,10 @@ use Rattle.std.proofs.Math.Seq.{take-suc}
 use Rattle.tmr_base.specs.declared.ids.NetId.{NetId}
 use Rattle.table_cover.specs.Words.{word_bit, bits_of}
 use Rattle.net_meaning.specs.Meaning.{bit, row_at, value_at, spread_row}
-use Rattle.net_simulator.specs.Cycle.{forced_to, forced_in}
+use Rattle.net_simulator.specs.Cycle.{forced_in}
 use Rattle.net_simulator.proofs.Lanes.{bit_of_words, length_bits}
 use Rattle.schedules.specs.Schedule.{PlainSchedule}
-use Rattle.schedule_replay.specs.Starts.{or_else}
+use Rattle.schedule_replay.specs.Starts.{forced_to, or_else}
 use Rattle.schedule_replay.proofs.Turns.{at_place}
 use Rattle.schedule_replay.proofs.RunWords.{equal_or_not}
 use Rattle.schedule_replay.proofs.Taking.{or_none, forced_to-append, spread_is}

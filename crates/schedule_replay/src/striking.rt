@@ -2,7 +2,7 @@
 ghost use Rattle.std.specs.Prelude.{◌≡◌, ◌+◌, ◌<◌, ◌≤◌, ◌||◌, ℕ, All, OnOk, IfOk, length, nat_eq, nat_le};
 ghost use Rattle.net_meaning.specs.Meaning.{upset_at};
 ghost use Rattle.certificate.specs.Cert.{role_of};
-ghost use Rattle.net_simulator.specs.Cycle.{forced_to};
+ghost use Rattle.schedule_replay.specs.Starts.{forced_to};
 ghost use Rattle.schedule_replay.specs.Outcome.{part_of_role};
 ghost use Rattle.schedule_replay.specs.Striking.{IsTaken, AreLatest, with_strike};
 

@@ -2,7 +2,8 @@
 ghost use Rattle.std.specs.Prelude.{◌≡◌, ◌≢◌, ◌++◌, ◌+◌, ◌*◌, ◌/◌, ◌<◌, ◌≤◌, ℕ, true, false, List, Bool, All, OnOk, IfOk, None, Some, length, slice_get, slice_index};
 ghost use Rattle.table_cover.specs.Words.{word_bit, bits_of};
 ghost use Rattle.net_meaning.specs.Meaning.{row_at, spread_row, value_at, upset_at};
-ghost use Rattle.net_simulator.specs.Cycle.{forced_to, forced_in};
+ghost use Rattle.net_simulator.specs.Cycle.{forced_in};
+ghost use Rattle.schedule_replay.specs.Starts.{forced_to};
 ghost use Rattle.schedules.specs.Schedule.{PlainSchedule};
 ghost use Rattle.schedule_replay.specs.Wide.{HasTaken, HaveTaken, AreToldQuiet, IsFresh};
 ghost use Rattle.schedule_replay.specs.Private.Telling.{TellQuiet};

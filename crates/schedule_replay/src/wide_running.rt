@@ -2,7 +2,8 @@
 ghost use Rattle.std.specs.Prelude.{◌≡◌, ◌+◌, ◌*◌, ◌<◌, ◌≤◌, ℕ, All, OnOk, IfOk, IsSome, Some, length, slice_get};
 ghost use Rattle.flat_net.specs.Net.{net_count};
 ghost use Rattle.certificate.specs.Cert.{Fits};
-ghost use Rattle.net_simulator.specs.Cycle.{forced_to, forced_in};
+ghost use Rattle.net_simulator.specs.Cycle.{forced_in};
+ghost use Rattle.schedule_replay.specs.Starts.{forced_to};
 ghost use Rattle.schedules.specs.Schedule.{PlainSchedule, IsPlainSchedule};
 ghost use Rattle.schedule_replay.specs.Running.{Traces, AreTracesOf, BeginWith};
 ghost use Rattle.schedule_replay.specs.Wide.{HaveTaken, AreToldQuiet, IsWideReady, HasRunWide};

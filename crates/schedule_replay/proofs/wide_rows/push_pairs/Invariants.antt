@@ -1,7 +1,8 @@
 use Rattle.std.proofs.Common.{◌≡◌, ◌<◌, ℕ, true, false, None, take}
 use Rattle.std.specs.Prelude.{All}
 use Rattle.table_cover.specs.Words.{word_bit}
-use Rattle.net_simulator.specs.Cycle.{forced_to, forced_in}
+use Rattle.net_simulator.specs.Cycle.{forced_in}
+use Rattle.schedule_replay.specs.Starts.{forced_to}
 use Rattle.schedule_replay.proofs.wide_rows.push_pairs.Given as goal
 
 abbrev pub invariant-loop-k : goal.invariant-loop-k

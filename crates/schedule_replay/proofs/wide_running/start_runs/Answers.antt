@@ -3,7 +3,7 @@ use Rattle.std.specs.Prelude.{All, option_map}
 use Rattle.tmr_base.specs.declared.ids.NetId.{NetId}
 use Rattle.table_cover.specs.Words.{bits_of}
 use Rattle.flat_net.specs.Net.{net_count}
-use Rattle.net_simulator.specs.Cycle.{forced_to}
+use Rattle.schedule_replay.specs.Starts.{forced_to}
 use Rattle.schedule_replay.proofs.wide_running.start_runs.Goals as goal
 
 pub returns-clause-ready : goal.returns-clause-ready
