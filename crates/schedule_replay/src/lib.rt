@@ -2,6 +2,8 @@
 //!
 //! The layers above may rely on this: `is_allowed` compares all pairs of upsets; a replay's numbers are those of the one
 //! trace of each design.
+//!
+//! Up to 64 schedules are replayed at once, in words of which each has a bit. A single schedule is a list of one.
 #![tactic(auto)]
 
 mod allowing;
