@@ -1,4 +1,3 @@
-pub mod FirstRun
 pub mod Lanes
 pub mod Literals
 pub mod MarkLaws

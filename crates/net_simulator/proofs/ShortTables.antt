@@ -1,5 +1,5 @@
 -- The values of short tables in words.
-use Rattle.std.proofs.Common.{◌≡◌, ℕ, zero, suc, ◌+◌, ◌-◌, ◌*◌, ◌/◌, ◌%◌, ◌^◌, ◌<◌, Bool, true, false, not, ◌&&◌, ◌||◌, List, [], ◌∷◌, cond, get_or, length, map, slice_index, refl, sym, ◌∙◌, ap, arith}
+use Rattle.std.proofs.Common.{◌≡◌, ℕ, zero, suc, ◌+◌, ◌*◌, ◌/◌, ◌%◌, ◌^◌, ◌<◌, Bool, true, false, not, ◌&&◌, ◌||◌, List, [], ◌∷◌, get_or, length, map, slice_index, refl, sym, ◌∙◌, ap, arith}
 use Rattle.std.specs.Prelude.{nat_eq}
 use Rattle.std.specs.Option.{unwrap_or}
 use Rattle.std.proofs.lemmas.Nat.{shr-shr}
@@ -8,6 +8,11 @@ use Rattle.table_cover.specs.Words.{word_bit}
 use Rattle.table_cover.proofs.WordLaws.{word_bit_not, word_bit_ones, word_bit_zero}
 use Rattle.net_simulator.specs.Settled.{mark}
 use Rattle.net_simulator.specs.Truth.{number_from, ends_of}
+
+-- a word's last digit
+pub lowest_bit : (word : ℕ) → nat_eq (word % 2) 1 ≡ word_bit 0 word
+unfolding word_bit
+lowest_bit word = ap (λ (k : ℕ). nat_eq (k % 2) 1) (let e : word ≡ word / 2 ^ 0 = omega arith in e)
 
 -- the pin before the others chooses between two halves
 pub chosen_half : (a zero_bit one_bit : Bool) (word high : ℕ) (bits : List Bool)

@@ -21,20 +21,11 @@ pub record IsCycle (n : Net) (last : Option (List Bool)) (ins : List Bool) (forc
   pub wide : length v ≡ net_count n
   pub equations : (x : ℕ) → x < net_count n → bit v x ≡ forced_value (node_of n x) (forced x) (cycle_after last) ins (values_of last) v x
 
--- what the first pair with net x forces on it; None where no pair names it
-abbrev pub forced_to : List (NetId × Bool) → ℕ → Option Bool
-forced_to [] x = None
-forced_to (f ∷ rest) x = if nat_eq f.0.0 x then Some f.1 else forced_to rest x
-
--- the same in run j: a triple is a net, a word of the runs in which it is forced, and a word of its values there
+-- what the first triple with net x forces on it in run j; None where no triple names it there. A triple is a net, a word of the runs in
+-- which it is forced, and a word of its values there.
 abbrev pub forced_in : ℕ → List (NetId × ℕ × ℕ) → ℕ → Option Bool
 forced_in j [] x = None
 forced_in j (f ∷ rest) x = if nat_eq f.0.0 x && word_bit j f.1 then Some (word_bit j f.2) else forced_in j rest x
-
--- a simulator of one run: its design, and the values of the last cycle, if there was one
-pub record Run : Type 0 where
-  pub net : Net
-  pub last : Option (List Bool)
 
 -- a simulator of 64 runs: its design, and a word for each net in the last cycle, if there was one; bit j belongs to run j
 pub record WideRun : Type 0 where

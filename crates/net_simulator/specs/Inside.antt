@@ -1,20 +1,11 @@
--- Only private functions cite this: what the fields of the two simulators hold.
-use Rattle.std.specs.Prelude.{◌≡◌, length, option_map}
-use Rattle.table_cover.specs.Words.{bits_of}
+-- Only private functions cite this: what the fields of a simulator hold.
+use Rattle.std.specs.Prelude.{◌≡◌, length}
 use Rattle.flat_net.specs.Net.{net_count}
-use Rattle.net_simulator.specs.Cycle.{Run, WideRun}
+use Rattle.net_simulator.specs.Cycle.{WideRun}
 use Rattle.net_simulator.specs.Settled.{last_of, AreMarks}
 use Rattle.net_simulator.specs.Tables.{AreTables, entry_nets}
 use Rattle.net_simulator.specs.Truth.{AreTruths}
-use Rattle.net_simulator.specs.declared.sim.Sim.TheInside as single
 use Rattle.net_simulator.specs.declared.wide.WideSim.TheInside as wide
-
-abbrev pub run_of : single.Inside → Run
-run_of s = record { net = s.wide.net; last = option_map (bits_of 0) s.wide.last }
-
--- there is a word for each input
-pub record IsSim (s : single.Inside) : Type 0 where
-  pub row : length s.row.items ≡ length s.wide.net.inputs
 
 abbrev pub wide_run_of : wide.Inside → WideRun
 wide_run_of s = record { net = s.net.now.net; last = last_of s.started s.words.items }

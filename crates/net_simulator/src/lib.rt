@@ -8,10 +8,8 @@ mod cycle;
 mod marks;
 mod registers;
 mod short;
-mod sim;
 mod tables;
 mod truth;
 mod wide;
 
-pub use sim::Sim;
 pub use wide::WideSim;

@@ -2,13 +2,11 @@
 ghost use Rattle.std.specs.Prelude.{◌≡◌, ◌<◌, ℕ, All, IfOk, IfSome, IsSome, IsSomeAnd, None, length, slice_index, option_map};
 ghost use Rattle.table_cover.specs.Words.{bits_of};
 ghost use Rattle.flat_net.specs.Net.{net_count};
-ghost use Rattle.net_simulator.specs.Cycle.{IsCycle, forced_to, forced_in};
-ghost use Rattle.net_simulator.specs.Settled.{marked, AreMarks, last_of};
-ghost use Rattle.net_simulator.specs.Tables.{AreTables, entry_nets};
-ghost use Rattle.net_simulator.specs.Truth.{AreTruths};
+ghost use Rattle.net_simulator.specs.Cycle.{IsCycle, forced_in};
+ghost use Rattle.net_simulator.specs.Settled.{marked, AreMarks};
 
 use crate::cycle::run_cycle;
-use crate::marks::{Marks, no_marks, word_of};
+use crate::marks::{Marks, no_marks};
 use crate::tables::{Tables, tables_of};
 use crate::truth::{Truths, truths_of};
 use flat_net::FlatNet;
@@ -56,46 +54,6 @@ fn force(marks: &mut Marks, triples: &[(NetId, u64, u64)])
     }
 }
 
-/// Forces in all runs what the pairs say, and nothing else.
-fn force_alike(marks: &mut Marks, pairs: &[(NetId, bool)])
-    requires sized { AreMarks (length marks.old.forced.items) marks.old }
-    requires nets { All (λ f. f.0.0 < length marks.old.forced.items) pairs.now }
-    ensures forced { (j x : ℕ) → j < 64 → marked marks.new j x ≡ forced_to pairs.now x }
-    ensures sized { AreMarks (length marks.old.forced.items) marks.new }
-{
-    marks.release();
-    let count = pairs.len();
-    for i in 0..count {
-        let (x, value) = pairs[count - 1 - i];
-        marks.force(x, u64::MAX, word_of(value));
-    }
-}
-
-/// Gives all nets their values, where the pairs are forced in all runs.
-fn run_alike(
-    net: &FlatNet,
-    tables: &Tables,
-    truths: &Truths,
-    started: bool,
-    ins: &[u64],
-    before: &[u64],
-    forced: &[(NetId, bool)],
-    marks: &mut Marks,
-    now: &mut [u64],
-)
-    requires ins { length ins.now ≡ length net.now.net.inputs }
-    requires forced { All (λ f. f.0.0 < net_count net.now.net) forced.now }
-    requires marks { AreMarks (net_count net.now.net) marks.old }
-    requires now { length now.old ≡ net_count net.now.net }
-    requires tables { AreTables net.now.net tables.now }
-    requires truths { AreTruths net.now.net (entry_nets tables.now.entries.items) truths.now }
-    ensures cycle { (j : ℕ) → j < 64 → IsCycle net.now.net (last_of started (bits_of j before.now)) (bits_of j ins.now) (forced_to forced.now) (bits_of j now.new) }
-    ensures marks { AreMarks (net_count net.now.net) marks.new }
-{
-    force_alike(marks, forced);
-    run_cycle(net, tables, truths, started, ins, before, marks, now);
-}
-
 impl<'a> WideSim<'a> {
     /// Runs that have not begun. All room that steps need is made here, so only this call can want memory.
     pub fn new(alloc: Global, net: &'a FlatNet) -> Result<WideSim<'a>, OutOfMemory>
@@ -140,28 +98,6 @@ impl<'a> WideSim<'a> {
             ins,
             &self.before,
             &self.marks,
-            &mut self.words,
-        );
-        self.started = true;
-    }
-
-    /// The same, where each pair of `forced` is a net and its value in all runs.
-    pub(crate) fn step_alike(&mut self, ins: &[u64], forced: &[(NetId, bool)])
-        requires ins { length ins.now ≡ length self.old.net.inputs }
-        requires forced { All (λ f. f.0.0 < net_count self.old.net) forced.now }
-        ensures cycle { (j : ℕ) → j < 64 → IsSomeAnd self.new.last (λ words. IsCycle self.old.net (option_map (bits_of j) self.old.last) (bits_of j ins.now) (forced_to forced.now) (bits_of j words)) }
-        ensures net { self.new.net ≡ self.old.net }
-    {
-        mem::swap(&mut self.words, &mut self.before);
-        run_alike(
-            self.net,
-            &self.tables,
-            &self.truths,
-            self.started,
-            ins,
-            &self.before,
-            forced,
-            &mut self.marks,
             &mut self.words,
         );
         self.started = true;

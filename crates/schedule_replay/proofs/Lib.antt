@@ -1,7 +1,7 @@
 pub mod Apart
 pub mod Quiet
 pub mod RunWords
-pub mod SeenLaws
+pub mod OneSchedule
 pub mod Taking
 pub mod Counting
 pub mod MaskedLaws

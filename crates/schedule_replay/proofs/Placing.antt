@@ -17,8 +17,7 @@ use Rattle.certificate.specs.declared.role.Role.{Role}
 use Rattle.certificate.specs.declared.role.Role.TheVariants.{Copy}
 use Rattle.certificate.specs.Cert.{PlainCert, RoleIsInRange, role_of}
 use Rattle.certificate.specs.Starts.{role_start}
-use Rattle.net_simulator.specs.Cycle.{forced_to}
-use Rattle.schedule_replay.specs.Starts.{placed_starts, or_else, MarksRegisters}
+use Rattle.schedule_replay.specs.Starts.{forced_to, placed_starts, or_else, MarksRegisters}
 use Rattle.schedule_replay.proofs.Taking.{or_none, forced_to-append}
 
 -- the bit of node i

@@ -1,5 +1,5 @@
 -- A cycle with upsets and start values is the trace's next row.
-use Rattle.std.proofs.Common.{◌≡◌, ◌≢◌, ℕ, zero, suc, ◌+◌, ◌*◌, ◌-◌, ◌<◌, inl, inr, nat_lt, Bool, true, false, if◌then◌else◌, List, [], ◌++◌, length, slice_get, refl, sym, ◌∙◌, ap, subst, arith, Option, Some, None}
+use Rattle.std.proofs.Common.{◌≡◌, ◌≢◌, ℕ, zero, suc, ◌+◌, ◌*◌, ◌-◌, ◌<◌, inl, inr, nat_lt, Bool, true, false, if◌then◌else◌, List, [], length, slice_get, refl, sym, ◌∙◌, ap, subst, arith, Option, Some, None}
 use Rattle.std.specs.Prelude.{nat_eq, IsSomeAnd, All}
 use Rattle.std.specs.Option.{unwrap_or}
 use Rattle.std.proofs.lemmas.Bool.{eq-eqb, ne_eqb}
@@ -12,13 +12,13 @@ use Rattle.net_meaning.specs.Meaning.{row_at, row_before, start_at, node_value, 
 use Rattle.net_meaning.proofs.Lists.{row_at-spread}
 use Rattle.certificate.specs.Cert.{PlainCert, Fits}
 use Rattle.certificate.specs.Starts.{counted, spread_start}
-use Rattle.net_simulator.specs.Cycle.{IsCycle, cycle_after, values_of, forced_to}
+use Rattle.net_simulator.specs.Cycle.{IsCycle, cycle_after, values_of}
 use Rattle.net_simulator.specs.Forced.{forced_value}
 use Rattle.net_simulator.proofs.OneCycle.{before_cycle, one_cycle}
 use Rattle.schedules.specs.Schedule.{PlainSchedule, IsPlainSchedule, IsBefore}
 use Rattle.schedules.specs.Reading.{IsNodeOf}
 use Rattle.schedule_replay.specs.Starts.{or_else, start_in, MarksRegisters, AreStarts}
-use Rattle.schedule_replay.proofs.Taking.{or_none, forced_to-append, all_spread}
+use Rattle.schedule_replay.proofs.Taking.{or_none, all_spread}
 
 -- a mark at what is no register
 no_register : (n : Net) (free w : List Bool) (x : ℕ) → MarksRegisters n free → (IsInitOf (node_of n x) false → ⊥) → start_at n free w x ≡ None
@@ -79,15 +79,6 @@ module _ (n : Net) (free w : List Bool) (marks : MarksRegisters n free) (s : Lis
         equations = λ x h. at_row.equations x h ∙ ap (λ (u : Option Bool). forced_value (node_of n x) u (cycle_after (before_cycle tr t)) (row_at ins t) (values_of (before_cycle tr t)) v x) (same_forced x h);
       } in
       ap Some (one_cycle n valid (before_cycle tr t) (row_at ins t) (λ x. or_else (upset_at s t x) (start_in t (start_at n free w x))) v (row_at tr t) at_forced (row_is_cycle ins t is l))
-
--- what upsets and start values force together
-pub both_forced : (n : Net) (free w : List Bool) (t : ℕ) (struck starts all : List (NetId × Bool)) (s : List Upset) → all ≡ struck ++ starts → ((x : ℕ) → forced_to struck x ≡ upset_at s t x) → AreStarts n free w t starts → (x : ℕ) → x < net_count n → forced_to all x ≡ or_else (upset_at s t x) (start_in t (start_at n free w x))
-both_forced n free w t struck starts all s e upsets values x l =
-    ap (λ (fs : List (NetId × Bool)). forced_to fs x) e ∙ (forced_to-append struck starts x ∙ (ap (λ (o : Option Bool). or_else o (forced_to starts x)) (upsets x) ∙ ap (or_else (upset_at s t x)) (values x l)))
-
--- behind cycle 0 there are none
-pub no_more_starts : (n : Net) (free w : List Bool) (t : ℕ) (starts : List (NetId × Bool)) → starts ≡ [] → AreStarts n free w (suc t) starts
-no_more_starts n free w t starts e x l = ap (λ (fs : List (NetId × Bool)). forced_to fs x) e
 
 not_marked : (n : Net) (x : ℕ) → node_bit (length n.inputs) [] x ≡ false
 unfolding slot
@@ -155,8 +146,6 @@ high_nets n h k us fits all i d l = let a = all i d l in let b = fits.hardened_i
 
 pub low_nets : (n h : Net) (k : PlainCert) (us : List Upset) → Fits n h k → length h.inputs ≡ 3 * length n.inputs → All (λ u. u.net.0 < k.hardened_inputs → u.net.0 < 3 * k.original_inputs) us
 low_nets n h k us fits three i d l below = let b = fits.hardened_inputs in let c = fits.original_inputs in omega arith
-
-pub ruleset upsets_in_range = (high_nets, low_nets)
 
 pub nodes_nets : (h : Net) (us : List Upset) → All (λ u. IsNodeOf h u.net.0) us → All (λ u. u.net.0 < net_count h) us
 nodes_nets h us all i d l = (all i d l).1

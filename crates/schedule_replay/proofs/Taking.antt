@@ -18,11 +18,10 @@ use Rattle.certificate.specs.declared.role.Role.{Role}
 use Rattle.certificate.specs.declared.role.Role.TheVariants.{Copy, Voter}
 use Rattle.certificate.specs.Cert.{PlainCert, IsCert, role_of}
 use Rattle.certificate.specs.Schedules.{RoleIsIn, IsIn}
-use Rattle.net_simulator.specs.Cycle.{forced_to}
 use Rattle.schedules.specs.Schedule.{PlainSchedule, IsPlainSchedule}
 use Rattle.schedule_replay.specs.Outcome.{strikes, is_that, part_of_role}
 use Rattle.schedule_replay.specs.Striking.{IsTaken, IsUpTo, IsLastStrike, AreLatest, with_strike}
-use Rattle.schedule_replay.specs.Starts.{or_else}
+use Rattle.schedule_replay.specs.Starts.{forced_to, or_else}
 use Rattle.schedule_replay.proofs.Apart.{in_order}
 
 pub or_none : (o : Option Bool) → or_else o None ≡ o

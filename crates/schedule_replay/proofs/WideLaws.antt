@@ -1,16 +1,20 @@
 -- Runs of schedules that are stepped together.
-use Rattle.std.proofs.Common.{◌≡◌, ◌≢◌, ◌∙◌, ◌⊎◌, inl, inr, ℕ, zero, suc, ◌+◌, ◌*◌, ◌<◌, ◌≤◌, Bool, List, [], ◌++◌, ◌∷◌, length, slice_get, Option, Some, None, refl, sym, ap, subst, arith}
+use Rattle.std.proofs.Common.{◌≡◌, ◌≢◌, ◌∙◌, ◌⊎◌, inl, inr, ℕ, suc, ◌+◌, ◌*◌, ◌<◌, ◌≤◌, Bool, List, [], ◌++◌, ◌∷◌, length, slice_get, Option, Some, sym, ap, subst, arith}
 use Rattle.std.specs.Prelude.{All}
 use Rattle.std.proofs.lemmas.List.{length-replicate}
+use Rattle.tmr_base.specs.declared.ids.NetId.{NetId}
 use Rattle.tmr_base.specs.declared.ids.Upset.{Upset}
 use Rattle.flat_net.specs.Net.{Net, net_count}
 use Rattle.net_meaning.specs.Meaning.{row_at, start_at, upset_at}
 use Rattle.certificate.specs.Cert.{PlainCert, Fits}
+use Rattle.net_simulator.specs.Cycle.{forced_in}
 use Rattle.schedule_replay.specs.declared.outcome.Outcome.{Outcome}
 use Rattle.schedule_replay.specs.Outcome.{outputs_in, outputs_until, late_in}
 use Rattle.schedule_replay.specs.Running.{HasCounted, CountsFit}
-use Rattle.schedule_replay.specs.Wide.{HasNoted, Notes, HasBegun, HasTaken, IsFresh}
+use Rattle.schedule_replay.specs.Wide.{AreStartsIn, AreReplaysFrom, HasNoted, Notes, HasBegun, HasTaken, IsFresh}
+use Rattle.schedule_replay.specs.declared.starts.Starts.{Starts}
 use Rattle.schedule_replay.specs.declared.wide_rows.Progress.{Progress}
+use Rattle.schedule_replay.specs.Many.{AreReplaysOf}
 use Rattle.schedule_replay.specs.Striking.{IsTaken, AreLatest}
 use Rattle.schedules.proofs.Kept.{append_cases}
 use Rattle.schedule_replay.proofs.Quiet.{none_taken, none_struck}
@@ -18,17 +22,18 @@ use Rattle.schedule_replay.proofs.RunWords.{equal_or_not}
 use Rattle.schedules.specs.Schedule.{PlainSchedule, IsPlainSchedule}
 use Rattle.schedules.specs.Reading.{IsNodeOf}
 use Rattle.schedule_replay.specs.Starts.{or_else, start_in}
-use Rattle.schedule_replay.proofs.Starting.{high_nets, low_nets, no_starts}
-use Rattle.schedule_replay.proofs.Taking.{or_none}
+use Rattle.schedule_replay.proofs.Starting.{high_nets, low_nets, unmarked, none_given}
+use Rattle.schedule_replay.proofs.WideRows.{forced_in-append}
 
--- where nothing is marked, no start value counts
-pub no_start_in : (n : Net) (t x : ℕ) → x < net_count n → start_in t (start_at n [] [] x) ≡ None
-no_start_in n zero x l = sym (no_starts n [] x l)
-no_start_in n (suc t) x l = refl
+-- what upsets and start values force together in run j
+pub both_forced : (n : Net) (free w : List Bool) (t j : ℕ) (struck starts all : List (NetId × ℕ × ℕ)) (us : List Upset) → all ≡ struck ++ starts → ((x : ℕ) → forced_in j struck x ≡ upset_at us t x) → AreStartsIn n free w t j starts
+    → (x : ℕ) → x < net_count n → forced_in j all x ≡ or_else (upset_at us t x) (start_in t (start_at n free w x))
+both_forced n free w t j struck starts all us e upsets values x l =
+    ap (λ (fs : List (NetId × ℕ × ℕ)). forced_in j fs x) e ∙ (forced_in-append j struck starts x ∙ (ap (λ (o : Option Bool). or_else o (forced_in j starts x)) (upsets x) ∙ ap (or_else (upset_at us t x)) (values x l)))
 
--- what upsets force is all that is forced
-pub upsets_alone : (n : Net) (us : List Upset) (t x : ℕ) (forced : Option Bool) → x < net_count n → forced ≡ upset_at us t x → forced ≡ or_else (upset_at us t x) (start_in t (start_at n [] [] x))
-upsets_alone n us t x forced l e = e ∙ (sym (or_none (upset_at us t x)) ∙ ap (or_else (upset_at us t x)) (sym (no_start_in n t x l)))
+-- behind cycle 0 there are no start values
+pub no_more_starts : (n : Net) (free w : List Bool) (t j : ℕ) (starts : List (NetId × ℕ × ℕ)) → starts ≡ [] → AreStartsIn n free w (suc t) j starts
+no_more_starts n free w t j starts e x l = ap (λ (fs : List (NetId × ℕ × ℕ)). forced_in j fs x) e
 
 pub all_high_nets : (n h : Net) (k : PlainCert) (list : List PlainSchedule) → Fits n h k → All (λ s. All (λ u. u.net.0 < net_count h) s.upsets) list → All (λ s. All (λ u. u.net.0 < k.hardened_inputs + length k.roles) s.upsets) list
 all_high_nets n h k list fits all i d l = high_nets n h k _ fits (all i d l)
@@ -98,3 +103,10 @@ pub nodes_listed_nets : (h : Net) (list : List PlainSchedule) → All (λ s. All
 nodes_listed_nets h list all i d l j e m = (all i d l j e m).1
 
 pub ruleset nodes_listed = (nodes_listed_nets)
+
+-- where nothing is marked there are no start values
+pub replays_unmarked : (n h : Net) (starts : Starts) (k : PlainCert) (list : List PlainSchedule) (outcomes : List Outcome) → starts.original.items ≡ [] → starts.hardened.items ≡ [] → AreReplaysFrom n h starts k list outcomes → AreReplaysOf n h k list outcomes
+replays_unmarked n h starts k list outcomes e f is = record {
+  long = is.long;
+  each = λ j s o at_s at_o. is.each j s o [] [] [] [] at_s at_o (unmarked n) (unmarked h) (none_given n [] starts.original.items e) (none_given h [] starts.hardened.items f);
+}

@@ -1,8 +1,9 @@
 -- Numbers of outcomes that are counted in words, of which each run has a bit.
-use Rattle.std.proofs.Common.{◌≡◌, ◌∙◌, ℕ, suc, ◌+◌, ◌<◌, ◌≤◌, Bool, true, false, List, [], ◌∷◌, ◌++◌, append_assoc, length, slice_index, Option, Some, None, refl, sym, ap, subst, arith}
+use Rattle.std.proofs.Common.{◌≡◌, ◌∙◌, ℕ, suc, ◌+◌, ◌<◌, ◌≤◌, Bool, true, false, List, [], ◌∷◌, ◌++◌, append_assoc, length, slice_get, slice_index, Option, Some, None, refl, sym, ap, subst, arith}
 use Rattle.std.specs.Prelude.{IfSome, IsSome, IsSomeAnd, option_map, if◌then◌else◌}
 use Rattle.std.specs.List.{count_by}
 use Rattle.std.proofs.lemmas.List.{append-nil}
+use Rattle.std.proofs.lemmas.Option.{get_or_from_slice_get}
 use Rattle.tmr_base.specs.declared.ids.Upset.{Upset}
 use Rattle.flat_net.specs.Net.{Net}
 use Rattle.certificate.specs.Cert.{PlainCert, part_of, depth_of}
@@ -32,6 +33,9 @@ read_run None tr t x j word is e = absurd (cc)
 read_run (Some words) tr t x j word is e =
     let same : bits_of j words ≡ row_at tr t = cc in
     ap (word_bit j) is ∙ (sym (bit_of_words j words x) ∙ ap (λ (row : List Bool). bit row x) same)
+
+pub output_is : (outputs : List ℕ) (i x : ℕ) → slice_get outputs i ≡ Some x → x ≡ slice_index outputs i
+output_is outputs i x e = sym (get_or_from_slice_get outputs i x 0 e)
 
 abbrev pub difference_of : ℕ → ℕ → Bool → Bool → Bool → Bool → Difference
 difference_of t i o a b c = record { cycle = t; output = i; original = o; copies = a ∷ b ∷ c ∷ [] }

@@ -9,10 +9,10 @@ use Rattle.std.proofs.Math.Seq.{take-suc}
 use Rattle.tmr_base.specs.declared.ids.NetId.{NetId}
 use Rattle.table_cover.specs.Words.{word_bit, bits_of}
 use Rattle.net_meaning.specs.Meaning.{bit, row_at, value_at, spread_row}
-use Rattle.net_simulator.specs.Cycle.{forced_to, forced_in}
+use Rattle.net_simulator.specs.Cycle.{forced_in}
 use Rattle.net_simulator.proofs.Lanes.{bit_of_words, length_bits}
 use Rattle.schedules.specs.Schedule.{PlainSchedule}
-use Rattle.schedule_replay.specs.Starts.{or_else}
+use Rattle.schedule_replay.specs.Starts.{forced_to, or_else}
 use Rattle.schedule_replay.proofs.Turns.{at_place}
 use Rattle.schedule_replay.proofs.RunWords.{equal_or_not}
 use Rattle.schedule_replay.proofs.Taking.{or_none, forced_to-append, spread_is}
@@ -80,7 +80,7 @@ spread_words j row spread bits long third same =
         ∙ (ap (word_bit j) (third m l ∙ ap (slice_index row) e)
         ∙ (sym (bit_of_words j row k) ∙ ap (λ (bs : List Bool). bit bs k) same))
 
-forced_in-append : (j : ℕ) (fs gs : List (NetId × ℕ × ℕ)) (x : ℕ) → forced_in j (fs ++ gs) x ≡ or_else (forced_in j fs x) (forced_in j gs x)
+pub forced_in-append : (j : ℕ) (fs gs : List (NetId × ℕ × ℕ)) (x : ℕ) → forced_in j (fs ++ gs) x ≡ or_else (forced_in j fs x) (forced_in j gs x)
 forced_in-append j [] gs x = refl
 forced_in-append j (f ∷ fs) gs x = go (nat_eq f.0.0 x && word_bit j f.1) (forced_in-append j fs gs x)
   where

@@ -1,12 +1,11 @@
 -- Start values of registers whose initial value is left free.
-use Rattle.std.specs.Prelude.{◌≡◌, ℕ, zero, suc, ◌<◌, Bool, true, false, List, [], ◌∷◌, length, Option, Some, None}
+use Rattle.std.specs.Prelude.{◌≡◌, ℕ, zero, suc, ◌<◌, Bool, true, false, List, [], ◌∷◌, length, nat_eq, Option, Some, None, if◌then◌else◌}
 use Rattle.tmr_base.specs.declared.ids.NetId.{NetId}
 use Rattle.flat_net.specs.Net.{Net, net_count, node_of, IsInitOf}
 use Rattle.flat_net.specs.Free.{node_bit}
 use Rattle.net_meaning.specs.Meaning.{start_at}
 use Rattle.certificate.specs.Cert.{PlainCert}
 use Rattle.certificate.specs.Starts.{counted}
-use Rattle.net_simulator.specs.Cycle.{forced_to}
 use Rattle.schedules.specs.Schedule.{PlainSchedule}
 
 -- one bit for each node: the start values at the marked nodes, in order, and false elsewhere
@@ -21,6 +20,11 @@ abbrev pub given_starts : PlainCert → List Bool → PlainSchedule → List Boo
 given_starts k free s = placed_starts (counted k free) s.starts
 
 -- what private functions alone cite
+
+-- what the first pair with net x forces on it; None where no pair names it
+abbrev pub forced_to : List (NetId × Bool) → ℕ → Option Bool
+forced_to [] x = None
+forced_to (f ∷ rest) x = if nat_eq f.0.0 x then Some f.1 else forced_to rest x
 
 abbrev pub or_else : Option Bool → Option Bool → Option Bool
 or_else None o = o

@@ -1,17 +1,24 @@
--- A replay of several runs between two cycles. Private functions alone cite it.
-use Rattle.std.specs.Prelude.{◌≡◌, ℕ, ◌+◌, ◌*◌, ◌≤◌, ◌||◌, ◌↔◌, IsTrue, Bool, nat_eq, nat_le, List, [], ◌∷◌, ◌++◌, length, slice_get, slice_index, option_map, replicate, Some, if◌then◌else◌}
+-- A replay of up to 64 runs between two cycles. Private functions alone cite it.
+use Rattle.std.specs.Prelude.{◌≡◌, ℕ, ◌+◌, ◌*◌, ◌<◌, ◌≤◌, ◌||◌, ◌↔◌, IsTrue, Bool, nat_eq, nat_le, List, [], ◌∷◌, ◌++◌, All, length, slice_get, slice_index, option_map, replicate, Some, if◌then◌else◌}
+use Rattle.tmr_base.specs.declared.ids.NetId.{NetId}
 use Rattle.tmr_base.specs.declared.ids.Upset.{Upset}
 use Rattle.table_cover.specs.Words.{word_bit, bits_of}
-use Rattle.flat_net.specs.Net.{Net}
+use Rattle.flat_net.specs.Net.{Net, net_count}
+use Rattle.net_meaning.specs.Meaning.{start_at}
 use Rattle.certificate.specs.Cert.{PlainCert}
 use Rattle.certificate.specs.Schedules.{Allowed}
+use Rattle.net_simulator.specs.Cycle.{forced_in}
 use Rattle.net_simulator.proofs.OneCycle.{before_cycle}
 use Rattle.schedule_replay.specs.declared.outcome.Difference.{Difference}
 use Rattle.schedule_replay.specs.declared.outcome.Outcome.{Outcome}
 use Rattle.schedule_replay.specs.declared.wide_rows.Progress.{Progress}
 use Rattle.schedule_replay.specs.declared.wide_comparing.FourWords.{FourWords}
 use Rattle.schedule_replay.specs.declared.wide_running.WideRunning.{WideRunning}
-use Rattle.schedule_replay.specs.Outcome.{Counts, bits_differ, one_if}
+use Rattle.schedule_replay.specs.declared.starts.Starts.{Starts}
+use Rattle.schedule_replay.specs.Outcome.{Counts, IsReplayOf, bits_differ, one_if}
+use Rattle.schedule_replay.specs.OutcomeView.{plain_outcome}
+use Rattle.schedule_replay.specs.Running.{Traces}
+use Rattle.schedule_replay.specs.Starts.{start_in, MarksRegisters, AreStarts}
 use Rattle.schedules.specs.Schedule.{PlainSchedule}
 use Rattle.schedule_replay.specs.Striking.{IsTaken, AreLatest}
 use Rattle.schedule_replay.specs.Private.Telling.{TellQuiet}
@@ -33,17 +40,32 @@ abbrev pub AreToldQuiet : PlainCert → List PlainSchedule → ℕ → List Prog
 AreToldQuiet k list t runs =
     (j : ℕ) (s : PlainSchedule) (p : Progress) → slice_get list j ≡ Some s → slice_get runs j ≡ Some p → TellQuiet k s.upsets t p.lasts.items
 
--- the two simulators are of these designs, and there is room for a cycle's inputs
+-- the two simulators are of these designs, there is room for a cycle's inputs, and start values are of nets
 pub record IsWideReady (n h : Net) (r : WideRunning) : Type 0 where
   pub original : r.original.net ≡ n
   pub hardened : r.hardened.net ≡ h
   pub row : length r.row.items ≡ length n.inputs
   pub spread : length r.spread.items ≡ 3 * length n.inputs
+  pub original_range : All (λ f. f.0.0 < net_count n) r.original_starts.items
+  pub hardened_range : All (λ f. f.0.0 < net_count h) r.hardened_starts.items
+
+-- these triples give the marked registers of run j their start values, and nothing else, as far as cycle t goes
+abbrev pub AreStartsIn : Net → List Bool → List Bool → ℕ → ℕ → List (NetId × ℕ × ℕ) → Type 0
+AreStartsIn n free w t j starts = (x : ℕ) → x < net_count n → forced_in j starts x ≡ start_in t (start_at n free w x)
 
 -- run j has run the first t cycles of these traces
-pub record HasRunWide (tr ft : List (List Bool)) (t j : ℕ) (r : WideRunning) : Type 0 where
-  pub original : option_map (bits_of j) r.original.last ≡ before_cycle tr t
-  pub hardened : option_map (bits_of j) r.hardened.last ≡ before_cycle ft t
+pub record HasRunWide (n h : Net) (v : Traces) (t j : ℕ) (r : WideRunning) : Type 0 where
+  pub original : option_map (bits_of j) r.original.last ≡ before_cycle v.original t
+  pub hardened : option_map (bits_of j) r.hardened.last ≡ before_cycle v.hardened t
+  pub original_starts : AreStartsIn n v.marks v.starts t j r.original_starts.items
+  pub hardened_starts : AreStartsIn h v.hardened_marks v.hardened_starts t j r.hardened_starts.items
+
+-- outcome j is that of schedule j, wherever the marked registers begin with these values
+pub record AreReplaysFrom (n h : Net) (starts : Starts) (k : PlainCert) (list : List PlainSchedule) (outcomes : List Outcome) : Type 0 where
+  pub long : length outcomes ≡ length list
+  pub each : (j : ℕ) (s : PlainSchedule) (o : Outcome) (f w g u : List Bool) → slice_get list j ≡ Some s → slice_get outcomes j ≡ Some o
+      → MarksRegisters n f → MarksRegisters h g → AreStarts n f w 0 starts.original.items → AreStarts h g u 0 starts.hardened.items
+      → IsReplayOf n f w h g u k s (plain_outcome o)
 
 -- output i and its copies in cycle t of run j
 abbrev pub difference_in : FourWords → ℕ → ℕ → ℕ → Difference

@@ -2,15 +2,15 @@
 //!
 //! The layers above may rely on this: `is_allowed` compares all pairs of upsets; a replay's numbers are those of the one
 //! trace of each design.
+//!
+//! Up to 64 schedules are replayed at once, in words of which each has a bit. A single schedule is a list of one.
 #![tactic(auto)]
 
 mod allowing;
-mod comparing;
 mod outcome;
 mod replaying;
-mod rows;
-mod running;
 mod starts;
+mod striking;
 mod waving;
 mod wide;
 mod wide_comparing;

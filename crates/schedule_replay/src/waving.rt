@@ -1,5 +1,6 @@
 //! The values of the outputs in each cycle.
-ghost use Rattle.std.specs.Prelude.{◌≡◌, ◌++◌, ◌+◌, ◌*◌, ◌<◌, ◌≤◌, ℕ, List, Bool, All, OnOk, IfOk, IsSome, Some, [], length};
+ghost use Rattle.std.specs.Prelude.{◌≡◌, ◌++◌, ◌*◌, ◌<◌, ◌≤◌, List, Bool, All, OnOk, IfOk, IsSome, Some, length, option_map};
+ghost use Rattle.table_cover.specs.Words.{bits_of};
 ghost use Rattle.flat_net.specs.Net.{net_count};
 ghost use Rattle.net_meaning.specs.Meaning.{row_at};
 ghost use Rattle.certificate.specs.Cert.{Fits};
@@ -9,14 +10,16 @@ ghost use Rattle.schedule_replay.specs.Starts.{MarksRegisters, AreStarts};
 ghost use Rattle.schedule_replay.specs.Waves.{waves, wave_of, AreWavesOf, AreFreeWaves};
 
 use crate::Difference;
-use crate::comparing::read_output;
-use crate::running::{Running, advance, start};
 use crate::starts::{Starts, starts_of};
+use crate::wide_comparing::{difference, output_words};
+use crate::wide_rows::start_progress;
+use crate::wide_running::{WideRunning, advance_runs, start_runs};
 use certificate::Certificate;
 use flat_net::{FlatNet, FreeNet};
 use net_meaning::free_traces_are_unique;
 use schedules::Schedule;
 use std::alloc::Global;
+use std::slice;
 use tmr_base::OutOfMemory;
 
 /// Adds the original's value and the three copies'.
@@ -28,12 +31,12 @@ fn push_wave(d: &Difference, values: &mut Vec<bool>) -> Result<(), OutOfMemory>
     Ok(())
 }
 
-/// Adds the values of all outputs in cycle t.
+/// Adds the values of all outputs in cycle t of the first run.
 fn push_outputs(
     n: &FlatNet,
     h: &FlatNet,
     t: u32,
-    r: &Running,
+    r: &WideRunning,
     values: &mut Vec<bool>,
 ) -> Result<(), OutOfMemory>
     requires outputs { length h.now.net.outputs ≡ 3 * length n.now.net.outputs }
@@ -41,16 +44,18 @@ fn push_outputs(
     requires hardened_net { r.now.hardened.net ≡ h.now.net }
     requires original { IsSome r.now.original.last }
     requires hardened { IsSome r.now.hardened.last }
-    ensures { OnOk result ((tr ft : List (List Bool)) → r.now.original.last ≡ Some (row_at tr t) → r.now.hardened.last ≡ Some (row_at ft t) →
+    ensures { OnOk result ((tr ft : List (List Bool)) → option_map (bits_of 0) r.now.original.last ≡ Some (row_at tr t) → option_map (bits_of 0) r.now.hardened.last ≡ Some (row_at ft t) →
         values.new.items ≡ values.old.items ++ waves (outputs_in n.now.net h.now.net tr ft t (length n.now.net.outputs))) }
 {
     for i in 0..n.output_count() {
-        push_wave(&read_output(n, h, t, i, &r.original, &r.hardened), values)?;
+        let words = output_words(n, h, i, &r.original, &r.hardened);
+        push_wave(&difference(&words, t, i, 0), values)?;
     }
     Ok(())
 }
 
-/// The values where the nodes of `starts` begin with these values.
+/// The values where the nodes of `starts` begin with these values: those of a list of one schedule.
+#[tactic(auto, using(crate::proofs::OneSchedule::one_schedule))]
 fn waves_from(
     alloc: Global,
     n: &FlatNet,
@@ -72,10 +77,12 @@ fn waves_from(
     // What the two designs keep, and that there is one trace of each.
     let _known = (n.input_count(), h.input_count());
     free_traces_are_unique();
-    let mut running = start(alloc, n, h, c, s, starts)?;
+    let list = slice::from_ref(s);
+    let mut runs = start_progress(alloc, c, list)?;
+    let mut running = start_runs(alloc, n, h, &starts)?;
     let mut values = Vec::new(alloc);
     for t in 0..s.cycles() {
-        advance(n, h, c, s, t, &mut running)?;
+        advance_runs(n, h, c, list, t, &mut runs, &mut running)?;
         push_outputs(n, h, t, &running, &mut values)?;
     }
     Ok(values)

@@ -1,19 +1,19 @@
 //! Replays up to 64 schedules at once.
-ghost use Rattle.std.specs.Prelude.{◌≡◌, ◌↔◌, ◌+◌, ◌*◌, ◌<◌, ◌≤◌, ℕ, List, Bool, All, OnOk, IfOk, IsTrue, Some, [], length, slice_get};
+ghost use Rattle.std.specs.Prelude.{◌≡◌, ◌↔◌, ◌+◌, ◌*◌, ◌<◌, ◌≤◌, ℕ, All, OnOk, IfOk, IsTrue, Some, length, slice_get};
 ghost use Rattle.flat_net.specs.Net.{net_count};
 ghost use Rattle.certificate.specs.Cert.{Fits};
 ghost use Rattle.certificate.specs.Schedules.{Allowed};
-ghost use Rattle.net_meaning.specs.Meaning.{IsFreeTrace, IsFreeFaultTrace, spread};
 ghost use Rattle.validator.specs.Masking.{Masks};
 ghost use Rattle.schedule_replay.specs.declared.outcome.Outcome.{Outcome as AnOutcome};
 ghost use Rattle.schedule_replay.specs.Many.{HaveOneLength, AreReplaysOf};
 ghost use Rattle.schedules.specs.Reading.{IsNodeOf};
-ghost use Rattle.schedule_replay.specs.Running.{HasCounted, CountsFit};
+ghost use Rattle.schedule_replay.specs.Running.{Traces, AreTracesOf, HasCounted, CountsFit};
 ghost use Rattle.schedules.specs.Schedule.{PlainSchedule, IsPlainSchedule};
-ghost use Rattle.schedule_replay.specs.Wide.{HaveTaken, IsWideReady, HasRunWide, HasBegun, HaveBegun, IsFresh};
+ghost use Rattle.schedule_replay.specs.Wide.{HaveTaken, IsWideReady, HasRunWide, AreReplaysFrom, HasBegun, HaveBegun};
 
+use crate::starts::{Starts, no_starts};
 use crate::wide_comparing::{compare_nodes_wide, compare_outputs_wide};
-use crate::wide_rows::Progress;
+use crate::wide_rows::{Progress, start_progress};
 use crate::wide_running::{WideRunning, advance_runs, start_runs};
 use crate::{Outcome, is_allowed};
 use certificate::Certificate;
@@ -51,10 +51,9 @@ fn count_cycle_wide(
     ensures taken { OnOk result (HaveTaken c.now list.now (t + 1) runs.new.items) }
     ensures long { OnOk result (length o.new.items ≡ length list.now) }
     ensures bounded { OnOk result (All (λ a. CountsFit (t + 1) a) o.new.items) }
-    ensures counted { OnOk result ((j : ℕ) (s : PlainSchedule) (a b : AnOutcome) (tr ft : List (List Bool)) → slice_get list.now j ≡ Some s → slice_get o.old.items j ≡ Some a → slice_get o.new.items j ≡ Some b →
-        IsFreeTrace n.now.net [] [] s.rows tr → IsFreeFaultTrace h.now.net [] [] (spread s.rows) s.upsets ft →
-        HasRunWide tr ft t j r.old → HasCounted n.now.net h.now.net c.now s.upsets tr ft t a →
-        HasRunWide tr ft (t + 1) j r.new × HasCounted n.now.net h.now.net c.now s.upsets tr ft (t + 1) b) }
+    ensures counted { OnOk result ((j : ℕ) (s : PlainSchedule) (a b : AnOutcome) (v : Traces) → slice_get list.now j ≡ Some s → slice_get o.old.items j ≡ Some a → slice_get o.new.items j ≡ Some b → AreTracesOf n.now.net h.now.net s v →
+        HasRunWide n.now.net h.now.net v t j r.old → HasCounted n.now.net h.now.net c.now s.upsets v.original v.hardened t a →
+        HasRunWide n.now.net h.now.net v (t + 1) j r.new × HasCounted n.now.net h.now.net c.now s.upsets v.original v.hardened (t + 1) b) }
     ensures allowed { OnOk result ((j : ℕ) (a b : AnOutcome) → slice_get o.old.items j ≡ Some a → slice_get o.new.items j ≡ Some b → b.allowed ≡ a.allowed) }
 {
     let _known = n.input_count();
@@ -62,31 +61,6 @@ fn count_cycle_wide(
     compare_outputs_wide(n, h, t, &r.original, &r.hardened, o)?;
     compare_nodes_wide(n, h, c, t, &r.original, &r.hardened, runs, o);
     Ok(())
-}
-
-/// No partition was struck yet.
-fn no_progress(alloc: Global, c: &Certificate) -> Result<Progress, OutOfMemory>
-    ensures { IfOk result (λ p. IsFresh c.now p) }
-{
-    let lasts = Vec::from_elem(alloc, 0, c.parts() as usize)?;
-    Ok(Progress { next: 0, lasts })
-}
-
-/// Runs before their first upset.
-fn start_progress(
-    alloc: Global,
-    c: &Certificate,
-    list: &[Schedule],
-) -> Result<Vec<Progress>, OutOfMemory>
-    ensures { IfOk result (λ v. HaveTaken c.now list.now 0 v.items) }
-{
-    let mut runs = Vec::new(alloc);
-    for made in 0..list.len() {
-        let _made = made;
-        let progress = no_progress(alloc, c)?;
-        runs.push(progress)?;
-    }
-    Ok(runs)
 }
 
 /// Nothing was counted yet.
@@ -126,14 +100,15 @@ fn start_outcomes(
     Ok(outcomes)
 }
 
-/// The outcomes of all schedules.
+/// The outcomes of all schedules, where the nodes of `starts` begin with these values.
 #[tactic(auto, using(crate::proofs::WideLaws::all_in_range))]
-fn replay_runs(
+pub fn replay_runs(
     alloc: Global,
     n: &FlatNet,
     h: &FlatNet,
     c: &Certificate,
     list: &[Schedule],
+    starts: &Starts,
 ) -> Result<Vec<Outcome>, OutOfMemory>
     requires fits { Fits n.now.net h.now.net c.now }
     requires inputs { length h.now.net.inputs ≡ 3 * length n.now.net.inputs }
@@ -143,7 +118,9 @@ fn replay_runs(
     requires rows { All (λ s. s.inputs ≡ length n.now.net.inputs) list.now }
     requires cycles { HaveOneLength list.now }
     requires nets { All (λ s. All (λ u. u.net.0 < net_count h.now.net) s.upsets) list.now }
-    ensures outcomes { IfOk result (λ v. AreReplaysOf n.now.net h.now.net c.now list.now v.items) }
+    requires original { All (λ f. f.0.0 < net_count n.now.net) starts.now.original.items }
+    requires hardened { All (λ f. f.0.0 < net_count h.now.net) starts.now.hardened.items }
+    ensures outcomes { IfOk result (λ v. AreReplaysFrom n.now.net h.now.net starts.now c.now list.now v.items) }
     ensures plain { OnOk result (All (λ s. IsPlainSchedule s) list.now) }
 {
     // What the two designs keep, and that there is one trace of each.
@@ -151,7 +128,7 @@ fn replay_runs(
     free_traces_are_unique();
     let mut outcomes = start_outcomes(alloc, c, list)?;
     let mut runs = start_progress(alloc, c, list)?;
-    let mut running = start_runs(alloc, n, h)?;
+    let mut running = start_runs(alloc, n, h, starts)?;
     for t in 0..list[0].cycles() {
         count_cycle_wide(n, h, c, list, t, &mut runs, &mut running, &mut outcomes)?;
     }
@@ -178,7 +155,8 @@ pub fn replay_wide(
     ensures outcomes { IfOk result (λ v. AreReplaysOf n.now.net h.now.net c.now list.now v.items) }
     ensures masked { Masks n.now.net h.now.net c.now → IfOk result (λ v. All (λ o. IsTrue o.allowed → (o.wrong ≡ 0) × (o.late ≡ 0)) v.items) }
 {
-    match replay_runs(alloc, n, h, c, list) {
+    let starts = no_starts(alloc);
+    match replay_runs(alloc, n, h, c, list, &starts) {
         Ok(outcomes) => Ok(outcomes),
         Err(error) => Err(error),
     }

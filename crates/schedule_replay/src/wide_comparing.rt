@@ -13,8 +13,8 @@ ghost use Rattle.schedule_replay.specs.Wide.{AreToldQuiet, difference_in, wrong_
 ghost use Rattle.schedule_replay.specs.Private.Telling.{TellQuiet};
 
 use crate::Difference;
-use crate::comparing::is_quiet;
 use crate::outcome::{Outcome, note};
+use crate::striking::is_quiet;
 use crate::wide_rows::Progress;
 use crate::words::bit_of_run;
 use certificate::Certificate;
@@ -39,7 +39,7 @@ fn all_same(w: &FourWords) -> bool
 }
 
 /// Output i and its copies in cycle t of run j.
-fn difference(w: &FourWords, t: u32, i: u32, j: usize) -> Difference
+pub fn difference(w: &FourWords, t: u32, i: u32, j: usize) -> Difference
     requires { j < 64 }
     ensures { result ≡ difference_in w.now t i j }
 {
@@ -74,7 +74,7 @@ fn note_runs(o: &mut Vec<Outcome>, w: &FourWords, t: u32, i: u32) -> Result<(), 
 }
 
 /// Output i and its copies.
-fn output_words(
+pub fn output_words(
     n: &FlatNet,
     h: &FlatNet,
     i: u32,

@@ -1,16 +1,18 @@
 //! The rows of inputs and the upsets of a cycle, in all runs.
-ghost use Rattle.std.specs.Prelude.{◌≡◌, ◌≢◌, ◌+◌, ◌*◌, ◌/◌, ◌<◌, ◌≤◌, ℕ, List, Bool, All, OnOk, None, Some, length, slice_get, slice_index};
+ghost use Rattle.std.specs.Prelude.{◌≡◌, ◌≢◌, ◌++◌, ◌+◌, ◌*◌, ◌/◌, ◌<◌, ◌≤◌, ℕ, true, false, List, Bool, All, OnOk, IfOk, None, Some, length, slice_get, slice_index};
 ghost use Rattle.table_cover.specs.Words.{word_bit, bits_of};
 ghost use Rattle.net_meaning.specs.Meaning.{row_at, spread_row, value_at, upset_at};
-ghost use Rattle.net_simulator.specs.Cycle.{forced_to, forced_in};
+ghost use Rattle.net_simulator.specs.Cycle.{forced_in};
+ghost use Rattle.schedule_replay.specs.Starts.{forced_to};
 ghost use Rattle.schedules.specs.Schedule.{PlainSchedule};
-ghost use Rattle.schedule_replay.specs.Wide.{HasTaken, HaveTaken, AreToldQuiet};
+ghost use Rattle.schedule_replay.specs.Wide.{HasTaken, HaveTaken, AreToldQuiet, IsFresh};
 ghost use Rattle.schedule_replay.specs.Private.Telling.{TellQuiet};
 
-use crate::rows::take_upsets;
+use crate::striking::take_upsets;
 use crate::words::{run_word, value_word, with_bit};
 use certificate::Certificate;
 use schedules::Schedule;
+use std::alloc::Global;
 use tmr_base::{NetId, OutOfMemory};
 
 /// How far a run has come in its upsets: where the next ones begin, and the cycle behind the last one of each partition.
@@ -18,6 +20,31 @@ use tmr_base::{NetId, OutOfMemory};
 pub struct Progress {
     pub next: u32,
     pub lasts: Vec<u32>,
+}
+
+/// No partition was struck yet.
+fn no_progress(alloc: Global, c: &Certificate) -> Result<Progress, OutOfMemory>
+    ensures { IfOk result (λ p. IsFresh c.now p) }
+{
+    let lasts = Vec::from_elem(alloc, 0, c.parts() as usize)?;
+    Ok(Progress { next: 0, lasts })
+}
+
+/// Runs before their first upset.
+pub fn start_progress(
+    alloc: Global,
+    c: &Certificate,
+    list: &[Schedule],
+) -> Result<Vec<Progress>, OutOfMemory>
+    ensures { IfOk result (λ v. HaveTaken c.now list.now 0 v.items) }
+{
+    let mut runs = Vec::new(alloc);
+    for made in 0..list.len() {
+        let _made = made;
+        let progress = no_progress(alloc, c)?;
+        runs.push(progress)?;
+    }
+    Ok(runs)
 }
 
 /// The word of input i in cycle t.
@@ -72,6 +99,23 @@ pub fn write_rows(list: &[Schedule], t: u32, inputs: u32, row: &mut [u64], sprea
     write_spread(row, spread);
 }
 
+/// Forces in the runs of the mask what the pairs say.
+pub fn push_pairs(
+    pairs: &[(NetId, bool)],
+    mask: u64,
+    struck: &mut Vec<(NetId, u64, u64)>,
+) -> Result<(), OutOfMemory>
+    ensures own { OnOk result ((j x : ℕ) → j < 64 → word_bit j mask ≡ true → forced_in j struck.old.items x ≡ None → forced_in j struck.new.items x ≡ forced_to pairs.now x) }
+    ensures others { OnOk result ((j x : ℕ) → word_bit j mask ≡ false → forced_in j struck.new.items x ≡ forced_in j struck.old.items x) }
+    ensures nets { OnOk result ((high : ℕ) → All (λ f. f.0.0 < high) pairs.now → All (λ f. f.0.0 < high) struck.old.items → All (λ f. f.0.0 < high) struck.new.items) }
+{
+    for k in 0..pairs.len() {
+        let (x, value) = pairs[k];
+        struck.push((x, mask, value_word(mask, value)))?;
+    }
+    Ok(())
+}
+
 /// Forces in run j what the pairs say.
 fn push_run(
     pairs: &[(NetId, bool)],
@@ -83,11 +127,18 @@ fn push_run(
     ensures others { OnOk result ((i x : ℕ) → i < 64 → i ≢ j → forced_in i struck.new.items x ≡ forced_in i struck.old.items x) }
     ensures nets { OnOk result ((high : ℕ) → All (λ f. f.0.0 < high) pairs.now → All (λ f. f.0.0 < high) struck.old.items → All (λ f. f.0.0 < high) struck.new.items) }
 {
-    let mask = run_word(j);
-    for k in 0..pairs.len() {
-        let (x, value) = pairs[k];
-        struck.push((x, mask, value_word(mask, value)))?;
-    }
+    push_pairs(pairs, run_word(j), struck)?;
+    Ok(())
+}
+
+/// Adds start values behind the upsets, which come first.
+pub fn add_starts(
+    starts: &[(NetId, u64, u64)],
+    struck: &mut Vec<(NetId, u64, u64)>,
+) -> Result<(), OutOfMemory>
+    ensures { OnOk result (struck.new.items ≡ struck.old.items ++ starts.now) }
+{
+    struck.extend_from_slice(starts)?;
     Ok(())
 }
 

@@ -1,12 +1,15 @@
 //! Runs a design and its hardened form side by side, in all runs.
-ghost use Rattle.std.specs.Prelude.{◌≡◌, ◌+◌, ◌*◌, ◌<◌, ◌≤◌, ℕ, List, Bool, All, OnOk, IfOk, IsSome, None, Some, [], length, slice_get};
+ghost use Rattle.std.specs.Prelude.{◌≡◌, ◌+◌, ◌*◌, ◌<◌, ◌≤◌, ℕ, All, OnOk, IfOk, IsSome, Some, length, slice_get};
 ghost use Rattle.flat_net.specs.Net.{net_count};
 ghost use Rattle.certificate.specs.Cert.{Fits};
-ghost use Rattle.net_meaning.specs.Meaning.{IsFreeTrace, IsFreeFaultTrace, spread};
+ghost use Rattle.net_simulator.specs.Cycle.{forced_in};
+ghost use Rattle.schedule_replay.specs.Starts.{forced_to};
 ghost use Rattle.schedules.specs.Schedule.{PlainSchedule, IsPlainSchedule};
+ghost use Rattle.schedule_replay.specs.Running.{Traces, AreTracesOf, BeginWith};
 ghost use Rattle.schedule_replay.specs.Wide.{HaveTaken, AreToldQuiet, IsWideReady, HasRunWide};
 
-use crate::wide_rows::{Progress, take_runs, write_rows};
+use crate::starts::Starts;
+use crate::wide_rows::{Progress, add_starts, push_pairs, take_runs, write_rows};
 use certificate::Certificate;
 use flat_net::FlatNet;
 use net_simulator::WideSim;
@@ -14,7 +17,8 @@ use schedules::Schedule;
 use std::alloc::Global;
 use tmr_base::{NetId, OutOfMemory};
 
-/// Simulators of all runs of a design and of its hardened form, and what is given in a cycle.
+/// Simulators of all runs of a design and of its hardened form, what is given in a cycle, and the start values, which
+/// count in cycle 0.
 #[derive(Drop)]
 pub struct WideRunning<'a> {
     pub original: WideSim<'a>,
@@ -23,6 +27,8 @@ pub struct WideRunning<'a> {
     spread: Vec<u64>,
     pairs: Vec<(NetId, bool)>,
     struck: Vec<(NetId, u64, u64)>,
+    original_starts: Vec<(NetId, u64, u64)>,
+    hardened_starts: Vec<(NetId, u64, u64)>,
 }
 
 /// So many words that are 0.
@@ -32,21 +38,38 @@ fn words(alloc: Global, count: usize) -> Result<Vec<u64>, OutOfMemory>
     Ok(Vec::from_elem(alloc, 0, count)?)
 }
 
-/// Simulators before the first cycle.
+/// The pairs, forced in all runs.
+fn in_all_runs(
+    alloc: Global,
+    pairs: &[(NetId, bool)],
+) -> Result<Vec<(NetId, u64, u64)>, OutOfMemory>
+    ensures forced { IfOk result (λ v. (j x : ℕ) → j < 64 → forced_in j v.items x ≡ forced_to pairs.now x) }
+    ensures nets { IfOk result (λ v. (high : ℕ) → All (λ f. f.0.0 < high) pairs.now → All (λ f. f.0.0 < high) v.items) }
+{
+    let mut forced = Vec::new(alloc);
+    push_pairs(pairs, u64::MAX, &mut forced)?;
+    Ok(forced)
+}
+
+/// Simulators before the first cycle. In all runs the nodes of `starts` begin with these values.
 pub fn start_runs<'a>(
     alloc: Global,
     n: &'a FlatNet,
     h: &'a FlatNet,
+    starts: &Starts,
 ) -> Result<WideRunning<'a>, OutOfMemory>
+    requires original { All (λ f. f.0.0 < net_count n.now.net) starts.now.original.items }
+    requires hardened { All (λ f. f.0.0 < net_count h.now.net) starts.now.hardened.items }
     ensures ready { IfOk result (λ r. IsWideReady n.now.net h.now.net r) }
-    ensures original { IfOk result (λ r. r.original.last ≡ None) }
-    ensures hardened { IfOk result (λ r. r.hardened.last ≡ None) }
+    ensures begun { IfOk result (λ r. (j : ℕ) (v : Traces) → j < 64 → BeginWith n.now.net h.now.net v starts.now → HasRunWide n.now.net h.now.net v 0 j r) }
 {
     let inputs = n.input_count() as usize;
     let original = WideSim::new(alloc, n)?;
     let hardened = WideSim::new(alloc, h)?;
     let row = words(alloc, inputs)?;
     let spread = words(alloc, 3 * inputs)?;
+    let original_starts = in_all_runs(alloc, &starts.original)?;
+    let hardened_starts = in_all_runs(alloc, &starts.hardened)?;
     Ok(WideRunning {
         original,
         hardened,
@@ -54,6 +77,8 @@ pub fn start_runs<'a>(
         spread,
         pairs: Vec::new(alloc),
         struck: Vec::new(alloc),
+        original_starts,
+        hardened_starts,
     })
 }
 
@@ -80,15 +105,18 @@ pub fn advance_runs(
     ensures ready { OnOk result (IsWideReady n.now.net h.now.net r.new) }
     ensures taken { OnOk result (HaveTaken c.now list.now (t + 1) runs.new.items) }
     ensures quiet { OnOk result (AreToldQuiet c.now list.now t runs.new.items) }
-    ensures ran { OnOk result ((j : ℕ) (s : PlainSchedule) (tr ft : List (List Bool)) → slice_get list.now j ≡ Some s → IsFreeTrace n.now.net [] [] s.rows tr → IsFreeFaultTrace h.now.net [] [] (spread s.rows) s.upsets ft →
-        HasRunWide tr ft t j r.old → HasRunWide tr ft (t + 1) j r.new) }
+    ensures ran { OnOk result ((j : ℕ) (s : PlainSchedule) (v : Traces) → slice_get list.now j ≡ Some s → AreTracesOf n.now.net h.now.net s v →
+        HasRunWide n.now.net h.now.net v t j r.old → HasRunWide n.now.net h.now.net v (t + 1) j r.new) }
     ensures original { OnOk result (IsSome r.new.original.last) }
     ensures hardened { OnOk result (IsSome r.new.hardened.last) }
 {
     let _known = h.input_count();
     write_rows(list, t, n.input_count(), &mut r.row, &mut r.spread);
     take_runs(list, c, t, runs, &mut r.pairs, &mut r.struck)?;
-    r.original.step(&r.row, &[]);
+    add_starts(&r.hardened_starts, &mut r.struck)?;
+    r.original.step(&r.row, &r.original_starts);
     r.hardened.step(&r.spread, &r.struck);
+    r.original_starts.clear();
+    r.hardened_starts.clear();
     Ok(())
 }

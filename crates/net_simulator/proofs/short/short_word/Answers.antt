@@ -3,8 +3,7 @@ use Rattle.tmr_base.specs.declared.ids.NetId.{NetId}
 use Rattle.table_cover.specs.Words.{word_bit, bits_of}
 use Rattle.net_meaning.specs.Meaning.{bit}
 use Rattle.net_simulator.specs.Truth.{number_from}
-use Rattle.net_simulator.proofs.FirstRun.{lowest_bit}
-use Rattle.net_simulator.proofs.ShortTables.{read_none, read_four, read_five, read_six}
+use Rattle.net_simulator.proofs.ShortTables.{lowest_bit, read_none, read_four, read_five, read_six}
 use Rattle.net_simulator.proofs.short.short_word.Goals as goal
 
 pub returns-in-empty : goal.returns-in-empty

@@ -1,16 +1,14 @@
-use Rattle.std.proofs.Common.{◌≡◌, List, Bool}
-use Rattle.net_meaning.specs.Meaning.{IsFreeTrace, IsFreeFaultTrace, spread}
+use Rattle.std.proofs.Common.{◌≡◌}
 use Rattle.schedule_replay.specs.Outcome.{outputs_until}
-use Rattle.schedule_replay.specs.Running.{IsReady, HasRun}
-use Rattle.schedule_replay.specs.Starts.{MarksRegisters, AreStarts}
+use Rattle.schedule_replay.specs.Running.{Traces, AreTracesOf, BeginWith}
 use Rattle.schedule_replay.specs.Waves.{waves}
+use Rattle.schedule_replay.specs.Wide.{HaveTaken, IsWideReady, HasRunWide}
 use Rattle.schedule_replay.proofs.waving.waves_from.Given as goal
 
 abbrev pub invariant-loop-t : goal.invariant-loop-t
 invariant-loop-t l = record {
-  ready : IsReady l.n.net l.h.net l.c l.s.upsets l.t l.running;
-  ran : (f w g u : List Bool) (tr ft : List (List Bool)) → MarksRegisters l.n.net f → MarksRegisters l.h.net g → AreStarts l.n.net f w 0 l.fn.starts.original.items → AreStarts l.h.net g u 0 l.fn.starts.hardened.items →
-      IsFreeTrace l.n.net f w l.s.rows tr → IsFreeFaultTrace l.h.net g u (spread l.s.rows) l.s.upsets ft → HasRun l.n.net f w l.h.net g u tr ft l.t l.running;
-  values : (f w g u : List Bool) (tr ft : List (List Bool)) → MarksRegisters l.n.net f → MarksRegisters l.h.net g → AreStarts l.n.net f w 0 l.fn.starts.original.items → AreStarts l.h.net g u 0 l.fn.starts.hardened.items →
-      IsFreeTrace l.n.net f w l.s.rows tr → IsFreeFaultTrace l.h.net g u (spread l.s.rows) l.s.upsets ft → l.values.items ≡ waves (outputs_until l.n.net l.h.net tr ft l.t);
+  ready : IsWideReady l.n.net l.h.net l.running;
+  taken : HaveTaken l.c l.list l.t l.runs.items;
+  ran : (v : Traces) → AreTracesOf l.n.net l.h.net l.s v → BeginWith l.n.net l.h.net v l.starts → HasRunWide l.n.net l.h.net v l.t 0 l.running;
+  values : (v : Traces) → AreTracesOf l.n.net l.h.net l.s v → BeginWith l.n.net l.h.net v l.starts → l.values.items ≡ waves (outputs_until l.n.net l.h.net v.original v.hardened l.t);
 }

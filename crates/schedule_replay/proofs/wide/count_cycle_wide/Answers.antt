@@ -1,4 +1,4 @@
-use Rattle.std.proofs.Common.{◌≡◌, ◌∙◌, ◌*◌, ◌<◌, ◌≤◌, ℕ, suc, ◌+◌, List, Some, length, get_or, slice_get, sym, ap, subst, arith}
+use Rattle.std.proofs.Common.{◌≡◌, ◌∙◌, ◌*◌, ◌<◌, ◌≤◌, ℕ, suc, ◌+◌, List, Bool, Some, length, get_or, slice_get, sym, ap, subst, arith}
 use Rattle.std.specs.Prelude.{All}
 use Rattle.std.proofs.lemmas.Option.{slice_get-get_or, slice_get_within}
 use Rattle.flat_net.proofs.Slots.{slice_get_there}
@@ -54,7 +54,7 @@ returns-clause-allowed c = λ j a b at_a at_b.
     ap (λ (o : Outcome). o.allowed) (c.compare_nodes_wide.ensures.same j m b at_m at_b) ∙ (c.in_ok-compare_outputs_wide.ensures.bounded j a m at_a at_m).allowed
 
 pub returns-clause-counted : goal.returns-clause-counted
-returns-clause-counted c = λ j s a b tr ft at_s at_a at_b is_tr is_ft before counted.
+returns-clause-counted c = λ j s a b v at_s at_a at_b is before counted.
     let n = c.args.n.now.net in
     let h = c.args.h.now.net in
     let t : ℕ = c.args.t in
@@ -62,7 +62,9 @@ returns-clause-counted c = λ j s a b tr ft at_s at_a at_b is_tr is_ft before co
     let l : j < length c.args.o.now.items = slice_get_within c.args.o.now.items j a at_a in
     let (m, at_m) = slice_get_there c.compare_outputs_wide.new.o.items j (let long = c.in_ok-compare_outputs_wide.ensures.long in omega arith) in
     let (q, at_q) = slice_get_there c.advance_runs.new.runs.items j (let long = c.in_ok-advance_runs.ensures.taken.long in let same = c.requires.long in omega arith) in
-    let ran = c.in_ok-advance_runs.ensures.ran j s tr ft at_s is_tr is_ft before in
+    let tr : List (List Bool) = v.original in
+    let ft : List (List Bool) = v.hardened in
+    let ran = c.in_ok-advance_runs.ensures.ran j s v at_s is before in
     let original = ran.original ∙ ap (before_cycle tr) next in
     let hardened = ran.hardened ∙ ap (before_cycle ft) next in
     let there : slice_get c.deref.result.now j ≡ Some q = ap (λ (ps : List Progress). slice_get ps j) c.deref.ensures.value ∙ at_q in (

@@ -1,13 +1,13 @@
-use Rattle.std.proofs.Common.{◌≡◌, ◌*◌, ◌<◌, [], ℕ, List, Bool, Some, length, get_or, slice_get, refl, sym, ap, subst, arith}
-use Rattle.std.specs.Prelude.{All, IsTrue, ◌↔◌, option_map}
+use Rattle.std.proofs.Common.{◌≡◌, ◌*◌, ◌<◌, ℕ, List, Bool, Some, length, get_or, slice_get, refl, sym, subst, arith}
+use Rattle.std.specs.Prelude.{All, IsTrue, ◌↔◌}
 use Rattle.flat_net.specs.Net.{net_count}
 use Rattle.std.proofs.lemmas.Option.{slice_get-get_or, slice_get_within, slice_get_read}
 use Rattle.flat_net.proofs.Slots.{slice_get_there}
 use Rattle.certificate.specs.Schedules.{Allowed}
-use Rattle.table_cover.specs.Words.{bits_of}
 use Rattle.schedule_replay.specs.declared.outcome.Outcome.{Outcome}
 use Rattle.schedule_replay.specs.Outcome.{IsOutcome}
 use Rattle.schedule_replay.specs.OutcomeView.{plain_outcome}
+use Rattle.schedule_replay.specs.Running.{Traces, AreTracesOf, BeginWith}
 use Rattle.schedules.specs.Schedule.{PlainSchedule, IsPlainSchedule}
 use Rattle.schedule_replay.proofs.Starting.{original_trace, hardened_trace}
 use Rattle.schedule_replay.proofs.Turns.{at_place}
@@ -25,9 +25,9 @@ loop-t-init c = record {
       let (s, at_s) = slice_get_there c.args.list.now j (let long = c.in_ok-outcomes.ensures.begun.long in omega arith) in
       begun_bounded c.args.c.now s o (c.in_ok-outcomes.ensures.begun.each j s o at_s at_o);
   allowed = λ j s o at_s at_o. (c.in_ok-outcomes.ensures.begun.each j s o at_s at_o).allowed;
-  counted = λ j s o tr ft at_s at_o is_tr is_ft. (
-    record { original = ap (option_map (bits_of j)) c.in_ok-running.ensures.original; hardened = ap (option_map (bits_of j)) c.in_ok-running.ensures.hardened },
-    begun_counted c.args.n.now.net c.args.h.now.net c.args.c.now s tr ft o (c.in_ok-outcomes.ensures.begun.each j s o at_s at_o),
+  counted = λ j s o v at_s at_o is begin. (
+    c.in_ok-running.ensures.begun j v (let l = slice_get_within c.args.list.now j s at_s in let few = c.requires.few in omega arith) begin,
+    begun_counted c.args.n.now.net c.args.h.now.net c.args.c.now s v.original v.hardened o (c.in_ok-outcomes.ensures.begun.each j s o at_s at_o),
   );
 }
 
@@ -49,16 +49,16 @@ loop-t-preserved c = record {
   allowed = λ j s o at_s at_o.
       let (a, at_a) = slice_get_there c.loop-t.outcomes.items j (let l = slice_get_within c.args.list.now j s at_s in let long = c.loop-t.invariant.long in omega arith) in
       subst (λ (x : Bool). IsTrue x ↔ Allowed s.upsets c.args.c.now) (sym (c.in_ok-count_cycle_wide.ensures.allowed j a o at_a at_o)) (c.loop-t.invariant.allowed j s a at_s at_a);
-  counted = λ j s o tr ft at_s at_o is_tr is_ft.
+  counted = λ j s o v at_s at_o is begin.
       let (a, at_a) = slice_get_there c.loop-t.outcomes.items j (let l = slice_get_within c.args.list.now j s at_s in let long = c.loop-t.invariant.long in omega arith) in
-      let (ran, counted) = c.loop-t.invariant.counted j s a tr ft at_s at_a is_tr is_ft in
-      c.in_ok-count_cycle_wide.ensures.counted j s a o tr ft at_s at_a at_o is_tr is_ft ran counted;
+      let (ran, counted) = c.loop-t.invariant.counted j s a v at_s at_a is begin in
+      c.in_ok-count_cycle_wide.ensures.counted j s a o v at_s at_a at_o is ran counted;
 }
 
 pub returns-clause-outcomes : goal.returns-clause-outcomes
 returns-clause-outcomes c = record {
   long = c.loop-t.invariant.long;
-  each = λ j s o at_s at_o.
+  each = λ j s o f w g u at_s at_o mf mg sf sg.
       let n = c.args.n.now.net in
       let h = c.args.h.now.net in
       let list : List PlainSchedule = c.args.list.now in
@@ -70,10 +70,13 @@ returns-clause-outcomes c = record {
       let same = c.requires.cycles 0 j c.index-list-0.result s first at_s in
       let all : c.loop-t.t ≡ length s.rows = let e = c.cycles-t-end.ensures.count in omega arith in
       record {
-        original = original_trace s plain n [] [] (c.free_traces_are_unique.ensures n [] c.input_count.ensures.design.valid) rows;
-        hardened = hardened_trace s plain h [] [] (c.free_traces_are_unique.ensures h [] c.input_count-2.ensures.design.valid) wide nets;
+        original = original_trace s plain n f w (c.free_traces_are_unique.ensures n f c.input_count.ensures.design.valid) rows;
+        hardened = hardened_trace s plain h g u (c.free_traces_are_unique.ensures h g c.input_count-2.ensures.design.valid) wide nets;
         outcome = λ tr ft is_tr is_ft.
-            let counted = (c.loop-t.invariant.counted j s o tr ft at_s at_o is_tr is_ft).1 in
+            let v : Traces = record { marks = f; starts = w; original = tr; hardened_marks = g; hardened_starts = u; hardened = ft } in
+            let is : AreTracesOf n h s v = record { marks = mf; original = is_tr; hardened_marks = mg; hardened = is_ft } in
+            let begin : BeginWith n h v c.args.starts.now = record { original = sf; hardened = sg } in
+            let counted = (c.loop-t.invariant.counted j s o v at_s at_o is begin).1 in
             subst (λ (t : ℕ). IsOutcome n h c.args.c.now s.upsets tr ft t (plain_outcome o)) all (record { allowed = c.loop-t.invariant.allowed j s o at_s at_o; counts = counted.counts; late = counted.late });
       };
 }

@@ -1,9 +1,8 @@
-use Rattle.std.proofs.Common.{◌≡◌, [], ℕ, List, Bool, Some, length, slice_get}
+use Rattle.std.proofs.Common.{◌≡◌, ℕ, Some, length, slice_get}
 use Rattle.std.specs.Prelude.{All, IsTrue, ◌↔◌}
 use Rattle.certificate.specs.Schedules.{Allowed}
-use Rattle.net_meaning.specs.Meaning.{IsFreeTrace, IsFreeFaultTrace, spread}
 use Rattle.schedule_replay.specs.declared.outcome.Outcome.{Outcome}
-use Rattle.schedule_replay.specs.Running.{HasCounted, CountsFit}
+use Rattle.schedule_replay.specs.Running.{Traces, AreTracesOf, BeginWith, HasCounted, CountsFit}
 use Rattle.schedules.specs.Schedule.{PlainSchedule}
 use Rattle.schedule_replay.specs.Wide.{HaveTaken, IsWideReady, HasRunWide}
 use Rattle.schedule_replay.proofs.wide.replay_runs.Given as goal
@@ -15,6 +14,6 @@ invariant-loop-t l = record {
   long : length l.outcomes.items ≡ length l.list;
   bounded : All (λ a. CountsFit l.t a) l.outcomes.items;
   allowed : (j : ℕ) (s : PlainSchedule) (o : Outcome) → slice_get l.list j ≡ Some s → slice_get l.outcomes.items j ≡ Some o → IsTrue o.allowed ↔ Allowed s.upsets l.c;
-  counted : (j : ℕ) (s : PlainSchedule) (o : Outcome) (tr ft : List (List Bool)) → slice_get l.list j ≡ Some s → slice_get l.outcomes.items j ≡ Some o →
-      IsFreeTrace l.n.net [] [] s.rows tr → IsFreeFaultTrace l.h.net [] [] (spread s.rows) s.upsets ft → HasRunWide tr ft l.t j l.running × HasCounted l.n.net l.h.net l.c s.upsets tr ft l.t o;
+  counted : (j : ℕ) (s : PlainSchedule) (o : Outcome) (v : Traces) → slice_get l.list j ≡ Some s → slice_get l.outcomes.items j ≡ Some o →
+      AreTracesOf l.n.net l.h.net s v → BeginWith l.n.net l.h.net v l.starts → HasRunWide l.n.net l.h.net v l.t j l.running × HasCounted l.n.net l.h.net l.c s.upsets v.original v.hardened l.t o;
 }

@@ -1,7 +1,6 @@
 use Rattle.std.proofs.Common.{◌∙◌, ◌*◌, ◌+◌, ℕ, ap}
 use Rattle.net_meaning.specs.Meaning.{value_at}
-use Rattle.schedule_replay.proofs.SeenLaws.{output_is}
-use Rattle.schedule_replay.proofs.WideOutcomes.{read_run, same_difference}
+use Rattle.schedule_replay.proofs.WideOutcomes.{read_run, output_is, same_difference}
 use Rattle.schedule_replay.proofs.wide_comparing.output_words.Goals as goal
 
 pub returns : goal.returns

@@ -5,7 +5,8 @@ use Rattle.std.proofs.lemmas.Option.{slice_get_read, slice_get_within}
 use Rattle.tmr_base.specs.declared.ids.NetId.{NetId}
 use Rattle.flat_net.proofs.Slots.{slice_get_there}
 use Rattle.net_meaning.specs.Meaning.{upset_at}
-use Rattle.net_simulator.specs.Cycle.{forced_to, forced_in}
+use Rattle.net_simulator.specs.Cycle.{forced_in}
+use Rattle.schedule_replay.specs.Starts.{forced_to}
 use Rattle.schedule_replay.specs.declared.wide_rows.Progress.{Progress}
 use Rattle.schedules.specs.Schedule.{PlainSchedule}
 use Rattle.schedule_replay.specs.Wide.{HasTurned, TakesCycle}

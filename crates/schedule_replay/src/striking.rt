@@ -1,8 +1,8 @@
-//! The rows of inputs and the upsets of a cycle.
-ghost use Rattle.std.specs.Prelude.{◌≡◌, ◌++◌, ◌+◌, ◌*◌, ◌<◌, ◌≤◌, ℕ, List, Bool, All, OnOk, IfOk, Some, length, slice_get};
-ghost use Rattle.net_meaning.specs.Meaning.{row_at, spread_row, value_at, upset_at};
-ghost use Rattle.certificate.specs.Cert.{PlainCert, role_of};
-ghost use Rattle.net_simulator.specs.Cycle.{forced_to};
+//! The upsets of a cycle, and the last ones of each partition.
+ghost use Rattle.std.specs.Prelude.{◌≡◌, ◌+◌, ◌<◌, ◌≤◌, ◌||◌, ℕ, All, OnOk, IfOk, length, nat_eq, nat_le};
+ghost use Rattle.net_meaning.specs.Meaning.{upset_at};
+ghost use Rattle.certificate.specs.Cert.{role_of};
+ghost use Rattle.schedule_replay.specs.Starts.{forced_to};
 ghost use Rattle.schedule_replay.specs.Outcome.{part_of_role};
 ghost use Rattle.schedule_replay.specs.Striking.{IsTaken, AreLatest, with_strike};
 
@@ -10,26 +10,6 @@ use crate::allowing::struck_part;
 use certificate::Certificate;
 use schedules::Schedule;
 use tmr_base::{NetId, OutOfMemory};
-
-/// Writes the inputs of cycle t, once and three times.
-pub fn write_row(s: &Schedule, t: u32, inputs: u32, row: &mut [bool], spread: &mut [bool])
-    requires t { t < length s.now.rows }
-    requires inputs { s.now.inputs ≡ inputs }
-    requires row { length row.old ≡ inputs }
-    requires spread { length spread.old ≡ 3 * inputs }
-    ensures row { row.new ≡ row_at s.now.rows t }
-    ensures spread { spread.new ≡ spread_row (row_at s.now.rows t) }
-{
-    let _cycles = s.cycles();
-    for i in 0..inputs {
-        let bit = s.input(t, i);
-        let k = i as usize;
-        row[k] = bit;
-        spread[3 * k] = bit;
-        spread[3 * k + 1] = bit;
-        spread[3 * k + 2] = bit;
-    }
-}
 
 /// The partition of a net, if it is a node, was struck in cycle t.
 fn strike(c: &Certificate, h: NetId, t: u32, lasts: &mut [u32])
@@ -79,13 +59,9 @@ pub fn take_upsets(
     Ok(next)
 }
 
-/// Adds start values behind the upsets, which come first.
-pub fn add_starts(
-    starts: &[(NetId, bool)],
-    struck: &mut Vec<(NetId, bool)>,
-) -> Result<(), OutOfMemory>
-    ensures { OnOk result (struck.new.items ≡ struck.old.items ++ starts.now) }
+/// The partition is quiet in cycle t.
+pub fn is_quiet(last: u32, depth: u32, t: u32) -> bool
+    ensures { result ≡ (nat_eq last 0 || nat_le (last + depth) t) }
 {
-    struck.extend_from_slice(starts)?;
-    Ok(())
+    last == 0 || u64::from(last) + u64::from(depth) <= u64::from(t)
 }

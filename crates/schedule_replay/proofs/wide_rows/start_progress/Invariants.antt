@@ -1,7 +1,7 @@
 use Rattle.std.proofs.Common.{◌≡◌, ℕ, Some, length, slice_get}
 use Rattle.schedule_replay.specs.declared.wide_rows.Progress.{Progress}
 use Rattle.schedule_replay.specs.Wide.{IsFresh}
-use Rattle.schedule_replay.proofs.wide.start_progress.Given as goal
+use Rattle.schedule_replay.proofs.wide_rows.start_progress.Given as goal
 
 abbrev pub invariant-loop-made : goal.invariant-loop-made
 invariant-loop-made l = record {

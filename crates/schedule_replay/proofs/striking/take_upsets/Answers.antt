@@ -2,12 +2,12 @@ use Rattle.std.proofs.Common.{◌≡◌, ◌+◌, ◌<◌, ◌≤◌, ◌∙◌,
 use Rattle.std.proofs.lemmas.Option.{slice_get_within, get_or_from_slice_get}
 use Rattle.tmr_base.specs.declared.ids.NetId.{NetId}
 use Rattle.tmr_base.specs.declared.ids.Upset.{Upset}
-use Rattle.net_simulator.specs.Cycle.{forced_to}
+use Rattle.schedule_replay.specs.Starts.{forced_to}
 use Rattle.schedule_replay.proofs.Taking.{none_before, struck_more, all_struck, up_to_more, latest_more, nets_more, strike_range, struck_length}
 use Rattle.certificate.specs.Cert.{role_of}
 use Rattle.schedule_replay.specs.Outcome.{part_of_role}
 use Rattle.schedule_replay.specs.Striking.{AreLatest}
-use Rattle.schedule_replay.proofs.rows.take_upsets.Goals as goal
+use Rattle.schedule_replay.proofs.striking.take_upsets.Goals as goal
 
 pub loop-j-init : goal.loop-j-init
 loop-j-init c = record {

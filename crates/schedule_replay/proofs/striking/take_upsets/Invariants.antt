@@ -1,9 +1,9 @@
 use Rattle.std.proofs.Common.{◌≡◌, ◌+◌, ◌<◌, ℕ, length, take}
 use Rattle.std.specs.Prelude.{All}
 use Rattle.net_meaning.specs.Meaning.{upset_at}
-use Rattle.net_simulator.specs.Cycle.{forced_to}
+use Rattle.schedule_replay.specs.Starts.{forced_to}
 use Rattle.schedule_replay.specs.Striking.{IsUpTo, AreLatest}
-use Rattle.schedule_replay.proofs.rows.take_upsets.Given as goal
+use Rattle.schedule_replay.proofs.striking.take_upsets.Given as goal
 
 abbrev pub invariant-loop-j : goal.invariant-loop-j
 invariant-loop-j l = record {

@@ -3,7 +3,7 @@ use Rattle.std.proofs.lemmas.List.{length-append}
 use Rattle.schedule_replay.specs.declared.wide_rows.Progress.{Progress}
 use Rattle.schedule_replay.specs.Wide.{IsFresh}
 use Rattle.schedule_replay.proofs.WideLaws.{pushed_each, fresh_taken}
-use Rattle.schedule_replay.proofs.wide.start_progress.Goals as goal
+use Rattle.schedule_replay.proofs.wide_rows.start_progress.Goals as goal
 
 pub loop-made-preserved : goal.loop-made-preserved
 loop-made-preserved c =
