@@ -5,6 +5,7 @@
 #![tactic(auto)]
 
 mod allowing;
+mod origins;
 mod outcome;
 mod replaying;
 mod starts;
