@@ -119,30 +119,26 @@ pub fn put_head(
     Ok(())
 }
 
-/// The numbers of a partition's line.
-#[derive(Clone, Copy, Drop)]
-struct PartNumbers {
-    part: u32,
+/// Puts the words of partition p's line but the first and the names: six numbers, each behind a word.
+#[tactic(auto, using(crate::proofs::WordLaws::numbers_put))]
+fn put_numbers(
+    alloc: Global,
+    out: &mut Vec<u8>,
+    p: u32,
     nodes: u32,
     registers: u32,
     loops: u32,
-    /// The depth that the certificate gives it.
     depth: u32,
-    /// The least depth that it could have.
     least: u32,
-}
-
-/// Puts the words of a partition's line but the first and the names: six numbers, each behind a word.
-#[tactic(auto, using(crate::proofs::WordLaws::numbers_put))]
-fn put_numbers(alloc: Global, out: &mut Vec<u8>, it: &PartNumbers) -> Result<(), AllocError>
-    ensures { OnOk result (out.new.items ≡ out.old.items ++ spaced (decimal it.now.part ∷ codes "nodes" ∷ decimal it.now.nodes ∷ codes "registers" ∷ decimal it.now.registers ∷ codes "loops" ∷ decimal it.now.loops ∷ codes "depth" ∷ decimal it.now.depth ∷ codes "least" ∷ decimal it.now.least ∷ codes "chain" ∷ [])) }
+) -> Result<(), AllocError>
+    ensures { OnOk result (out.new.items ≡ out.old.items ++ spaced (decimal p ∷ codes "nodes" ∷ decimal nodes ∷ codes "registers" ∷ decimal registers ∷ codes "loops" ∷ decimal loops ∷ codes "depth" ∷ decimal depth ∷ codes "least" ∷ decimal least ∷ codes "chain" ∷ [])) }
 {
-    put_decimal(alloc, out, it.part)?;
-    put_number(alloc, out, b"nodes", it.nodes)?;
-    put_number(alloc, out, b"registers", it.registers)?;
-    put_number(alloc, out, b"loops", it.loops)?;
-    put_number(alloc, out, b"depth", it.depth)?;
-    put_number(alloc, out, b"least", it.least)?;
+    put_decimal(alloc, out, p)?;
+    put_number(alloc, out, b"nodes", nodes)?;
+    put_number(alloc, out, b"registers", registers)?;
+    put_number(alloc, out, b"loops", loops)?;
+    put_number(alloc, out, b"depth", depth)?;
+    put_number(alloc, out, b"least", least)?;
     put_word(out, b"chain")?;
     Ok(())
 }
@@ -184,16 +180,7 @@ fn put_part(
     let registers = count_at(&counts.registers, p);
     let loops = count_at(&counts.loops, p);
     let depth = c.depth(PartId(p));
-    let least = deep.depth;
-    let numbers = PartNumbers {
-        part: p,
-        nodes,
-        registers,
-        loops,
-        depth,
-        least,
-    };
-    put_numbers(alloc, out, &numbers)?;
+    put_numbers(alloc, out, p, nodes, registers, loops, depth, deep.depth)?;
     put_names(out, n, &deep.chain)?;
     put_end(out)?;
     Ok(())

@@ -50,30 +50,22 @@ pub struct SweptFrom {
     pub survey: Survey,
 }
 
-/// The options that a plan is made by.
-#[derive(Clone, Copy, Drop)]
-struct Options {
-    form: Form,
-    /// The most nodes of a partition.
-    size: u32,
-    /// The version of the certificate.
-    version: u8,
-}
-
-/// What the design made threefold by this plan has. `net` is that of `n`; no depth is above `most`.
+/// What the design made threefold by this plan has. `net` is that of `n`.
 fn swept_of(
     alloc: Global,
     n: &FreeNet,
     net: &FlatNet,
     plan: &Plan,
-    by: Options,
+    form: Form,
+    size: u32,
+    version: u8,
     most: u32,
 ) -> Result<Swept, OutOfMemory>
-    requires version { (by.version ≡ 1) ⊎ (by.version ≡ 2) }
+    requires version { (version ≡ 1) ⊎ (version ≡ 2) }
     requires same { net.now ≡ n.now.design }
-    requires plan { IsPlan by.form net.now.net by.size (nat_eq by.version 2) most plan.now }
+    requires plan { IsPlan form net.now.net size (nat_eq version 2) most plan.now }
     requires few { net_count net.now.net + pin_total net.now.net ≤ 16777216 }
-    ensures { IfOk result (λ s. IsSwept by.form n.now by.size by.version most s) }
+    ensures { IfOk result (λ s. IsSwept form n.now size version most s) }
 {
     let count = nodes_of(net);
     let depths = plan.depths(alloc)?;
@@ -81,7 +73,7 @@ fn swept_of(
     let levels = voted_levels(alloc, net, &Votes::Planned(plan))?;
     let nodes = plan.nets(net) - 3 * net.input_count();
     Ok(Swept {
-        size: by.size,
+        size,
         partitions: plan.parts.count(),
         voters: nodes - 3 * count,
         depth: greatest(&depths),
@@ -112,12 +104,7 @@ pub fn sweep_size(
 {
     let net = n.net();
     let made = plan_from(alloc, net, survey, form, size, version == 2, most)?;
-    let by = Options {
-        form,
-        size,
-        version,
-    };
-    let swept = swept_of(alloc, n, net, &made.plan, by, most)?;
+    let swept = swept_of(alloc, n, net, &made.plan, form, size, version, most)?;
     Ok(SweptFrom {
         swept,
         survey: made.survey,

@@ -9,6 +9,6 @@ mod joined;
 mod lines;
 mod pending;
 
-pub use joined::tokens;
+pub use joined::{Tokens, tokens};
 pub use lines::{Line, Lines, line_end};
 pub use pending::PendingLine;
