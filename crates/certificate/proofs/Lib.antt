@@ -22,3 +22,4 @@ pub mod EndStage
 pub mod Same
 pub mod Growth
 pub mod Unmarked
+pub mod Domains

@@ -15,6 +15,15 @@ use std::alloc::Global;
 use text_lines::Lines;
 use tmr_base::{CopyNo, Name, NameFault, NetId, PartId};
 
+/// What the lines of nodes and voters are read by: the text's version, the two designs, and how many partitions there are.
+#[derive(Drop)]
+pub struct Scope<'a> {
+    pub version: u8,
+    pub original: &'a FlatNet,
+    pub hardened: &'a FlatNet,
+    pub parts: u32,
+}
+
 /// What a node's line says.
 #[derive(Clone, Copy, Debug, Drop)]
 pub struct NodeLine {
@@ -243,29 +252,28 @@ pub fn parts_line(alloc: Global, lines: &mut Lines<'_>) -> Result<u32, CertFault
     read_parts(alloc, text, line)
 }
 
-/// The line of original node x, where there are so many partitions. Its first copy is guessed.
+/// The line of original node x. Its first copy is guessed.
 #[tactic(auto, unfolding(crate::specs::Folding::read_node))]
 pub fn read_node(
     alloc: Global,
-    n: &FlatNet,
-    h: &FlatNet,
+    scope: &Scope<'_>,
     x: NetId,
     guess: NetId,
-    parts: u32,
     text: &[u8],
     line: u32,
 ) -> Result<NodeLine, CertFault>
-    ensures node { Gives plain_line result (read_node n.now.net h.now.net x.0 parts text.now line) }
-    ensures range { IfOk result (λ l. AreNodes h.now.net (three_ids l.copies)) }
+    ensures node { Gives plain_line result (read_node scope.now.original.now.net scope.now.hardened.now.net x.0 scope.now.parts text.now line) }
+    ensures range { IfOk result (λ l. AreNodes scope.now.hardened.now.net (three_ids l.copies)) }
 {
     let words = form_words(alloc, text, 9, b"node", line)?;
     let (part, labels) = node_numbers(&words, line)?;
-    let named = known(alloc, n, x, words[1], line)?;
+    let named = known(alloc, scope.original, x, words[1], line)?;
+    let h = scope.hardened;
     let copies = known_three(alloc, h, guess, words[3], words[4], words[5], line)?;
     if named.0 != x.0 {
         return Err(CertFault::Order(line));
     }
-    if part >= parts {
+    if part >= scope.parts {
         return Err(CertFault::Range(line));
     }
     Ok(NodeLine {
@@ -308,25 +316,22 @@ fn voter_numbers(words: &[&[u8]], line: u32) -> Result<(u32, CopyNo), CertFault>
 #[tactic(auto, unfolding(crate::specs::Folding::read_voter))]
 pub fn read_voter(
     alloc: Global,
-    version: u8,
-    n: &FlatNet,
-    h: &FlatNet,
+    scope: &Scope<'_>,
     g: NetId,
     guess: NetId,
-    parts: u32,
     text: &[u8],
     line: u32,
 ) -> Result<Role, CertFault>
-    ensures { Gives (λ role. role) result (read_voter version n.now.net h.now.net g.0 parts text.now line) }
+    ensures { Gives (λ role. role) result (read_voter scope.now.version scope.now.original.now.net scope.now.hardened.now.net g.0 scope.now.parts text.now line) }
 {
     let words = form_words(alloc, text, 5, b"voter", line)?;
     let (part, copy) = voter_numbers(&words, line)?;
-    let named = known(alloc, h, g, words[1], line)?;
-    let node = voted(alloc, version, n, guess, words[2], line)?;
+    let named = known(alloc, scope.hardened, g, words[1], line)?;
+    let node = voted(alloc, scope.version, scope.original, guess, words[2], line)?;
     if named.0 != g.0 {
         return Err(CertFault::Order(line));
     }
-    if part >= parts {
+    if part >= scope.parts {
         return Err(CertFault::Range(line));
     }
     Ok(Role::Voter {

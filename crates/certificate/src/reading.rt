@@ -11,7 +11,7 @@ ghost use Rattle.std.specs.Prelude.{◌^◌, IfErr};
 ghost use Rattle.certificate.specs.declared.fault.CertFault.TheVariants.{Memory};
 
 use crate::line_kinds::{
-    first_line, last_line, next_net, parts_line, read_node, read_part, read_voter,
+    Scope, first_line, last_line, next_net, parts_line, read_node, read_part, read_voter,
 };
 use crate::lines::next_line;
 use crate::{CertDraft, CertFault, Role};
@@ -112,23 +112,22 @@ fn likely_copy(h: &FlatNet, copies: &[[NetId; 3]]) -> NetId {
 #[tactic(auto, unfolding(crate::specs::Folding::node_step))]
 fn node_step(
     alloc: Global,
-    n: &FlatNet,
-    h: &FlatNet,
-    parts: u32,
+    scope: &Scope<'_>,
     nodes: &mut NodeTable,
     lines: &mut Lines<'_>,
 ) -> Result<(), CertFault>
-    requires room { length nodes.now.part.items < length n.now.net.nodes }
-    requires roles { length nodes.now.roles.items ≡ length h.now.net.nodes }
-    ensures step { Gives (λ _. nodes_read nodes.new lines.new) result (node_step n.now.net h.now.net parts (nodes_read nodes.old lines.old)) }
+    requires room { length nodes.now.part.items < length scope.now.original.now.net.nodes }
+    requires roles { length nodes.now.roles.items ≡ length scope.now.hardened.now.net.nodes }
+    ensures step { Gives (λ _. nodes_read nodes.new lines.new) result (node_step scope.now.original.now.net scope.now.hardened.now.net scope.now.parts (nodes_read nodes.old lines.old)) }
     ensures length { OnOk result (length nodes.new.part.items ≡ length nodes.old.part.items + 1) }
     ensures roles { OnOk result (length nodes.new.roles.items ≡ length nodes.old.roles.items) }
 {
+    let h = scope.hardened;
     let line = lines.number();
     let text = next_line(lines)?;
-    let x = NetId(n.input_count() + nodes.part.len() as u32);
+    let x = NetId(scope.original.input_count() + nodes.part.len() as u32);
     let guess = likely_copy(h, &nodes.copies);
-    let node = read_node(alloc, n, h, x, guess, parts, text, line)?;
+    let node = read_node(alloc, scope, x, guess, text, line)?;
     give_copies(&mut nodes.roles, h.input_count(), x, node.copies, line)?;
     nodes.part.push(node.part)?;
     nodes.copies.push(node.copies)?;
@@ -162,23 +161,21 @@ fn no_roles(alloc: Global, count: u32) -> Result<Vec<Option<Role>>, CertFault>
 /// All nodes' lines.
 fn read_nodes(
     alloc: Global,
-    n: &FlatNet,
-    h: &FlatNet,
-    parts: u32,
+    scope: &Scope<'_>,
     lines: &mut Lines<'_>,
 ) -> Result<NodeTable, CertFault>
-    ensures nodes { Gives (λ nodes. nodes_read nodes lines.new) result (repeat (length n.now.net.nodes) (node_step n.now.net h.now.net parts) (record { part = []; copies = []; labels = []; roles = replicate (length h.now.net.nodes) None; rest = lines.old })) }
-    ensures roles { IfOk result (λ nodes. length nodes.roles.items ≡ length h.now.net.nodes) }
+    ensures nodes { Gives (λ nodes. nodes_read nodes lines.new) result (repeat (length scope.now.original.now.net.nodes) (node_step scope.now.original.now.net scope.now.hardened.now.net scope.now.parts) (record { part = []; copies = []; labels = []; roles = replicate (length scope.now.hardened.now.net.nodes) None; rest = lines.old })) }
+    ensures roles { IfOk result (λ nodes. length nodes.roles.items ≡ length scope.now.hardened.now.net.nodes) }
 {
-    let count = n.node_count();
+    let count = scope.original.node_count();
     let mut nodes = NodeTable {
         part: Vec::new(alloc),
         copies: Vec::new(alloc),
         labels: Vec::new(alloc),
-        roles: no_roles(alloc, h.node_count())?,
+        roles: no_roles(alloc, scope.hardened.node_count())?,
     };
     for _ in 0..count {
-        node_step(alloc, n, h, parts, &mut nodes, lines)?;
+        node_step(alloc, scope, &mut nodes, lines)?;
     }
     Ok(nodes)
 }
@@ -195,20 +192,17 @@ fn likely_voted(roles: &[Role]) -> NetId {
 #[tactic(auto, unfolding(crate::specs::Folding::voter_step))]
 fn voter_step(
     alloc: Global,
-    version: u8,
-    n: &FlatNet,
-    h: &FlatNet,
-    parts: u32,
+    scope: &Scope<'_>,
     given: &[Option<Role>],
     roles: &mut Vec<Role>,
     lines: &mut Lines<'_>,
 ) -> Result<(), CertFault>
-    requires given { length given.now ≡ length h.now.net.nodes }
+    requires given { length given.now ≡ length scope.now.hardened.now.net.nodes }
     requires room { length roles.now.items < length given.now }
-    ensures step { Gives (λ _. roles_read roles.new.items lines.new) result (voter_step version n.now.net h.now.net parts given.now (roles_read roles.old.items lines.old)) }
+    ensures step { Gives (λ _. roles_read roles.new.items lines.new) result (voter_step scope.now.version scope.now.original.now.net scope.now.hardened.now.net scope.now.parts given.now (roles_read roles.old.items lines.old)) }
     ensures length { OnOk result (length roles.new.items ≡ length roles.old.items + 1) }
 {
-    let inputs = h.input_count();
+    let inputs = scope.hardened.input_count();
     match given[roles.len()] {
         Some(role) => roles.push(role)?,
         None => {
@@ -216,7 +210,7 @@ fn voter_step(
             let text = next_line(lines)?;
             let g = NetId(inputs + roles.len() as u32);
             let guess = likely_voted(roles);
-            let role = read_voter(alloc, version, n, h, g, guess, parts, text, line)?;
+            let role = read_voter(alloc, scope, g, guess, text, line)?;
             roles.push(role)?;
         }
     }
@@ -226,20 +220,17 @@ fn voter_step(
 /// The roles of all hardened nodes.
 fn read_roles(
     alloc: Global,
-    version: u8,
-    n: &FlatNet,
-    h: &FlatNet,
-    parts: u32,
+    scope: &Scope<'_>,
     given: &[Option<Role>],
     lines: &mut Lines<'_>,
 ) -> Result<Vec<Role>, CertFault>
-    requires { length given.now ≡ length h.now.net.nodes }
-    ensures { Gives (λ roles. roles_read roles.items lines.new) result (repeat (length h.now.net.nodes) (voter_step version n.now.net h.now.net parts given.now) (roles_read [] lines.old)) }
+    requires { length given.now ≡ length scope.now.hardened.now.net.nodes }
+    ensures { Gives (λ roles. roles_read roles.items lines.new) result (repeat (length scope.now.hardened.now.net.nodes) (voter_step scope.now.version scope.now.original.now.net scope.now.hardened.now.net scope.now.parts given.now) (roles_read [] lines.old)) }
 {
-    let count = h.node_count();
+    let count = scope.hardened.node_count();
     let mut roles = Vec::new(alloc);
     for _ in 0..count {
-        voter_step(alloc, version, n, h, parts, given, &mut roles, lines)?;
+        voter_step(alloc, scope, given, &mut roles, lines)?;
     }
     Ok(roles)
 }
@@ -263,8 +254,14 @@ pub fn draft_of_text(
     let version = first_line(&mut lines)?;
     let parts = parts_line(alloc, &mut lines)?;
     let depth = read_depths(alloc, parts, &mut lines)?;
-    let nodes = read_nodes(alloc, n, h, parts, &mut lines)?;
-    let roles = read_roles(alloc, version, n, h, parts, &nodes.roles, &mut lines)?;
+    let scope = Scope {
+        version,
+        original: n,
+        hardened: h,
+        parts,
+    };
+    let nodes = read_nodes(alloc, &scope, &mut lines)?;
+    let roles = read_roles(alloc, &scope, &nodes.roles, &mut lines)?;
     last_line(&mut lines)?;
     let draft = CertDraft {
         original_inputs,

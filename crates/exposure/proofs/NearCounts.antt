@@ -13,10 +13,10 @@ use Rattle.certificate.specs.declared.role.Role.{Role}
 use Rattle.certificate.specs.declared.role.Role.TheVariants.{Copy, Voter}
 use Rattle.certificate.specs.Cert.{PlainCert, IsCert, role_of, part_depth}
 use Rattle.certificate.specs.Schedules.{RoleIsIn, IsIn}
+use Rattle.certificate.proofs.Domains.{one_domain}
 use Rattle.exposure.specs.Counts.{copy_count, near_of, near_in, near_total}
 use Rattle.exposure.specs.Nets.{HasNets}
 use Rattle.exposure.specs.NearPairs.{AreSoMany, Strikes, MayBeStruck, AreNear}
-use Rattle.exposure.proofs.NearLaws.{same_copy, few_copies}
 use Rattle.exposure.proofs.NetLaws.{nodes_counted, inputs_counted}
 use Rattle.exposure.proofs.SoMany.{Counts, Within, so_many, count_same, count_either, count_as, count_both, count_range, count_over, count_rising}
 
@@ -56,14 +56,6 @@ count_close d = count_same (λ (t : ℕ × ℕ). IsEarly d t ⊎ IsLate d t) (Ar
     (count_both (λ (x : ℕ). (1 ≤ x) × (x < 1 + d)) (λ (x : ℕ). x ≡ 0) d 1 (count_range 1 d) one_zero))
 
 -- ---- where a net belongs
-
-roles_place : (k : PlainCert) (h : ℕ) (p q : Option ℕ) (c d : CopyNo) (o : Option Role) → RoleIsIn k o h p c → RoleIsIn k o h q d → (p ≡ q) × (c ≡ d)
-roles_place k h p q c d None (i, copy, e) (j, other, f) = (e ∙ sym f, same_copy c d (omega (arith, copy.2, other.2, few_copies c, few_copies d)))
-roles_place k h p q c d (Some (Copy x b)) one other = (sym one.0 ∙ other.0, sym one.1 ∙ other.1)
-roles_place k h p q c d (Some (Voter x r b)) one other = (sym one.0 ∙ other.0, sym one.1 ∙ other.1)
-
-one_place : (k : PlainCert) (h : ℕ) (p q : Option ℕ) (c d : CopyNo) → IsIn k h p c → IsIn k h q d → (p ≡ q) × (c ≡ d)
-one_place k h p q c d one other = roles_place k h p q c d (role_of k h) one other
 
 same_some : (p q : ℕ) → Some p ≡ Some q → p ≡ q
 same_some p q e = cc
@@ -142,11 +134,11 @@ second_third : Second ≡ Third → ⊥
 second_third e = cc
 
 not_both : (k : PlainCert) (p : Option ℕ) (s : Strikes) → Strike k p First Second s → Strike k p First Third s → ⊥
-not_both k p s h g = second_third (one_place k s.other p p Second Third h.0.1 g.0.1).1
+not_both k p s h g = second_third (one_domain k s.other p p Second Third h.0.1 g.0.1).1
 
 not_last : (k : PlainCert) (p : Option ℕ) (s : Strikes) → Strike k p First Second s ⊎ Strike k p First Third s → Strike k p Second Third s → ⊥
-not_last k p s (inl h) g = first_second (one_place k s.one p p First Second h.0.0 g.0.0).1
-not_last k p s (inr h) g = first_second (one_place k s.one p p First Second h.0.0 g.0.0).1
+not_last k p s (inl h) g = first_second (one_domain k s.one p p First Second h.0.0 g.0.0).1
+not_last k p s (inr h) g = first_second (one_domain k s.one p p First Second h.0.0 g.0.0).1
 
 module _ (k : PlainCert) (p : Option ℕ) (a b c t : ℕ) where
   three_pairs : Counts (Strike k p First Second) (a * b * t) → Counts (Strike k p First Third) (a * c * t) → Counts (Strike k p Second Third) (b * c * t) → Counts (Strikes3 k p) ((a * b + a * c + b * c) * t)
@@ -181,7 +173,7 @@ one_part : (k : PlainCert) (p q : Option ℕ) (s : Strikes) → Strikes3 k p s �
 one_part k p q s h g =
     let (c, d, l, one) = place_of k p s h in
     let (e, f, m, other) = place_of k q s g in
-    (one_place k s.one p q c e one.0.0 other.0.0).0
+    (one_domain k s.one p q c e one.0.0 other.0.0).0
 
 true_or_false : (b : Bool) → b ≡ false → b ≡ true → ⊥
 true_or_false b e f = cc

@@ -3,7 +3,6 @@ use Rattle.std.proofs.Common.{◌≡◌, ℕ, ◌+◌, ◌*◌, ◌<◌, ◌≤�
 use Rattle.std.specs.Prelude.{◌==◌, ◌↔◌, IsTrue}
 use Rattle.std.proofs.lemmas.Bool.{cases_lt, eqb-true, eq-eqb, and_parts, and_from}
 use Rattle.tmr_base.specs.declared.copies.CopyNo.{CopyNo}
-use Rattle.tmr_base.specs.declared.copies.CopyNo.TheVariants.{First, Second, Third}
 use Rattle.tmr_base.specs.declared.ids.Upset.{Upset}
 use Rattle.tmr_base.specs.Copies.{copy_number}
 use Rattle.certificate.specs.declared.role.Role.{Role}
@@ -11,6 +10,7 @@ use Rattle.certificate.specs.declared.role.Role.TheVariants.{Copy, Voter}
 use Rattle.certificate.specs.Cert.{PlainCert, IsCert, role_of, part_depth}
 use Rattle.flat_net.proofs.Slots.{slot_there, slot_below}
 use Rattle.certificate.specs.Schedules.{RoleIsIn, IsIn, Allowed}
+use Rattle.certificate.proofs.Domains.{copy_below, same_copy}
 use Rattle.exposure.specs.Counts.{role_part, role_copy, is_same_part, is_of}
 use Rattle.exposure.specs.TooNear.{NoneTooNear}
 
@@ -30,17 +30,6 @@ module _ (s : List Upset) (k : PlainCert) where
       go (inl later) other = inl later
       go (inr soon) (inl earlier) = inr earlier
       go (inr soon) (inr late) = absurd (none u v in_u in_v (record { part = p; one = c; other = d; one_struck = u_in; other_struck = v_in; differ = differ; not_before = soon; not_after = late }))
-
-pub same_copy : (c d : CopyNo) → copy_number c ≡ copy_number d → c ≡ d
-same_copy First First e = refl
-same_copy First Second e = absurd (omega arith)
-same_copy First Third e = absurd (omega arith)
-same_copy Second First e = absurd (omega arith)
-same_copy Second Second e = refl
-same_copy Second Third e = absurd (omega arith)
-same_copy Third First e = absurd (omega arith)
-same_copy Third Second e = absurd (omega arith)
-same_copy Third Third e = refl
 
 same_part : (o : Option ℕ) (p : ℕ) → is_same_part o p ≡ true → o ≡ Some p
 same_part None p e = absurd (cc)
@@ -71,11 +60,6 @@ module _ (k : PlainCert) (h p : ℕ) (c : CopyNo) where
   pub counted_is_in : (r : Role) → role_of k h ≡ Some r → IsTrue (is_of k p c r) ↔ IsIn k h (Some p) c
   counted_is_in r e = (λ b. subst (λ (o : Option Role). RoleIsIn k o h (Some p) c) (sym e) (is_in r b), λ i. in_is r (subst (λ (o : Option Role). RoleIsIn k o h (Some p) c) e i))
 
-pub few_copies : (c : CopyNo) → copy_number c < 3
-few_copies First = omega arith
-few_copies Second = omega arith
-few_copies Third = omega arith
-
 module _ (k : PlainCert) (h : ℕ) (c : CopyNo) (is : IsCert k) (three : k.hardened_inputs ≡ 3 * k.original_inputs) where
   from_role : (o : Option Role) → role_of k h ≡ o → RoleIsIn k o h None c → (i : ℕ) × (i < k.original_inputs) × (h ≡ 3 * i + copy_number c)
   from_role None e (i, copy, same) = (i, copy.0, copy.2)
@@ -87,7 +71,7 @@ module _ (k : PlainCert) (h : ℕ) (c : CopyNo) (is : IsCert k) (three : k.harde
 
   to_role : (i : ℕ) → i < k.original_inputs → h ≡ 3 * i + copy_number c → IsIn k h None c
   to_role i l e =
-      let low : h < k.hardened_inputs = omega (arith, three, l, e, few_copies c) in
+      let low : h < k.hardened_inputs = omega (arith, three, l, e, copy_below c) in
       subst (λ (o : Option Role). RoleIsIn k o h None c) (sym (slot_below k.hardened_inputs k.roles h low)) (i, (l, low, e), refl)
 
   pub input_is_in : IsIn k h None c ↔ ((i : ℕ) × (i < k.original_inputs) × (h ≡ 3 * i + copy_number c))

@@ -1,5 +1,5 @@
 -- What is made of a plan fits its certificate.
-use Rattle.std.proofs.Common.{◌≡◌, List, Bool, sym, subst}
+use Rattle.std.proofs.Common.{List, Bool, sym, subst}
 use Rattle.flat_net.specs.Net.{Net}
 use Rattle.flat_net.specs.Free.{AreMarks}
 use Rattle.certificate.specs.Cert.{PlainCert, Fits}

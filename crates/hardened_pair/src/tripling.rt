@@ -10,8 +10,8 @@ ghost use Rattle.certificate.specs.declared.role.Role.TheVariants.{Copy, Voter};
 ghost use Rattle.table_cover.specs.Pushing.{with_row};
 ghost use Rattle.triplicate.specs.Blocks.{copies_of, voters_for};
 ghost use Rattle.triplicate.specs.Form.{majority_cover};
-ghost use Rattle.hardened_pair.specs.Private.Layouts.{IsLayout, net_of, roles_of, first_copy_of, first_pins_of, block_of};
-ghost use Rattle.hardened_pair.specs.Private.Made.{IsMade, IsNext, shifted_node, PushesNode};
+ghost use Rattle.hardened_pair.specs.Private.Layouts.{IsLayout, net_of, roles_of, first_pins_of, block_of};
+ghost use Rattle.hardened_pair.specs.Private.Made.{IsMade, IsNext, IsVotedNet, shifted_node, PushesNode};
 
 use crate::layout::{Layout, room_of};
 use crate::naming::{input_names, put_names};
@@ -35,6 +35,14 @@ pub struct Made {
     pub nodes: PackedNodes,
     pub roles: Vec<Role>,
     pub room: Vec<NetId>,
+}
+
+/// A net that is voted on: its number, that of its first copy, and the cover of each voter.
+#[derive(Drop)]
+struct VotedNet<'a> {
+    net: NetId,
+    copy: u32,
+    majority: &'a Cover,
 }
 
 /// What copy c of a node reads, where the first copy reads these, put into `room`.
@@ -171,65 +179,56 @@ fn push_copies(
     Ok(())
 }
 
-/// Adds a voter of net x for partition p, which gives copy c. `stem` begins its name, and `copy` is the first copy of x.
+/// Adds the voter of a net for partition p that gives copy c. `stem` begins its name.
 fn push_voter(
     alloc: Global,
     layout: &Layout,
-    x: NetId,
+    voted: &VotedNet<'_>,
     p: PartId,
     c: CopyNo,
     stem: &Name,
-    copy: u32,
-    cover: &Cover,
     made: &mut Made,
 ) -> Result<(), OutOfMemory>
     requires layout { IsLayout layout.now }
-    requires stem { stem.now ≡ stem_text (name_of (net_of layout.now) x.0) p.0 }
-    requires range { x.0 < net_count (net_of layout.now) }
-    requires copy { copy ≡ first_copy_of layout.now x.0 }
-    requires few { copy + 3 < 4294967296 }
-    requires cover { cover.now ≡ majority_cover }
+    requires voted { IsVotedNet layout.now voted.now }
+    requires stem { stem.now ≡ stem_text (name_of (net_of layout.now) voted.now.net.0) p.0 }
     requires made { IsMade layout.now made.old }
-    requires next { IsNext layout.now made.old.roles.items (Voter x p c ∷ []) }
+    requires next { IsNext layout.now made.old.roles.items (Voter voted.now.net p c ∷ []) }
     ensures made { OnOk result (IsMade layout.now made.new) }
-    ensures roles { OnOk result (made.new.roles.items ≡ made.old.roles.items ++ Voter x p c ∷ []) }
+    ensures roles { OnOk result (made.new.roles.items ≡ made.old.roles.items ++ Voter voted.now.net p c ∷ []) }
 {
     let name = voter_on_stem(alloc, stem, c)?;
     made.waiting.push(name)?;
-    let majority = cover.copy(alloc)?;
+    let majority = voted.majority.copy(alloc)?;
+    let copy = voted.copy;
     let pins = [NetId(copy), NetId(copy + 1), NetId(copy + 2)];
     push_table(&mut made.nodes, majority, &pins)?;
     made.roles.push(Role::Voter {
-        node: x,
+        node: voted.net,
         part: p,
         copy: c,
     })?;
     Ok(())
 }
 
-/// Adds the voters of net x for partition p.
+/// Adds the voters of a net for partition p.
 fn push_three_voters(
     alloc: Global,
     layout: &Layout,
-    x: NetId,
+    voted: &VotedNet<'_>,
     p: PartId,
-    copy: u32,
-    cover: &Cover,
     made: &mut Made,
 ) -> Result<(), OutOfMemory>
     requires layout { IsLayout layout.now }
-    requires range { x.0 < net_count (net_of layout.now) }
-    requires copy { copy ≡ first_copy_of layout.now x.0 }
-    requires few { copy + 3 < 4294967296 }
-    requires cover { cover.now ≡ majority_cover }
+    requires voted { IsVotedNet layout.now voted.now }
     requires made { IsMade layout.now made.old }
-    requires next { IsNext layout.now made.old.roles.items (voters_for x.0 p.0) }
+    requires next { IsNext layout.now made.old.roles.items (voters_for voted.now.net.0 p.0) }
     ensures made { OnOk result (IsMade layout.now made.new) }
-    ensures roles { OnOk result (made.new.roles.items ≡ made.old.roles.items ++ voters_for x.0 p.0) }
+    ensures roles { OnOk result (made.new.roles.items ≡ made.old.roles.items ++ voters_for voted.now.net.0 p.0) }
 {
-    let stem = voter_stem(alloc, layout.net.name(x), p)?;
+    let stem = voter_stem(alloc, layout.net.name(voted.net), p)?;
     for c in [CopyNo::First, CopyNo::Second, CopyNo::Third] {
-        push_voter(alloc, layout, x, p, c, &stem, copy, cover, made)?;
+        push_voter(alloc, layout, voted, p, c, &stem, made)?;
     }
     Ok(())
 }
@@ -263,28 +262,23 @@ fn put_if_many(alloc: Global, layout: &Layout, made: &mut Made) -> Result<(), Ou
     Ok(())
 }
 
-/// Adds the voters of net x for these partitions.
+/// Adds the voters of a net for these partitions.
 fn push_voters(
     alloc: Global,
     layout: &Layout,
-    x: NetId,
+    voted: &VotedNet<'_>,
     row: &[u32],
-    copy: u32,
-    cover: &Cover,
     made: &mut Made,
 ) -> Result<(), OutOfMemory>
     requires layout { IsLayout layout.now }
-    requires range { x.0 < net_count (net_of layout.now) }
-    requires copy { copy ≡ first_copy_of layout.now x.0 }
-    requires few { copy + 3 < 4294967296 }
-    requires cover { cover.now ≡ majority_cover }
+    requires voted { IsVotedNet layout.now voted.now }
     requires made { IsMade layout.now made.old }
-    requires next { IsNext layout.now made.old.roles.items (flat_map (voters_for x.0) row.now) }
+    requires next { IsNext layout.now made.old.roles.items (flat_map (voters_for voted.now.net.0) row.now) }
     ensures made { OnOk result (IsMade layout.now made.new) }
-    ensures roles { OnOk result (made.new.roles.items ≡ made.old.roles.items ++ flat_map (voters_for x.0) row.now) }
+    ensures roles { OnOk result (made.new.roles.items ≡ made.old.roles.items ++ flat_map (voters_for voted.now.net.0) row.now) }
 {
     for p in row {
-        push_three_voters(alloc, layout, x, PartId(*p), copy, cover, made)?;
+        push_three_voters(alloc, layout, voted, PartId(*p), made)?;
         put_if_many(alloc, layout, made)?;
     }
     Ok(())
@@ -336,8 +330,12 @@ fn push_block(
 {
     push_own_copies(alloc, layout, x, pins, made)?;
     let copy = first_copy(layout, x);
-    let row = layout.plan.voters.row(x);
-    push_voters(alloc, layout, NetId(x), row, copy, cover, made)?;
+    let voted = VotedNet {
+        net: NetId(x),
+        copy,
+        majority: cover,
+    };
+    push_voters(alloc, layout, &voted, layout.plan.voters.row(x), made)?;
     Ok(())
 }
 

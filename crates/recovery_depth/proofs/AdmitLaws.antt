@@ -14,7 +14,7 @@ use Rattle.certificate.specs.declared.role.Role.{Role}
 use Rattle.certificate.specs.declared.role.Role.TheVariants.{Copy, Voter}
 use Rattle.certificate.specs.Cert.{PlainCert, IsCert, role_of, role_count, label_of, depth_of, count_of, copy_of, three_or_zero, Fits}
 use Rattle.certificate.specs.Rules.{Rule6, Rule7, LabelReaches}
-use Rattle.recovery_depth.specs.declared.deep.Deep.{Deep}
+use Rattle.recovery_depth.specs.declared.depth_and_chain.Deep.{Deep}
 use Rattle.recovery_depth.specs.Walks.{Walk, starts, goes_on, IsReach}
 use Rattle.recovery_depth.specs.Depths.{is_some_register}
 use Rattle.recovery_depth.specs.Hardened.{role_at, node_at, is_copy, ReadsCopy, original_of, own_original}

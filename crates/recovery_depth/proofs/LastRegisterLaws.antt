@@ -14,7 +14,7 @@ append_nil : (xs : List ℕ) → xs ++ [] ≡ xs
 append_nil [] = refl
 append_nil (x ∷ xs) = ap (λ ys. x ∷ ys) (append_nil xs)
 
-later : (j k : ℕ) → j < k + 1 → (j ≡ k) ⊎ (j < k)
+pub later : (j k : ℕ) → j < k + 1 → (j ≡ k) ⊎ (j < k)
 later j k h = go (cases_eq j k)
   where
     go : (j ≡ k) ⊎ (j ≡ k → ⊥) → (j ≡ k) ⊎ (j < k)

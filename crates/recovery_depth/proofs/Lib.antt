@@ -6,6 +6,7 @@ pub mod GreatestLaws
 pub mod UncutLaws
 pub mod WalkLaws
 pub mod LastRegisterLaws
+pub mod ChainEndLaws
 pub mod WalkedLaws
 pub mod CopyLaws
 pub mod CopyOrder

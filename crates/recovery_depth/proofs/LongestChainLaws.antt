@@ -20,7 +20,7 @@ use Rattle.graph.specs.Rows.{Follows}
 use Rattle.graph.specs.Lists.{Leads, alone, longer}
 use Rattle.graph.proofs.Places.{leads_map}
 use Rattle.graph.proofs.Decisions.{no_absurd}
-use Rattle.recovery_depth.specs.declared.deep.Deep.{Deep}
+use Rattle.recovery_depth.specs.declared.depth_and_chain.Deep.{Deep}
 use Rattle.recovery_depth.specs.Walks.{Walk, starts, goes_on, IsReach, is_marked}
 use Rattle.recovery_depth.specs.Private.Vertices.{IsReachIn, marked}
 use Rattle.recovery_depth.specs.Depths.{is_some_register, IsDepth}

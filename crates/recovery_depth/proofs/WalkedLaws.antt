@@ -6,7 +6,7 @@ use Rattle.flat_net.specs.Nodes.{number_of}
 use Rattle.tmr_base.specs.declared.ids.NetId.{NetId}
 use Rattle.certificate.proofs.Validity.{push_read}
 use Rattle.graph.specs.Rows.{Follows}
-use Rattle.recovery_depth.specs.declared.deep.Deep.{Deep}
+use Rattle.recovery_depth.specs.declared.depth_and_chain.Deep.{Deep}
 use Rattle.recovery_depth.specs.Walks.{Walk, starts, is_marked}
 use Rattle.recovery_depth.specs.Private.Vertices.{one_if, marked}
 use Rattle.recovery_depth.specs.Private.LastRegisters.{number_at, IsBefore, AreBefore}

@@ -6,7 +6,7 @@ use Rattle.flat_net.specs.Net.{Net}
 use Rattle.flat_net.specs.Nodes.{number_of}
 use Rattle.certificate.specs.declared.role.Role.TheVariants.{Copy}
 use Rattle.certificate.specs.Cert.{PlainCert, label_of}
-use Rattle.recovery_depth.specs.declared.deep.Deep.{Deep}
+use Rattle.recovery_depth.specs.declared.depth_and_chain.Deep.{Deep}
 use Rattle.recovery_depth.specs.Walks.{IsReach}
 use Rattle.recovery_depth.specs.Hardened.{role_at, ReadsCopy, own_original}
 use Rattle.recovery_depth.specs.Chains.{IsDeep, relabeled, Admits}

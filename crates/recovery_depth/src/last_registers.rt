@@ -11,6 +11,17 @@ use graph::Graph;
 use std::alloc::Global;
 use tmr_base::OutOfMemory;
 
+/// What is known of walks with the most registers: for each vertex whether it is a register, how many registers such a walk
+/// has that ends in it, and the last register before it; which register is taken first, and the number that stands for none.
+#[derive(Drop)]
+pub struct LastRegisters<'a> {
+    pub is_register: &'a [bool],
+    pub reaches: &'a [u32],
+    pub before: &'a [u32],
+    pub ranks: &'a Ranks,
+    pub none: u32,
+}
+
 /// The vertex itself, if it is a register, else the last register before it.
 pub fn last_of(is_register: &[bool], before: &[u32], x: u32) -> u32
     ensures { result ≡ last_of is_register.now before.now x }
@@ -36,40 +47,24 @@ pub fn first_of(ranks: &Ranks, none: u32, best: u32, other: u32) -> u32
 }
 
 /// The best so far, or the last register of x, where x has this reach.
-pub fn considered(
-    reaches: &[u32],
-    is_register: &[bool],
-    before: &[u32],
-    ranks: &Ranks,
-    none: u32,
-    target: u32,
-    best: u32,
-    x: u32,
-) -> u32
-    ensures other { (slice_index_or reaches.now x 0 ≡ target → IsOneOf none best (last_of is_register.now before.now x) result) }
-    ensures same { (slice_index_or reaches.now x 0 ≢ target → result ≡ best) }
+pub fn considered(last: &LastRegisters<'_>, target: u32, best: u32, x: u32) -> u32
+    ensures other { (slice_index_or last.now.reaches.now x 0 ≡ target → IsOneOf last.now.none best (last_of last.now.is_register.now last.now.before.now x) result) }
+    ensures same { (slice_index_or last.now.reaches.now x 0 ≢ target → result ≡ best) }
 {
-    if reach_at(reaches, x) != target {
+    if reach_at(last.reaches, x) != target {
         return best;
     }
-    first_of(ranks, none, best, last_of(is_register, before, x))
+    let other = last_of(last.is_register, last.before, x);
+    first_of(last.ranks, last.none, best, other)
 }
 
 /// The register that ranks first among the last registers of the vertices of a row that have this reach.
-fn chosen(
-    row: &[u32],
-    reaches: &[u32],
-    is_register: &[bool],
-    before: &[u32],
-    ranks: &Ranks,
-    none: u32,
-    target: u32,
-) -> u32
-    ensures { IsChosen row.now reaches.now is_register.now before.now none target (length row.now) result }
+fn chosen(row: &[u32], last: &LastRegisters<'_>, target: u32) -> u32
+    ensures { IsChosen row.now last.now.reaches.now last.now.is_register.now last.now.before.now last.now.none target (length row.now) result }
 {
-    let mut best = none;
+    let mut best = last.none;
     for x in row {
-        best = considered(reaches, is_register, before, ranks, none, target, best, *x);
+        best = considered(last, target, best, *x);
     }
     best
 }
@@ -94,15 +89,14 @@ pub fn registers_before(
     for x in order {
         let own = own_count(is_register, *x);
         let target = reach_at(reaches, *x).saturating_sub(own);
-        before[*x as usize] = chosen(
-            graph.row(*x),
-            reaches,
+        let last = LastRegisters {
             is_register,
-            before.as_slice(),
+            reaches,
+            before: before.as_slice(),
             ranks,
-            count,
-            target,
-        );
+            none: count,
+        };
+        before[*x as usize] = chosen(graph.row(*x), &last, target);
     }
     Ok(before)
 }

@@ -5,8 +5,8 @@ ghost use Rattle.certificate.specs.Rules.{AllHold};
 ghost use Rattle.recovery_depth.specs.Least.{AreDeep, AreLeast, AreAdmitted};
 
 use crate::copies::{copy_reads, originals, places, ranks, register_copies};
-use crate::deep::Deep;
-use crate::last_registers::registers_before;
+use crate::depth_and_chain::Deep;
+use crate::last_registers::{LastRegisters, registers_before};
 use crate::longest_chains::{chain_ends, depths_and_chains};
 use crate::ordering::ordered;
 use crate::partition_depths::greatest_labels;
@@ -46,16 +46,14 @@ pub fn least(
     let before = registers_before(alloc, &graph, &is_register, &reaches, &order, &ranks, count)?;
     let places = places(alloc, n, h, c)?;
     let depths = greatest_labels(alloc, &places, &reaches)?;
-    let ends = chain_ends(
-        alloc,
-        &places,
-        &reaches,
-        &depths,
-        &is_register,
-        &before,
-        &ranks,
-        count,
-    )?;
+    let last = LastRegisters {
+        is_register: &is_register,
+        reaches: &reaches,
+        before: &before,
+        ranks: &ranks,
+        none: count,
+    };
+    let ends = chain_ends(alloc, &places, &depths, &last)?;
     let originals = originals(alloc, n, h, c)?;
     let found = depths_and_chains(alloc, &before, &originals, &ends, &depths, parts)?;
     Ok(found)

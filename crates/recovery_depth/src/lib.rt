@@ -15,7 +15,7 @@
 
 mod bounding;
 mod copies;
-mod deep;
+mod depth_and_chain;
 mod depth_table;
 mod extra;
 mod last_registers;
@@ -28,7 +28,7 @@ mod reaching;
 mod register_nodes;
 mod uncut;
 
-pub use deep::Deep;
+pub use depth_and_chain::Deep;
 pub use depth_table::{DepthTable, depths};
 pub use extra::{Extra, bound, bound_in_order};
 pub use least_depths::least;

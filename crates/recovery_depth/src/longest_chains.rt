@@ -4,9 +4,8 @@ ghost use Rattle.flat_net.specs.Nodes.{number_of};
 ghost use Rattle.recovery_depth.specs.Private.LastRegisters.{number_at};
 ghost use Rattle.recovery_depth.specs.Private.ChainEnds.{AreChainEnds, AreRead, walked};
 
-use crate::deep::Deep;
-use crate::last_registers::considered;
-use crate::ranks::Ranks;
+use crate::depth_and_chain::Deep;
+use crate::last_registers::{LastRegisters, considered};
 use crate::reaching::reach_at;
 use std::alloc::Global;
 use tmr_base::{NetId, OutOfMemory, Parts};
@@ -15,21 +14,17 @@ use tmr_base::{NetId, OutOfMemory, Parts};
 pub fn chain_ends(
     alloc: Global,
     places: &Parts,
-    reaches: &[u32],
     depths: &[u32],
-    is_register: &[bool],
-    before: &[u32],
-    ranks: &Ranks,
-    none: u32,
+    last: &LastRegisters<'_>,
 ) -> Result<Vec<u32>, OutOfMemory>
-    ensures { IfOk result (λ ends. AreChainEnds places.now reaches.now depths.now is_register.now before.now none (length places.now.of) ends.items) }
+    ensures { IfOk result (λ ends. AreChainEnds places.now last.now.reaches.now depths.now last.now.is_register.now last.now.before.now last.now.none (length places.now.of) ends.items) }
 {
-    let mut ends = vec![in alloc; none; places.count() as usize]?;
+    let mut ends = vec![in alloc; last.none; places.count() as usize]?;
     for g in 0..places.len() {
         let p = places.of(g);
         let target = reach_at(depths, p);
         let best = reach_at(ends.as_slice(), p);
-        ends[p as usize] = considered(reaches, is_register, before, ranks, none, target, best, g);
+        ends[p as usize] = considered(last, target, best, g);
     }
     Ok(ends)
 }

@@ -6,7 +6,7 @@ use Rattle.flat_net.specs.Nodes.{number_of}
 use Rattle.certificate.specs.declared.role.Role.{Role}
 use Rattle.certificate.specs.declared.role.Role.TheVariants.{Copy, Voter}
 use Rattle.certificate.specs.Cert.{PlainCert, IsCert, Fits}
-use Rattle.recovery_depth.specs.declared.deep.Deep.{Deep}
+use Rattle.recovery_depth.specs.declared.depth_and_chain.Deep.{Deep}
 use Rattle.recovery_depth.specs.Depths.{is_some_register}
 use Rattle.recovery_depth.specs.Walks.{Walk, starts, goes_on}
 use Rattle.recovery_depth.specs.Hardened.{role_at, node_at, original_of, own_original}

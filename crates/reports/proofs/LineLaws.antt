@@ -12,7 +12,7 @@ use Rattle.reports.specs.declared.writing.PartCounts.{PartCounts}
 use Rattle.reports.specs.Counts.{count_in, any_node, loops_in}
 use Rattle.certificate.specs.Text.{line_text}
 use Rattle.feedback_cut.specs.Components.{PlainGroups}
-use Rattle.recovery_depth.specs.declared.deep.Deep.{Deep}
+use Rattle.recovery_depth.specs.declared.depth_and_chain.Deep.{Deep}
 use Rattle.reports.specs.Report.{part_words, part_line, part_lines, head_lines, report_text}
 use Rattle.reports.specs.Private.Left.{parts_left, AreCounted}
 use Rattle.reports.proofs.WordLaws.{drop_all}

@@ -1,5 +1,5 @@
 -- The components of a partition that have a loop are as many as the nodes that are the first of such a component.
-use Rattle.std.proofs.Common.{◌≡◌, ◌≢◌, ℕ, zero, suc, ◌+◌, ◌<◌, ◌≤◌, ◌⊎◌, inl, inr, Bool, true, false, eqb, ◌&&◌, ◌||◌, not, List, [], ◌∷◌, length, take, get_or, slice_index, refl, sym, ◌∙◌, ap, ap₂, arith}
+use Rattle.std.proofs.Common.{◌≡◌, ◌≢◌, ℕ, zero, suc, ◌+◌, ◌<◌, ◌≤◌, ◌⊎◌, inl, inr, Bool, true, false, ◌&&◌, ◌||◌, not, List, [], ◌∷◌, length, take, get_or, slice_index, refl, sym, ◌∙◌, ap, ap₂, arith}
 use Rattle.std.specs.Prelude.{◌==◌, nat_eq}
 use Rattle.std.specs.List.{list_any, range_with_len}
 use Rattle.std.proofs.lemmas.Bool.{cases_eq, eq-eqb, ne_eqb}
@@ -13,9 +13,9 @@ use Rattle.certificate.specs.Cert.{PlainCert}
 use Rattle.feedback_cut.specs.Components.{PlainGroups, AreComponents, ReadsNode, component_of, has_loop}
 use Rattle.partitioner.specs.Below.{count_below, one_if}
 use Rattle.partitioner.proofs.BelowLaws.{count_none, count_same, count_changed}
-use Rattle.reports.specs.Counts.{partitions, count_in, stands_in, loops_in}
+use Rattle.reports.specs.Counts.{partitions, count_in, loops_in}
 use Rattle.reports.specs.Private.Left.{heads_loop, AreCountsOf, AreLoopsOf}
-use Rattle.reports.proofs.CountLaws.{count_more, was_seen}
+use Rattle.reports.proofs.CountLaws.{was_seen}
 
 -- nodes that lead to one another stand in one partition
 leads_together : (n : Net) (parts : PlainParts) (x y : ℕ) → Leads (ReadsNode n parts) x y → slice_index parts.of x ≡ slice_index parts.of y

@@ -7,7 +7,7 @@ use Rattle.flat_net.specs.Nodes.{number_of}
 use Rattle.certificate.specs.Cert.{PlainCert, depth_of}
 use Rattle.certificate.specs.Text.{line_text}
 use Rattle.feedback_cut.specs.Components.{PlainGroups, AreComponents}
-use Rattle.recovery_depth.specs.declared.deep.Deep.{Deep}
+use Rattle.recovery_depth.specs.declared.depth_and_chain.Deep.{Deep}
 use Rattle.recovery_depth.specs.Depths.{is_register_at}
 use Rattle.recovery_depth.specs.Least.{AreDeep, AreLeast, AreAdmitted}
 use Rattle.partitioner.specs.Cost.{cost}

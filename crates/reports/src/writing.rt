@@ -119,26 +119,32 @@ pub fn put_head(
     Ok(())
 }
 
+/// The numbers that the line of a partition tells.
+#[derive(Clone, Copy, Drop)]
+struct PartNumbers {
+    nodes: u32,
+    registers: u32,
+    loops: u32,
+    depth: u32,
+    least: u32,
+}
+
 /// Puts the words of partition p's line but the first and the names: six numbers, each behind a word.
 #[tactic(auto, using(crate::proofs::WordLaws::numbers_put))]
 fn put_numbers(
     alloc: Global,
     out: &mut Vec<u8>,
     p: u32,
-    nodes: u32,
-    registers: u32,
-    loops: u32,
-    depth: u32,
-    least: u32,
+    part: PartNumbers,
 ) -> Result<(), AllocError>
-    ensures { OnOk result (out.new.items ≡ out.old.items ++ spaced (decimal p ∷ codes "nodes" ∷ decimal nodes ∷ codes "registers" ∷ decimal registers ∷ codes "loops" ∷ decimal loops ∷ codes "depth" ∷ decimal depth ∷ codes "least" ∷ decimal least ∷ codes "chain" ∷ [])) }
+    ensures { OnOk result (out.new.items ≡ out.old.items ++ spaced (decimal p ∷ codes "nodes" ∷ decimal part.nodes ∷ codes "registers" ∷ decimal part.registers ∷ codes "loops" ∷ decimal part.loops ∷ codes "depth" ∷ decimal part.depth ∷ codes "least" ∷ decimal part.least ∷ codes "chain" ∷ [])) }
 {
     put_decimal(alloc, out, p)?;
-    put_number(alloc, out, b"nodes", nodes)?;
-    put_number(alloc, out, b"registers", registers)?;
-    put_number(alloc, out, b"loops", loops)?;
-    put_number(alloc, out, b"depth", depth)?;
-    put_number(alloc, out, b"least", least)?;
+    put_number(alloc, out, b"nodes", part.nodes)?;
+    put_number(alloc, out, b"registers", part.registers)?;
+    put_number(alloc, out, b"loops", part.loops)?;
+    put_number(alloc, out, b"depth", part.depth)?;
+    put_number(alloc, out, b"least", part.least)?;
     put_word(out, b"chain")?;
     Ok(())
 }
@@ -180,7 +186,14 @@ fn put_part(
     let registers = count_at(&counts.registers, p);
     let loops = count_at(&counts.loops, p);
     let depth = c.depth(PartId(p));
-    put_numbers(alloc, out, p, nodes, registers, loops, depth, deep.depth)?;
+    let numbers = PartNumbers {
+        nodes,
+        registers,
+        loops,
+        depth,
+        least: deep.depth,
+    };
+    put_numbers(alloc, out, p, numbers)?;
     put_names(out, n, &deep.chain)?;
     put_end(out)?;
     Ok(())

@@ -50,22 +50,28 @@ pub struct SweptFrom {
     pub survey: Survey,
 }
 
-/// What the design made threefold by this plan has. `net` is that of `n`.
+/// The hardened form that is asked for: which one, the size of its partitions, and the version of its certificate.
+#[derive(Clone, Copy, Drop)]
+struct Asked {
+    form: Form,
+    size: u32,
+    version: u8,
+}
+
+/// What the design made threefold by this plan has, where no depth is above `most`. `net` is that of `n`.
 fn swept_of(
     alloc: Global,
     n: &FreeNet,
     net: &FlatNet,
     plan: &Plan,
-    form: Form,
-    size: u32,
-    version: u8,
+    asked: Asked,
     most: u32,
 ) -> Result<Swept, OutOfMemory>
-    requires version { (version ≡ 1) ⊎ (version ≡ 2) }
+    requires version { (asked.version ≡ 1) ⊎ (asked.version ≡ 2) }
     requires same { net.now ≡ n.now.design }
-    requires plan { IsPlan form net.now.net size (nat_eq version 2) most plan.now }
+    requires plan { IsPlan asked.form net.now.net asked.size (nat_eq asked.version 2) most plan.now }
     requires few { net_count net.now.net + pin_total net.now.net ≤ 16777216 }
-    ensures { IfOk result (λ s. IsSwept form n.now size version most s) }
+    ensures { IfOk result (λ s. IsSwept asked.form n.now asked.size asked.version most s) }
 {
     let count = nodes_of(net);
     let depths = plan.depths(alloc)?;
@@ -73,7 +79,7 @@ fn swept_of(
     let levels = voted_levels(alloc, net, &Votes::Planned(plan))?;
     let nodes = plan.nets(net) - 3 * net.input_count();
     Ok(Swept {
-        size,
+        size: asked.size,
         partitions: plan.parts.count(),
         voters: nodes - 3 * count,
         depth: greatest(&depths),
@@ -104,7 +110,12 @@ pub fn sweep_size(
 {
     let net = n.net();
     let made = plan_from(alloc, net, survey, form, size, version == 2, most)?;
-    let swept = swept_of(alloc, n, net, &made.plan, form, size, version, most)?;
+    let asked = Asked {
+        form,
+        size,
+        version,
+    };
+    let swept = swept_of(alloc, n, net, &made.plan, asked, most)?;
     Ok(SweptFrom {
         swept,
         survey: made.survey,

@@ -9,27 +9,16 @@ use Rattle.std.proofs.lemmas.List.FromFn.{map-range_with_len_more, length-range_
 use Rattle.std.proofs.lemmas.List.Sums.{length-filter, count_by-le-length}
 use Rattle.std.proofs.lemmas.Option.{get_or_from_slice_get, slice_get_within}
 use Rattle.tmr_base.specs.declared.copies.CopyNo.{CopyNo}
-use Rattle.tmr_base.specs.declared.copies.CopyNo.TheVariants.{First, Second, Third}
 use Rattle.tmr_base.specs.Copies.{copy_number}
 use Rattle.certificate.specs.declared.role.Role.{Role}
 use Rattle.certificate.specs.declared.role.Role.TheVariants.{Copy, Voter}
 use Rattle.certificate.specs.Cert.{PlainCert, role_of, part_of}
 use Rattle.certificate.specs.Schedules.{RoleIsIn, IsIn}
+use Rattle.certificate.proofs.Domains.{same_copy}
 use Rattle.graph.specs.Rows.{row}
 use Rattle.tmr_trial.specs.declared.members.Members.{Members}
 use Rattle.tmr_trial.specs.Members.{rows_of, AreMembers}
 use Rattle.tmr_trial.specs.NearSchedules.{role_part, role_copy, is_part, is_of, nodes_among}
-
-pub same_copy : (c d : CopyNo) → copy_number c ≡ copy_number d → c ≡ d
-same_copy First First e = refl
-same_copy First Second e = absurd (omega arith)
-same_copy First Third e = absurd (omega arith)
-same_copy Second First e = absurd (omega arith)
-same_copy Second Second e = refl
-same_copy Second Third e = absurd (omega arith)
-same_copy Third First e = absurd (omega arith)
-same_copy Third Second e = absurd (omega arith)
-same_copy Third Third e = refl
 
 copy_cases : (c d : CopyNo) → (c ≡ d) ⊎ (c ≢ d)
 copy_cases c d = go (cases_eq (copy_number c) (copy_number d))

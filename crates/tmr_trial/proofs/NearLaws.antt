@@ -14,8 +14,8 @@ use Rattle.flat_net.specs.Net.{Net}
 use Rattle.flat_net.proofs.Slots.{slot_within}
 use Rattle.certificate.specs.Cert.{PlainCert, depth_of}
 use Rattle.certificate.specs.Schedules.{IsIn, Allowed}
+use Rattle.certificate.proofs.Domains.{one_domain}
 use Rattle.schedules.specs.Schedule.{PlainSchedule, IsBefore}
-use Rattle.schedules.proofs.Domains.{one_domain}
 use Rattle.tmr_trial.specs.declared.near_pairs.NearPair.{NearPair}
 use Rattle.tmr_trial.specs.Numbers.{state_after}
 use Rattle.tmr_trial.specs.Schedules.{cycle_draws, state_before, row_drawn}

@@ -10,8 +10,7 @@ use Rattle.tmr_base.specs.declared.ids.Upset.{Upset}
 use Rattle.tmr_base.specs.Copies.{copy_number}
 use Rattle.certificate.specs.Cert.{PlainCert, depth_of, part_depth}
 use Rattle.certificate.specs.Schedules.{IsIn, Allowed}
-use Rattle.schedules.proofs.Domains.{one_domain}
-use Rattle.tmr_trial.proofs.MemberLaws.{same_copy}
+use Rattle.certificate.proofs.Domains.{one_domain, same_copy}
 use Rattle.tmr_trial.specs.declared.strikes.Strike.{Strike}
 use Rattle.tmr_trial.specs.Schedules.{IsAdded}
 use Rattle.tmr_trial.specs.Strikes.{strike_at, is_near, IsStrike, IsNoLater, AreStrikes}

@@ -15,6 +15,15 @@ use schedules::Schedule;
 use std::alloc::Global;
 use tmr_base::{NetId, OutOfMemory, Upset};
 
+/// What a schedule is drawn for: the number that gives it, the two designs, and the certificate.
+#[derive(Drop)]
+pub struct Trial<'a> {
+    pub number: u64,
+    pub original: &'a FlatNet,
+    pub hardened: &'a FlatNet,
+    pub certificate: &'a Certificate,
+}
+
 /// Draws the inputs of a cycle.
 pub fn draw_row(numbers: &mut Numbers, inputs: u32, row: &mut Vec<bool>) -> Result<(), OutOfMemory>
     ensures row { OnOk result (row.new.items ≡ row_drawn inputs numbers.old.state) }
@@ -78,28 +87,26 @@ fn add_if_allowed(
 
 /// Draws cycle t. `row` is room for its inputs.
 fn draw_cycle(
-    number: u64,
-    n: &FlatNet,
-    h: &FlatNet,
-    c: &Certificate,
+    trial: &Trial<'_>,
     t: u32,
     numbers: &mut Numbers,
     row: &mut Vec<bool>,
     strikes: &mut Vec<Option<Strike>>,
     s: &mut Schedule,
 ) -> Result<(), OutOfMemory>
-    requires fits { Fits n.now.net h.now.net c.now }
+    requires fits { Fits trial.now.original.now.net trial.now.hardened.now.net trial.now.certificate.now }
     requires room { t < 1048576 }
-    requires drawn { HasDrawn number n.now.net h.now.net c.now t numbers.old.state strikes.old.items s.old }
-    ensures { OnOk result (HasDrawn number n.now.net h.now.net c.now (t + 1) numbers.new.state strikes.new.items s.new) }
+    requires drawn { HasDrawn trial.now.number trial.now.original.now.net trial.now.hardened.now.net trial.now.certificate.now t numbers.old.state strikes.old.items s.old }
+    ensures { OnOk result (HasDrawn trial.now.number trial.now.original.now.net trial.now.hardened.now.net trial.now.certificate.now (t + 1) numbers.new.state strikes.new.items s.new) }
 {
-    draw_row(numbers, n.input_count(), row)?;
+    let h = trial.hardened;
+    draw_row(numbers, trial.original.input_count(), row)?;
     s.push_cycle(row)?;
     if h.node_count() == 0 {
         return Ok(());
     }
     let u = draw_upset(h, t, numbers);
-    add_if_allowed(c, u, strikes, s)?;
+    add_if_allowed(trial.certificate, u, strikes, s)?;
     Ok(())
 }
 
@@ -128,18 +135,14 @@ pub fn schedule(
     let mut strikes = no_strikes(alloc, c)?;
     let mut row = Vec::new(alloc);
     let mut s = Schedule::new(alloc, n.input_count());
+    let trial = Trial {
+        number,
+        original: n,
+        hardened: h,
+        certificate: c,
+    };
     for t in 0..cycles {
-        draw_cycle(
-            number,
-            n,
-            h,
-            c,
-            t,
-            &mut numbers,
-            &mut row,
-            &mut strikes,
-            &mut s,
-        )?;
+        draw_cycle(&trial, t, &mut numbers, &mut row, &mut strikes, &mut s)?;
     }
     Ok(s)
 }

@@ -1,7 +1,13 @@
 //! Designs and schedules for trials, drawn from a number.
 //!
 //! The layers above may rely on this: `design` is the design that a number gives, exactly; `schedule` is
-//! the schedule that it gives for a hardened design, and the certificate allows it.
+//! the schedule that it gives for a hardened design, and the certificate allows it. `near_schedule` is one of pairs of upsets that the
+//! certificate does not allow.
+//!
+//! What is hard: a certificate speaks of each two upsets of a schedule, and there may be a million. So upsets are drawn cycle by cycle,
+//! and a new one is compared with the last upset of its partition alone (`strikes` says why that is enough). Pairs that are too near are
+//! drawn behind all rows of inputs (`near_schedules`), so that a number gives the same inputs in both kinds of schedule. A pair begins only
+//! where each earlier one has ended, so upsets stay in order; its second node is not searched for, but listed before (`members`).
 #![tactic(auto)]
 
 mod allowed_schedules;

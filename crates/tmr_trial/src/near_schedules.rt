@@ -7,7 +7,7 @@ ghost use Rattle.tmr_trial.specs.Members.{AreMembers};
 ghost use Rattle.tmr_trial.specs.NearDrawing.{HasRows, HasPairs};
 ghost use Rattle.tmr_trial.specs.NearSchedules.{IsNearSchedule, is_turned, pair_upsets};
 
-use crate::allowed_schedules::{draw_row, draw_upset};
+use crate::allowed_schedules::{Trial, draw_row, draw_upset};
 use crate::members::Members;
 use crate::near_pairs::{NearPair, draw_pair};
 use crate::numbers::Numbers;
@@ -103,10 +103,7 @@ fn push_pair(s: &mut Schedule, q: NearPair) -> Result<(), OutOfMemory>
 
 /// Draws the pair of cycle t, and adds it where each earlier one has ended.
 fn draw_next_pair(
-    number: u64,
-    n: &FlatNet,
-    h: &FlatNet,
-    c: &Certificate,
+    trial: &Trial<'_>,
     members: &Members,
     cycles: u32,
     t: u32,
@@ -114,15 +111,16 @@ fn draw_next_pair(
     next: &mut u32,
     s: &mut Schedule,
 ) -> Result<(), OutOfMemory>
-    requires fits { Fits n.now.net h.now.net c.now }
-    requires some { 0 < length h.now.net.nodes }
-    requires members { AreMembers c.now (length c.now.roles) members.now }
+    requires fits { Fits trial.now.original.now.net trial.now.hardened.now.net trial.now.certificate.now }
+    requires some { 0 < length trial.now.hardened.now.net.nodes }
+    requires members { AreMembers trial.now.certificate.now (length trial.now.certificate.now.roles) members.now }
     requires few { cycles ≤ 524288 }
     requires t { t < cycles }
-    requires drawn { HasPairs number n.now.net h.now.net c.now cycles t numbers.old.state next.old s.old }
-    ensures { OnOk result (HasPairs number n.now.net h.now.net c.now cycles (t + 1) numbers.new.state next.new s.new) }
+    requires drawn { HasPairs trial.now.number trial.now.original.now.net trial.now.hardened.now.net trial.now.certificate.now cycles t numbers.old.state next.old s.old }
+    ensures { OnOk result (HasPairs trial.now.number trial.now.original.now.net trial.now.hardened.now.net trial.now.certificate.now cycles (t + 1) numbers.new.state next.new s.new) }
 {
-    let pair = draw_pair(h, c, members, cycles, t, numbers);
+    let h = trial.hardened;
+    let pair = draw_pair(h, trial.certificate, members, cycles, t, numbers);
     if t < *next {
         return Ok(());
     }
@@ -156,20 +154,15 @@ fn draw_near(
     if h.node_count() == 0 {
         return Ok(s);
     }
+    let trial = Trial {
+        number,
+        original: n,
+        hardened: h,
+        certificate: c,
+    };
     let mut next = 0;
     for t in 0..cycles {
-        draw_next_pair(
-            number,
-            n,
-            h,
-            c,
-            members,
-            cycles,
-            t,
-            &mut numbers,
-            &mut next,
-            &mut s,
-        )?;
+        draw_next_pair(&trial, members, cycles, t, &mut numbers, &mut next, &mut s)?;
     }
     Ok(s)
 }

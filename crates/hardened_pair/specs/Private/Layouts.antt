@@ -1,11 +1,10 @@
 -- Only private functions cite this: a design, the plan of its hardened form, and where in that form each net's copies and voters stand.
-use Rattle.std.specs.Prelude.{◌≡◌, ℕ, ◌+◌, ◌*◌, ◌<◌, Bool, true, false, not, List, ◌++◌, length, map, slice_index}
-use Rattle.std.specs.List.{flat_map, range_with_len}
+use Rattle.std.specs.Prelude.{ℕ, ◌+◌, ◌*◌, ◌<◌, Bool, true, false, not, List, ◌++◌, length, map, slice_index}
+use Rattle.std.specs.List.{range_with_len}
 use Rattle.tmr_base.specs.declared.copies.CopyNo.TheVariants.{First}
 use Rattle.tmr_base.specs.Parts.{PlainParts}
 use Rattle.flat_net.specs.Net.{Net, pin_total}
 use Rattle.flat_net.specs.Draft.{AreDistinct}
-use Rattle.certificate.specs.Cert.{PlainCert}
 use Rattle.certificate.specs.declared.role.Role.{Role}
 use Rattle.feedback_cut.specs.Inner.{node_pins}
 use Rattle.triplicate.specs.Blocks.{block, hardened_roles, hardened_inputs, role_name}

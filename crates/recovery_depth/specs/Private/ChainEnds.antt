@@ -7,7 +7,7 @@ use Rattle.flat_net.specs.Nodes.{number_of}
 use Rattle.certificate.specs.declared.role.Role.{Role}
 use Rattle.certificate.specs.declared.role.Role.TheVariants.{Copy, Voter}
 use Rattle.certificate.specs.Cert.{PlainCert, part_of}
-use Rattle.recovery_depth.specs.declared.deep.Deep.{Deep}
+use Rattle.recovery_depth.specs.declared.depth_and_chain.Deep.{Deep}
 use Rattle.recovery_depth.specs.Hardened.{role_at}
 use Rattle.recovery_depth.specs.Private.LastRegisters.{number_at, last_of}
 

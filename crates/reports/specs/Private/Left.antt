@@ -7,7 +7,7 @@ use Rattle.flat_net.specs.Nodes.{number_of}
 use Rattle.certificate.specs.Cert.{PlainCert}
 use Rattle.certificate.specs.Text.{line_text}
 use Rattle.feedback_cut.specs.Components.{PlainGroups, component_of, has_loop}
-use Rattle.recovery_depth.specs.declared.deep.Deep.{Deep}
+use Rattle.recovery_depth.specs.declared.depth_and_chain.Deep.{Deep}
 use Rattle.recovery_depth.specs.Depths.{is_register_at}
 use Rattle.reports.specs.declared.writing.PartCounts.{PartCounts}
 use Rattle.reports.specs.Counts.{count_in, any_node, loops_in}

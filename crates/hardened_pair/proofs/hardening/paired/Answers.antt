@@ -4,7 +4,7 @@ use Rattle.triplicate.specs.Planned.{plan_votes}
 use Rattle.triplicate.proofs.Valid.{is_valid}
 use Rattle.triplicate.proofs.HardenedOrder.{is_order}
 use Rattle.hardened_pair.specs.declared.layout.Layout.{Layout}
-use Rattle.hardened_pair.proofs.Rooms.{layout_is, room, made_names, made_nodes}
+use Rattle.hardened_pair.proofs.Rooms.{layout_is, made_names, made_nodes}
 use Rattle.hardened_pair.proofs.hardening.paired.Goals as goal
 
 pub starts-requires-clause-few : goal.starts-requires-clause-few

@@ -1,4 +1,3 @@
-use Rattle.hardened_pair.specs.Private.Layouts.{net_of, partitions, voted}
 use Rattle.hardened_pair.proofs.RoleSteps.{names_apart}
 use Rattle.hardened_pair.proofs.tripling.put_waiting.Goals as goal
 
