@@ -10,7 +10,7 @@ ghost use Rattle.triplicate.specs.Planned.{votes_in, plan_votes};
 ghost use Rattle.triplicate.specs.Pins.{AreVotesOf};
 ghost use Rattle.triplicate.specs.Taps.{AreTaps};
 ghost use Rattle.hardened_text.specs.Private.Spelled.{pin_spelled, pins_spelled};
-ghost use Rattle.hardened_text.specs.Private.Lines.{pin_names, copy_lines, lines_spelled, AreRowsOf, IsSpelling};
+ghost use Rattle.hardened_text.specs.Private.Lines.{pin_names, copy_lines, AreRowsOf};
 ghost use Rattle.tmr_base.specs.declared.copies.CopyNo.TheVariants.{First, Second, Third};
 
 use crate::names::{put_copy_name, put_voter_name};
@@ -64,85 +64,115 @@ fn put_pins(
     Ok(())
 }
 
-/// How the lines of a node's copies are spelled: its net, the digits of its partition, which of its pins are voted, the lines of its
-/// rows, how its clock is told, and whether its value in cycle 0 is free.
-#[derive(Drop)]
-struct Spelling<'a> {
-    net: NetId,
-    digits: &'a [u8],
-    votes: &'a [bool],
-    rows: &'a [u8],
-    control: &'a [u8],
-    free: bool,
-}
-
-/// Puts the lines of copy c of a table.
+/// Puts the lines of copy c of table x, whose rows these are.
 fn put_table(
     out: &mut Vec<u8>,
     n: &FlatNet,
-    spelling: &Spelling<'_>,
+    x: NetId,
+    digits: &[u8],
+    votes: &[bool],
+    rows: &[u8],
+    free: bool,
     c: CopyNo,
 ) -> Result<(), AllocError>
-    requires spelling { IsSpelling n.now.net spelling.now }
-    requires table { IsTable (node_of n.now.net spelling.now.net.0) }
-    ensures { OnOk result (out.new.items ≡ out.old.items ++ lines_spelled n.now.net spelling.now c) }
+    requires range { x.0 < net_count n.now.net }
+    requires table { IsTable (node_of n.now.net x.0) }
+    requires votes { length votes.now ≡ length (pins_at (node_of n.now.net x.0)) }
+    requires rows { AreRowsOf (node_of n.now.net x.0) rows.now }
+    ensures { OnOk result (out.new.items ≡ out.old.items ++ lines_text (copy_lines (hardened_clock n.now.net.clock) (pins_spelled n.now.net digits.now votes.now x.0 c) c free (node_of n.now.net x.0))) }
 {
-    let x = spelling.net;
     out.extend_from_slice(b".names")?;
-    put_pins(out, n, x, spelling.digits, spelling.votes, c)?;
+    put_pins(out, n, x, digits, votes, c)?;
     put_copy_name(out, n.name(x).bytes(), c)?;
     out.push(b'\n')?;
-    out.extend_from_slice(spelling.rows)?;
+    out.extend_from_slice(rows)?;
     Ok(())
 }
 
-/// Puts the line of copy c of a register.
+/// Puts the line of copy c of register x. `control` is how its clock is told.
 fn put_register(
     out: &mut Vec<u8>,
     n: &FlatNet,
-    spelling: &Spelling<'_>,
+    x: NetId,
+    digits: &[u8],
+    votes: &[bool],
+    control: &[u8],
+    free: bool,
     c: CopyNo,
 ) -> Result<(), AllocError>
-    requires spelling { IsSpelling n.now.net spelling.now }
-    requires register { IsRegister (node_of n.now.net spelling.now.net.0) }
-    ensures { OnOk result (out.new.items ≡ out.old.items ++ lines_spelled n.now.net spelling.now c) }
+    requires range { x.0 < net_count n.now.net }
+    requires register { IsRegister (node_of n.now.net x.0) }
+    requires votes { length votes.now ≡ length (pins_at (node_of n.now.net x.0)) }
+    requires control { control.now ≡ spaced (control_words (hardened_clock n.now.net.clock)) }
+    ensures { OnOk result (out.new.items ≡ out.old.items ++ lines_text (copy_lines (hardened_clock n.now.net.clock) (pins_spelled n.now.net digits.now votes.now x.0 c) c free (node_of n.now.net x.0))) }
 {
-    let x = spelling.net;
     out.extend_from_slice(b".latch")?;
-    put_pins(out, n, x, spelling.digits, spelling.votes, c)?;
+    put_pins(out, n, x, digits, votes, c)?;
     put_copy_name(out, n.name(x).bytes(), c)?;
-    out.extend_from_slice(spelling.control)?;
-    put_start(out, n.init(x), spelling.free)?;
+    out.extend_from_slice(control)?;
+    put_start(out, n.init(x), free)?;
     out.push(b'\n')?;
     Ok(())
 }
 
-/// Puts the lines of copy c of a net. The copies of an input have none.
+/// Puts the lines of copy c of net x. The copies of an input have none.
 #[tactic(auto, using(flat_net::proofs::Bodies::from_kind, crate::proofs::CopyPuts::inputs))]
 fn put_copy(
     out: &mut Vec<u8>,
     n: &FlatNet,
-    spelling: &Spelling<'_>,
+    x: NetId,
+    digits: &[u8],
+    votes: &[bool],
+    rows: &[u8],
+    control: &[u8],
+    free: bool,
     c: CopyNo,
 ) -> Result<(), AllocError>
-    requires { IsSpelling n.now.net spelling.now }
-    ensures { OnOk result (out.new.items ≡ out.old.items ++ lines_spelled n.now.net spelling.now c) }
+    requires range { x.0 < net_count n.now.net }
+    requires votes { length votes.now ≡ length (pins_at (node_of n.now.net x.0)) }
+    requires control { control.now ≡ spaced (control_words (hardened_clock n.now.net.clock)) }
+    requires rows { AreRowsOf (node_of n.now.net x.0) rows.now }
+    ensures { OnOk result (out.new.items ≡ out.old.items ++ lines_text (copy_lines (hardened_clock n.now.net.clock) (pins_spelled n.now.net digits.now votes.now x.0 c) c free (node_of n.now.net x.0))) }
 {
-    match n.kind(spelling.net) {
+    match n.kind(x) {
         Kind::Input => Ok(()),
-        Kind::Table => put_table(out, n, spelling, c),
-        Kind::Register => put_register(out, n, spelling, c),
+        Kind::Table => put_table(out, n, x, digits, votes, rows, free, c),
+        Kind::Register => put_register(out, n, x, digits, votes, control, free, c),
     }
 }
 
-/// Puts the lines of the three copies of a net.
-fn put_three(out: &mut Vec<u8>, n: &FlatNet, spelling: &Spelling<'_>) -> Result<(), AllocError>
-    requires { IsSpelling n.now.net spelling.now }
-    ensures { OnOk result (out.new.items ≡ ((out.old.items ++ lines_spelled n.now.net spelling.now First) ++ lines_spelled n.now.net spelling.now Second) ++ lines_spelled n.now.net spelling.now Third) }
+/// Puts the lines of the three copies of net x.
+fn put_three(
+    out: &mut Vec<u8>,
+    n: &FlatNet,
+    x: NetId,
+    digits: &[u8],
+    votes: &[bool],
+    rows: &[u8],
+    control: &[u8],
+    free: bool,
+) -> Result<(), AllocError>
+    requires range { x.0 < net_count n.now.net }
+    requires votes { length votes.now ≡ length (pins_at (node_of n.now.net x.0)) }
+    requires control { control.now ≡ spaced (control_words (hardened_clock n.now.net.clock)) }
+    requires rows { AreRowsOf (node_of n.now.net x.0) rows.now }
+    ensures { OnOk result (out.new.items ≡ ((out.old.items ++ lines_text (copy_lines (hardened_clock n.now.net.clock) (pins_spelled n.now.net digits.now votes.now x.0 First) First free (node_of n.now.net x.0)))
+        ++ lines_text (copy_lines (hardened_clock n.now.net.clock) (pins_spelled n.now.net digits.now votes.now x.0 Second) Second free (node_of n.now.net x.0)))
+        ++ lines_text (copy_lines (hardened_clock n.now.net.clock) (pins_spelled n.now.net digits.now votes.now x.0 Third) Third free (node_of n.now.net x.0))) }
 {
-    put_copy(out, n, spelling, CopyNo::First)?;
-    put_copy(out, n, spelling, CopyNo::Second)?;
-    put_copy(out, n, spelling, CopyNo::Third)?;
+    put_copy(out, n, x, digits, votes, rows, control, free, CopyNo::First)?;
+    put_copy(
+        out,
+        n,
+        x,
+        digits,
+        votes,
+        rows,
+        control,
+        free,
+        CopyNo::Second,
+    )?;
+    put_copy(out, n, x, digits, votes, rows, control, free, CopyNo::Third)?;
     Ok(())
 }
 
@@ -174,13 +204,11 @@ fn note_rows(n: &FlatNet, x: NetId, rows: &mut Vec<u8>) -> Result<(), AllocError
     }
 }
 
-/// Room for what is known of one net while what stands for it is written: of a node which pins are voted and the lines of its rows, and
-/// what the lines of its voters begin with.
+/// Room for what is known of one node while its copies are written.
 #[derive(Drop)]
 pub struct Room {
     votes: Vec<bool>,
     rows: Vec<u8>,
-    pub head: Vec<u8>,
 }
 
 impl Room {
@@ -189,7 +217,6 @@ impl Room {
         Room {
             votes: Vec::new(alloc),
             rows: Vec::new(alloc),
-            head: Vec::new(alloc),
         }
     }
 }
@@ -219,14 +246,6 @@ pub fn put_copies(
     let mut digits = Buffer::new();
     let digits = digits.format(plan.parts.of(y));
     let digits = digits.as_bytes();
-    let spelling = Spelling {
-        net: x,
-        digits,
-        votes: &room.votes,
-        rows: &room.rows,
-        control,
-        free,
-    };
-    put_three(out, n, &spelling)?;
+    put_three(out, n, x, digits, &room.votes, &room.rows, control, free)?;
     Ok(())
 }

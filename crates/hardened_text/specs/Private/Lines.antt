@@ -1,5 +1,5 @@
 -- Only private functions cite this: the lines of a hardened design and of its certificate, told net by net of the original.
-use Rattle.std.specs.Prelude.{◌≡◌, ℕ, ◌+◌, ◌-◌, ◌<◌, Bool, List, [], ◌∷◌, ◌++◌, map, drop, length, codes, slice_index, Option, Some, None, if◌then◌else◌}
+use Rattle.std.specs.Prelude.{◌≡◌, ℕ, ◌+◌, ◌-◌, Bool, List, [], ◌∷◌, ◌++◌, map, drop, length, codes, slice_index, Option, Some, None, if◌then◌else◌}
 use Rattle.std.specs.List.{flat_map, range_with_len}
 use Rattle.std.specs.Fmt.{decimal}
 use Rattle.tmr_base.specs.declared.copies.CopyNo.{CopyNo}
@@ -9,10 +9,9 @@ use Rattle.tmr_base.specs.Copies.{copy_number}
 use Rattle.tmr_base.specs.Names.{copy_text, voter_text}
 use Rattle.tmr_base.specs.Parts.{PlainParts}
 use Rattle.table_cover.specs.Cover.{PlainCover}
-use Rattle.flat_net.specs.Net.{Net, Node, Table, Register, node_of, name_of, net_count, pins_at, IsCoverOf}
+use Rattle.flat_net.specs.Net.{Net, Node, Table, Register, node_of, name_of, IsCoverOf}
 use Rattle.flat_net.specs.Free.{node_bit}
 use Rattle.feedback_cut.specs.Inner.{node_pins}
-use Rattle.blif_writer.specs.Left.{spaced}
 use Rattle.blif_writer.specs.Text.{control_words, init_word, start_of, row_lines, line_text, lines_text}
 use Rattle.certificate.specs.Text.{part_lines}
 use Rattle.certificate.specs.declared.role.Role.{Role}
@@ -20,8 +19,6 @@ use Rattle.certificate.specs.declared.role.Role.TheVariants.{Copy, Voter}
 use Rattle.triplicate.specs.Blocks.{block, hardened_clock}
 use Rattle.triplicate.specs.Form.{majority_cover}
 use Rattle.triplicate.specs.Voting.{voting_parts}
-use Rattle.hardened_text.specs.declared.copies.Spelling.{Spelling}
-use Rattle.hardened_text.specs.Private.Spelled.{pins_spelled}
 
 -- the name of what copy c of node y reads at pin j
 abbrev pub pin_name : Net → PlainParts → (ℕ → ℕ → Bool) → ℕ → CopyNo → ℕ → List ℕ
@@ -42,17 +39,6 @@ copy_lines clock pins c free (Some (Register name init net)) =
 -- the lines of a table's rows; of another net it says nothing
 abbrev pub AreRowsOf : Option Node → List ℕ → Type 0
 AreRowsOf net rows = (k : PlainCover) → IsCoverOf net k → rows ≡ lines_text (row_lines k)
-
--- the lines of copy c of a net that is spelled so
-abbrev pub lines_spelled : Net → Spelling → CopyNo → List ℕ
-lines_spelled n s c = lines_text (copy_lines (hardened_clock n.clock) (pins_spelled n s.digits.now s.votes.now s.net.0 c) c s.free (node_of n s.net.0))
-
--- a net of the design, of which these are the rows, and the design's clock; it is known of each of its pins whether it is voted
-pub record IsSpelling (n : Net) (s : Spelling) : Type 0 where
-  pub range : s.net.0 < net_count n
-  pub votes : length s.votes.now ≡ length (pins_at (node_of n s.net.0))
-  pub rows : AreRowsOf (node_of n s.net.0) s.rows.now
-  pub control : s.control.now ≡ spaced (control_words (hardened_clock n.clock))
 
 -- the lines of the voter for partition p that gives copy c of the net with this name
 abbrev pub voter_lines : List ℕ → ℕ → CopyNo → List (List (List ℕ))

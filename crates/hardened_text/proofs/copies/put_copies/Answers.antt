@@ -7,14 +7,10 @@ use Rattle.triplicate.specs.Planned.{plan_votes}
 use Rattle.hardened_text.proofs.CopyPuts.{three_put}
 use Rattle.hardened_text.proofs.copies.put_copies.Goals as goal
 
-pub put_three-requires : goal.put_three-requires
-put_three-requires c = record {
-  range = omega (arith, c.input_count.ensures.count, c.requires.node);
-  votes = ap length (c.deref.ensures.value ∙ c.in_ok-note_votes.ensures) ∙ (length-map-range_with_len (plan_votes c.args.n.now.net c.args.plan.now c.args.y) 0 (length (node_pins c.args.n.now.net c.args.y))
-      ∙ ap (λ x. length (pins_at (node_of c.args.n.now.net x))) (omega (arith, c.input_count.ensures.count)));
-  rows = λ k told. c.deref-2.ensures.value ∙ c.in_ok-note_rows.ensures k told;
-  control = c.requires.control;
-}
+pub put_three-requires-clause-votes : goal.put_three-requires-clause-votes
+put_three-requires-clause-votes c =
+    ap length (c.deref.ensures.value ∙ c.in_ok-note_votes.ensures) ∙ (length-map-range_with_len (plan_votes c.args.n.now.net c.args.plan.now c.args.y) 0 (length (node_pins c.args.n.now.net c.args.y))
+    ∙ ap (λ x. length (pins_at (node_of c.args.n.now.net x))) (omega (arith, c.input_count.ensures.count)))
 
 pub returns : goal.returns
 returns c =

@@ -8,5 +8,5 @@ use Rattle.hardened_text.proofs.copies.put_register.Goals as goal
 pub returns : goal.returns
 returns c =
     let n = c.args.n.now.net in
-    register_put n (hardened_clock n.clock) (pins_spelled n c.args.spelling.now.digits.now c.args.spelling.now.votes.now c.args.spelling.now.net.0 c.args.c) c.args.c c.args.spelling.now.free c.args.spelling.now.net.0 (node_of n c.args.spelling.now.net.0) c.init.result c.bytes.result.now c.args.spelling.now.control.now c.args.out.now.items c.extend_from_slice.new.self.items c.put_pins.new.out.items c.put_copy_name.new.out.items c.extend_from_slice-2.new.self.items c.put_start.new.out.items c.push.new.self.items refl c.init.ensures (c.bytes.ensures.bytes ∙ c.name.ensures) c.requires.spelling.control
+    register_put n (hardened_clock n.clock) (pins_spelled n c.args.digits.now c.args.votes.now c.args.x.0 c.args.c) c.args.c c.args.free c.args.x.0 (node_of n c.args.x.0) c.init.result c.bytes.result.now c.args.control.now c.args.out.now.items c.extend_from_slice.new.self.items c.put_pins.new.out.items c.put_copy_name.new.out.items c.extend_from_slice-2.new.self.items c.put_start.new.out.items c.push.new.self.items refl c.init.ensures (c.bytes.ensures.bytes ∙ c.name.ensures) c.requires.control
     c.in_ok-extend_from_slice.ensures.items c.in_ok-put_pins.ensures c.in_ok-put_copy_name.ensures c.in_ok-extend_from_slice-2.ensures.items c.in_ok-put_start.ensures c.in_ok-push.ensures.items

@@ -8,5 +8,5 @@ use Rattle.hardened_text.proofs.copies.put_table.Goals as goal
 pub returns : goal.returns
 returns c =
     let n = c.args.n.now.net in
-    table_put n (hardened_clock n.clock) (pins_spelled n c.args.spelling.now.digits.now c.args.spelling.now.votes.now c.args.spelling.now.net.0 c.args.c) c.args.c c.args.spelling.now.free c.args.spelling.now.net.0 (node_of n c.args.spelling.now.net.0) c.bytes.result.now c.args.spelling.now.rows.now c.args.out.now.items c.extend_from_slice.new.self.items c.put_pins.new.out.items c.put_copy_name.new.out.items c.push.new.self.items c.extend_from_slice-2.new.self.items refl c.requires.table c.requires.spelling.rows (c.bytes.ensures.bytes ∙ c.name.ensures)
+    table_put n (hardened_clock n.clock) (pins_spelled n c.args.digits.now c.args.votes.now c.args.x.0 c.args.c) c.args.c c.args.free c.args.x.0 (node_of n c.args.x.0) c.bytes.result.now c.args.rows.now c.args.out.now.items c.extend_from_slice.new.self.items c.put_pins.new.out.items c.put_copy_name.new.out.items c.push.new.self.items c.extend_from_slice-2.new.self.items refl c.requires.table c.requires.rows (c.bytes.ensures.bytes ∙ c.name.ensures)
     c.in_ok-extend_from_slice.ensures.items c.in_ok-put_pins.ensures c.in_ok-put_copy_name.ensures c.in_ok-push.ensures.items c.in_ok-extend_from_slice-2.ensures.items
