@@ -1,12 +1,12 @@
 //! What is said of a reason.
-ghost use Rattle.std.specs.Prelude.{◌≡◌, ◌<◌, ◌+◌, ◌∷◌, [], codes, length, IfOk};
+ghost use Rattle.std.specs.Prelude.{◌≡◌, ◌<◌, ◌+◌, ◌∷◌, [], ℕ, codes, length, IfOk};
 ghost use Rattle.std.specs.List.{concat};
 ghost use Rattle.std.specs.Fmt.{decimal};
 ghost use Rattle.tmr_base.specs.Copies.{copy_number};
-ghost use Rattle.flat_net.specs.Net.{net_count};
-ghost use Rattle.certificate.specs.Cert.{Fits, role_of, part_of};
+ghost use Rattle.flat_net.specs.Net.{Net, net_count};
+ghost use Rattle.certificate.specs.Cert.{PlainCert, Fits, role_of, part_of};
 ghost use Rattle.explaining.specs.Words.{count_text, edge_text, initial_text, bit_text, copy_text, purpose_text, voter_text, role_text, reads_text, reader_text, reason_text, place_text};
-ghost use Rattle.explaining.specs.Private.Pieces.{HasNets};
+ghost use Rattle.explaining.specs.Private.Pieces.{HasNets, IsOfShape, IsOfPins};
 ghost use Rattle.explaining.specs.Private.Found.{place_count};
 
 use crate::finding::net_at;
@@ -468,26 +468,12 @@ fn minority_text(alloc: Global, a: bool, b: bool, c: bool) -> Result<Vec<u8>, Al
     )
 }
 
-/// Why a rule fails at a place.
-pub fn reason_text(
-    alloc: Global,
-    n: &FlatNet,
-    h: &FlatNet,
-    c: &Certificate,
-    place: u64,
-    reason: Reason<'_>,
-) -> Result<Vec<u8>, AllocError>
-    requires fits { Fits n.now.net h.now.net c.now }
-    requires nets { HasNets n.now.net h.now.net reason }
-    ensures { IfOk result (λ text. text.items ≡ reason_text n.now.net h.now.net c.now place reason.entry) }
+/// Why a node is not what it is to copy or to vote as, whatever its pins read.
+fn shape_text(alloc: Global, reason: Reason<'_>) -> Result<Vec<u8>, AllocError>
+    requires { IsOfShape reason }
+    ensures { (n h : Net) (k : PlainCert) (place : ℕ) → IfOk result (λ text. text.items ≡ reason_text n h k place reason.entry) }
 {
     match reason {
-        Reason::InputCount { is, wanted } => count_text(alloc, b"inputs", u64::from(is), wanted),
-        Reason::NoClock => join(alloc, &[b"no clock, original has one".as_slice()]),
-        Reason::NewClock => join(alloc, &[b"a clock, original has none".as_slice()]),
-        Reason::WrongEdge { is, wanted } => {
-            value_text(alloc, b"edge ", edge_text(is), edge_text(wanted))
-        }
         Reason::IsTable => join(alloc, &[b"kind table, not register".as_slice()]),
         Reason::IsRegister => join(alloc, &[b"kind register, not table".as_slice()]),
         Reason::PinCount { is, wanted } => {
@@ -509,6 +495,24 @@ pub fn reason_text(
             initial_text(is_free, is),
             initial_text(wanted_free, wanted),
         ),
+        _ => unreachable!(),
+    }
+}
+
+/// Why a node's pins are not what they are to be, or a voter's value not the majority of them.
+fn pins_text(
+    alloc: Global,
+    n: &FlatNet,
+    h: &FlatNet,
+    c: &Certificate,
+    reason: Reason<'_>,
+) -> Result<Vec<u8>, AllocError>
+    requires fits { Fits n.now.net h.now.net c.now }
+    requires nets { HasNets n.now.net h.now.net reason }
+    requires pins { IsOfPins reason }
+    ensures { (place : ℕ) → IfOk result (λ text. text.items ≡ reason_text n.now.net h.now.net c.now place reason.entry) }
+{
+    match reason {
         Reason::Pin {
             pin,
             net,
@@ -522,6 +526,33 @@ pub fn reason_text(
             second,
             third,
         } => minority_text(alloc, first, second, third),
+        _ => unreachable!(),
+    }
+}
+
+/// Why a rule fails at a place.
+pub fn reason_text(
+    alloc: Global,
+    n: &FlatNet,
+    h: &FlatNet,
+    c: &Certificate,
+    place: u64,
+    reason: Reason<'_>,
+) -> Result<Vec<u8>, AllocError>
+    requires fits { Fits n.now.net h.now.net c.now }
+    requires nets { HasNets n.now.net h.now.net reason }
+    ensures { IfOk result (λ text. text.items ≡ reason_text n.now.net h.now.net c.now place reason.entry) }
+{
+    match reason {
+        Reason::InputCount { is, wanted } => count_text(alloc, b"inputs", u64::from(is), wanted),
+        Reason::NoClock => join(alloc, &[b"no clock, original has one".as_slice()]),
+        Reason::NewClock => join(alloc, &[b"a clock, original has none".as_slice()]),
+        Reason::WrongEdge { is, wanted } => {
+            value_text(alloc, b"edge ", edge_text(is), edge_text(wanted))
+        }
+        Reason::Pin { .. } | Reason::VoterPin { .. } | Reason::Minority { .. } => {
+            pins_text(alloc, n, h, c, reason)
+        }
         Reason::LowLabel {
             label,
             wants,
@@ -534,6 +565,7 @@ pub fn reason_text(
         }
         Reason::NoOutput { node, copy } => no_output_text(alloc, place, n, node, copy),
         Reason::NewOutput { net } => new_output_text(alloc, place, h.name(net).bytes()),
+        _ => shape_text(alloc, reason),
     }
 }
 

@@ -1,5 +1,5 @@
 -- The lines of the copies of a node, piece by piece.
-use Rattle.std.proofs.Common.{◌≡◌, ℕ, ◌+◌, ◌<◌, ◌≤◌, Bool, false, List, [], ◌∷◌, ◌++◌, length, map, drop, slice_get, Option, Some, None, refl, sym, ap, ◌∙◌, arith}
+use Rattle.std.proofs.Common.{◌≡◌, ℕ, ◌+◌, ◌<◌, ◌≤◌, Bool, false, List, [], ◌∷◌, ◌++◌, length, map, drop, slice_get, Option, Some, None, sym, ap, subst, ◌∙◌, append_assoc, arith}
 use Rattle.std.specs.Prelude.{codes, slice_index, if◌then◌else◌}
 use Rattle.std.specs.List.{range_with_len}
 use Rattle.std.specs.Fmt.{decimal}
@@ -12,20 +12,21 @@ use Rattle.tmr_base.specs.Names.{copy_text, voter_text}
 use Rattle.tmr_base.specs.Parts.{PlainParts}
 use Rattle.flat_net.specs.declared.kind.Kind.TheVariants as kind
 use Rattle.flat_net.specs.Kinds.{kind_of}
-use Rattle.flat_net.specs.Net.{Net, Node, Table, Register, node_of, name_of, pins_at, IsTable, IsInitOf}
+use Rattle.flat_net.specs.Net.{Net, Node, Table, Register, node_of, node_name, name_of, pins_at, IsCoverOf, IsInitOf}
+use Rattle.table_cover.specs.Cover.{PlainCover}
 use Rattle.feedback_cut.specs.Inner.{node_pins}
 use Rattle.blif_writer.specs.Text.{control_words, init_word, start_of, row_lines, line_text, lines_text}
 use Rattle.blif_writer.specs.Left.{spaced}
-use Rattle.blif_writer.proofs.NodeLines.{name_is}
-use Rattle.blif_writer.proofs.Putting.{word_put, line_put, more_put, one_put, lines_put}
+use Rattle.blif_writer.proofs.NodeLines.{name_is, node_at}
+use Rattle.blif_writer.proofs.Putting.{word_put, joined, spaced_append}
 use Rattle.triplicate.proofs.Formed.{map_agree}
 use Rattle.hardened_text.specs.Private.Spelled.{pin_spelled, pins_spelled}
-use Rattle.hardened_text.specs.Private.Lines.{pin_name, pin_names, copy_lines, AreRowsOf}
+use Rattle.hardened_text.specs.Private.Lines.{pin_name, pin_names, copy_lines, first_word, ending_of}
 use Rattle.hardened_text.proofs.Ranges.{in_range, row_done}
 
--- the lines of copy c, by what is known of its pins
-abbrev spelled : Net → Option (Edge × List ℕ) → Bool → ℕ → List ℕ → List Bool → CopyNo → List ℕ
-spelled n clock free x digits votes c = lines_text (copy_lines clock (pins_spelled n digits votes x c) c free (node_of n x))
+-- the lines of copy c, put together
+abbrev spelled : Net → ℕ → List ℕ → List Bool → List ℕ → List ℕ → CopyNo → List ℕ
+spelled n x digits votes word ending c = word ++ (spaced (pins_spelled n digits votes x c) ++ 32 ∷ (copy_text (name_of n x) c ++ ending))
 
 -- the same, by the names of its pins
 abbrev named : Net → PlainParts → (ℕ → ℕ → Bool) → Option (Edge × List ℕ) → Bool → ℕ → CopyNo → List ℕ
@@ -45,46 +46,63 @@ pub pins_done : (n : Net) (digits : List ℕ) (votes : List Bool) (x : ℕ) (c :
 pins_done n digits votes x c j out total le e =
     row_done (λ (word : List ℕ). 32 ∷ word) j (pins_spelled n digits votes x c) out total (omega (arith, le, length-map-range_with_len (pin_spelled n digits votes x c) 0 (length (pins_at (node_of n x))))) e
 
--- a table's lines are put
-pub table_put : (n : Net) (clock : Option (Edge × List ℕ)) (pins : List (List ℕ)) (c : CopyNo) (free : Bool) (x : ℕ) (o : Option Node) (name rows old o1 o2 o3 o4 o5 : List ℕ) → node_of n x ≡ o → IsTable o → AreRowsOf o rows → name ≡ name_of n x
-    → o1 ≡ old ++ codes ".names" → o2 ≡ o1 ++ spaced pins → o3 ≡ o2 ++ 32 ∷ copy_text name c → o4 ≡ o3 ++ 10 ∷ [] → o5 ≡ o4 ++ rows
-    → o5 ≡ old ++ lines_text (copy_lines clock pins c free o)
-table_put n clock pins c free x None name rows old o1 o2 o3 o4 o5 at table told is e1 e2 e3 e4 e5 = absurd table
-table_put n clock pins c free x (Some (Register other init pin)) name rows old o1 o2 o3 o4 o5 at table told is e1 e2 e3 e4 e5 = absurd table
-table_put n clock pins c free x (Some (Table own d nets)) name rows old o1 o2 o3 o4 o5 at table told is e1 e2 e3 e4 e5 =
-    let named : name ≡ own = is ∙ name_is n x (Table own d nets) at in
-    let words : o3 ≡ o1 ++ spaced (pins ++ copy_text own c ∷ []) = more_put o1 o2 o3 pins (copy_text own c ∷ []) e2 (one_put o2 o3 (copy_text own c) (e3 ∙ ap (λ (w : List ℕ). o2 ++ 32 ∷ copy_text w c) named)) in
-    let line : o4 ≡ old ++ line_text (codes ".names" ∷ (pins ++ copy_text own c ∷ [])) = line_put old o1 o3 o4 (codes ".names") (pins ++ copy_text own c ∷ []) e1 words e4 in
-    lines_put old o4 o5 (codes ".names" ∷ (pins ++ copy_text own c ∷ [])) (row_lines d) line (e5 ∙ ap (λ (t : List ℕ). o4 ++ t) (told d refl))
-
--- a register's line is put
-pub register_put : (n : Net) (clock : Option (Edge × List ℕ)) (pins : List (List ℕ)) (c : CopyNo) (free : Bool) (x : ℕ) (o : Option Node) (b : Bool) (name control old o1 o2 o3 o4 o5 o6 : List ℕ) → node_of n x ≡ o → IsInitOf o b → name ≡ name_of n x → control ≡ spaced (control_words clock)
-    → o1 ≡ old ++ codes ".latch" → o2 ≡ o1 ++ spaced pins → o3 ≡ o2 ++ 32 ∷ copy_text name c → o4 ≡ o3 ++ control → o5 ≡ o4 ++ 32 ∷ init_word (start_of free b) → o6 ≡ o5 ++ 10 ∷ []
-    → o6 ≡ old ++ lines_text (copy_lines clock pins c free o)
-register_put n clock pins c free x None b name control old o1 o2 o3 o4 o5 o6 at init is told e1 e2 e3 e4 e5 e6 = absurd init
-register_put n clock pins c free x (Some (Table own d nets)) b name control old o1 o2 o3 o4 o5 o6 at init is told e1 e2 e3 e4 e5 e6 = absurd init
-register_put n clock pins c free x (Some (Register own start pin)) b name control old o1 o2 o3 o4 o5 o6 at init is told e1 e2 e3 e4 e5 e6 =
-    let named : name ≡ own = is ∙ name_is n x (Register own start pin) at in
-    let value : List ℕ = init_word (start_of free start) in
-    let clocked : List (List ℕ) = control_words clock in
-    let ends : o3 ≡ o1 ++ spaced (pins ++ copy_text own c ∷ []) = more_put o1 o2 o3 pins (copy_text own c ∷ []) e2 (one_put o2 o3 (copy_text own c) (e3 ∙ ap (λ (w : List ℕ). o2 ++ 32 ∷ copy_text w c) named)) in
-    let last : o5 ≡ o3 ++ spaced (clocked ++ value ∷ []) = more_put o3 o4 o5 clocked (value ∷ []) (e4 ∙ ap (λ (t : List ℕ). o3 ++ t) told) (one_put o4 o5 value (e5 ∙ ap (λ (v : Bool). o4 ++ 32 ∷ init_word (start_of free v)) (sym init))) in
-    let words : o5 ≡ o1 ++ spaced ((pins ++ copy_text own c ∷ []) ++ (clocked ++ value ∷ [])) = more_put o1 o3 o5 (pins ++ copy_text own c ∷ []) (clocked ++ value ∷ []) ends last in
-    let line = line_put old o1 o5 o6 (codes ".latch") ((pins ++ copy_text own c ∷ []) ++ (clocked ++ value ∷ [])) e1 words e6 in
-    line ∙ (ap (λ (ws : List (List ℕ)). old ++ line_text (codes ".latch" ∷ ws)) (grouped pins (copy_text own c) (clocked ++ value ∷ []))
-    ∙ ap (λ (t : List ℕ). old ++ t) (sym (append-nil (line_text (codes ".latch" ∷ (pins ++ copy_text own c ∷ (clocked ++ value ∷ [])))))))
+-- a copy's lines are put
+pub copy_put : (old o1 o2 o3 o4 word pins name own ending : List ℕ) → o1 ≡ old ++ word → o2 ≡ o1 ++ pins → o3 ≡ o2 ++ 32 ∷ name → name ≡ own → o4 ≡ o3 ++ ending → o4 ≡ old ++ (word ++ (pins ++ 32 ∷ (own ++ ending)))
+copy_put old o1 o2 o3 o4 word pins name own ending e1 e2 e3 is e4 =
+    e4 ∙ (ap (λ (o : List ℕ). o ++ ending) (e3 ∙ (ap (λ (o : List ℕ). o ++ 32 ∷ name) (e2 ∙ ap (λ (o : List ℕ). o ++ pins) e1) ∙ ap (λ (w : List ℕ). ((old ++ word) ++ pins) ++ 32 ∷ w) is)) ∙ regroup old word pins own ending)
   where
-    grouped : (ps : List (List ℕ)) (w : List ℕ) (rest : List (List ℕ)) → (ps ++ w ∷ []) ++ rest ≡ ps ++ w ∷ rest
-    grouped [] w rest = refl
-    grouped (p ∷ ps) w rest = ap (λ (ws : List (List ℕ)). p ∷ ws) (grouped ps w rest)
+    regroup : (o w p n e : List ℕ) → (((o ++ w) ++ p) ++ 32 ∷ n) ++ e ≡ o ++ (w ++ (p ++ 32 ∷ (n ++ e)))
+    regroup o w p n e = simp append_assoc
 
--- an input has no copies among the nodes
-pub input_put : (clock : Option (Edge × List ℕ)) (pins : List (List ℕ)) (c : CopyNo) (free : Bool) (o : Option Node) (out : List ℕ) → kind_of o ≡ kind.Input → out ≡ out ++ lines_text (copy_lines clock pins c free o)
-input_put clock pins c free None out e = sym (append-nil out)
-input_put clock pins c free (Some (Table name cover nets)) out e = absurd cc
-input_put clock pins c free (Some (Register name init pin)) out e = absurd cc
+-- the line of a copy: its first word, the words before its name, the name, and the words behind it
+word_line : (word name : List ℕ) (before behind : List (List ℕ)) → line_text (word ∷ (before ++ name ∷ behind)) ≡ word ++ (spaced before ++ 32 ∷ (name ++ (spaced behind ++ 10 ∷ [])))
+word_line word name before behind =
+    ap (λ (t : List ℕ). t ++ 10 ∷ []) (joined word (before ++ name ∷ behind) ∙ ap (λ (t : List ℕ). word ++ t) (spaced_append before (name ∷ behind)))
+    ∙ regroup word (spaced before) name (spaced behind)
+  where
+    regroup : (w p n b : List ℕ) → (w ++ (p ++ 32 ∷ (n ++ b))) ++ 10 ∷ [] ≡ w ++ (p ++ 32 ∷ (n ++ (b ++ 10 ∷ [])))
+    regroup w p n b = simp append_assoc
 
-pub ruleset inputs = (input_put)
+-- a copy's lines are made of its first word, its pins, its name and what stands behind that
+copy_is : (n : Net) (clock : Option (Edge × List ℕ)) (pins : List (List ℕ)) (c : CopyNo) (free : Bool) (x : ℕ) (node : Node) → node_of n x ≡ Some node →
+    first_word (kind_of (node_of n x)) ++ (spaced pins ++ 32 ∷ (copy_text (name_of n x) c ++ ending_of clock free (node_of n x))) ≡ lines_text (copy_lines clock pins c free (node_of n x))
+copy_is n clock pins c free x node at =
+    subst (λ (o : Option Node). first_word (kind_of o) ++ (spaced pins ++ 32 ∷ (copy_text (name_of n x) c ++ ending_of clock free o)) ≡ lines_text (copy_lines clock pins c free o)) (sym at) (go node (name_is n x node at))
+  where
+    table : (w p n e : List ℕ) → w ++ (p ++ 32 ∷ (n ++ 10 ∷ e)) ≡ (w ++ (p ++ 32 ∷ (n ++ 10 ∷ []))) ++ e
+    table w p n e = simp append_assoc
+
+    go : (node : Node) → name_of n x ≡ node_name node → first_word (kind_of (Some node)) ++ (spaced pins ++ 32 ∷ (copy_text (name_of n x) c ++ ending_of clock free (Some node))) ≡ lines_text (copy_lines clock pins c free (Some node))
+    go (Table own d nets) is =
+        ap (λ (w : List ℕ). codes ".names" ++ (spaced pins ++ 32 ∷ (copy_text w c ++ 10 ∷ lines_text (row_lines d)))) is
+        ∙ (table (codes ".names") (spaced pins) (copy_text own c) (lines_text (row_lines d))
+        ∙ ap (λ (t : List ℕ). t ++ lines_text (row_lines d)) (sym (word_line (codes ".names") (copy_text own c) pins [])))
+    go (Register own start pin) is =
+        let value : List ℕ = init_word (start_of free start) in
+        let behind : spaced (control_words clock) ++ 32 ∷ value ≡ spaced (control_words clock ++ value ∷ []) =
+        sym (spaced_append (control_words clock) (value ∷ []) ∙ ap (λ (t : List ℕ). spaced (control_words clock) ++ 32 ∷ t) (append-nil value)) in
+        ap (λ (w : List ℕ). codes ".latch" ++ (spaced pins ++ 32 ∷ (copy_text w c ++ ((spaced (control_words clock) ++ 32 ∷ value) ++ 10 ∷ [])))) is
+        ∙ (ap (λ (t : List ℕ). codes ".latch" ++ (spaced pins ++ 32 ∷ (copy_text own c ++ (t ++ 10 ∷ [])))) behind
+        ∙ (sym (word_line (codes ".latch") (copy_text own c) pins (control_words clock ++ value ∷ []))
+        ∙ sym (append-nil (line_text (codes ".latch" ∷ (pins ++ copy_text own c ∷ (control_words clock ++ value ∷ [])))))))
+
+-- what stands behind the names of a net's copies, by what the net is
+pub input_ending : (clock : Option (Edge × List ℕ)) (free : Bool) (o : Option Node) (out : List ℕ) → kind_of o ≡ kind.Input → out ≡ [] → out ≡ ending_of clock free o
+input_ending clock free None out e none = none
+input_ending clock free (Some (Table name cover nets)) out e none = absurd cc
+input_ending clock free (Some (Register name init pin)) out e none = absurd cc
+
+pub cover_ending : (clock : Option (Edge × List ℕ)) (free : Bool) (o : Option Node) (d : PlainCover) → IsCoverOf o d → 10 ∷ lines_text (row_lines d) ≡ ending_of clock free o
+cover_ending clock free None d is = absurd is
+cover_ending clock free (Some (Table name cover nets)) d is = ap (λ (k : PlainCover). 10 ∷ lines_text (row_lines k)) (sym is)
+cover_ending clock free (Some (Register name init pin)) d is = absurd is
+
+pub init_ending : (clock : Option (Edge × List ℕ)) (free : Bool) (o : Option Node) (b : Bool) → IsInitOf o b → (spaced (control_words clock) ++ 32 ∷ init_word (start_of free b)) ++ 10 ∷ [] ≡ ending_of clock free o
+init_ending clock free None b is = absurd is
+init_ending clock free (Some (Table name cover nets)) b is = absurd is
+init_ending clock free (Some (Register name init pin)) b is = ap (λ (v : Bool). (spaced (control_words clock) ++ 32 ∷ init_word (start_of free v)) ++ 10 ∷ []) (sym is)
+
+pub ruleset endings = (input_ending, cover_ending, init_ending)
 
 -- the pins of node y are the named ones
 pub pins_same : (n : Net) (parts : PlainParts) (voted : ℕ → ℕ → Bool) (y : ℕ) (c : CopyNo) →
@@ -104,18 +122,31 @@ pins_same n parts voted y c = map_agree (pin_spelled n (decimal (slice_index par
         (get_or-map-range_with_len (voted y) 0 count j j false (omega (arith, is, low)) (omega arith))
 
 -- the lines of the three copies, whose pins are the named ones
-pub three_put : (n : Net) (parts : PlainParts) (voted : ℕ → ℕ → Bool) (clock : Option (Edge × List ℕ)) (free : Bool) (x y p : ℕ) (digits : List ℕ) (votes : List Bool) (old new : List ℕ) → x ≡ length n.inputs + y → p ≡ slice_index parts.of y → digits ≡ decimal p → votes ≡ map (voted y) (range_with_len 0 (length (node_pins n y)))
-    → new ≡ ((old ++ spelled n clock free x digits votes First) ++ spelled n clock free x digits votes Second) ++ spelled n clock free x digits votes Third
+pub three_put : (n : Net) (parts : PlainParts) (voted : ℕ → ℕ → Bool) (clock : Option (Edge × List ℕ)) (free : Bool) (x y p : ℕ) (digits : List ℕ) (votes : List Bool) (word ending old new : List ℕ) → y < length n.nodes → x ≡ length n.inputs + y → p ≡ slice_index parts.of y → digits ≡ decimal p → votes ≡ map (voted y) (range_with_len 0 (length (node_pins n y)))
+    → word ≡ first_word (kind_of (node_of n x)) → ending ≡ ending_of clock free (node_of n x)
+    → new ≡ ((old ++ spelled n x digits votes word ending First) ++ spelled n x digits votes word ending Second) ++ spelled n x digits votes word ending Third
     → new ≡ ((old ++ named n parts voted clock free y First) ++ named n parts voted clock free y Second) ++ named n parts voted clock free y Third
-three_put n parts voted clock free x y p digits votes old new ex ep ed ev put =
+three_put n parts voted clock free x y p digits votes word ending old new below ex ep ed ev ew ee put =
     put ∙ all old _ _ _ _ _ _ (same First) (same Second) (same Third)
   where
-    same : (c : CopyNo) → spelled n clock free x digits votes c ≡ named n parts voted clock free y c
+    z : ℕ
+    z = length n.inputs + y
+
+    ds : List ℕ
+    ds = decimal (slice_index parts.of y)
+
+    vs : List Bool
+    vs = map (voted y) (range_with_len 0 (length (node_pins n y)))
+
+    same : (c : CopyNo) → spelled n x digits votes word ending c ≡ named n parts voted clock free y c
     same c =
-        ap (λ (ds : List ℕ). spelled n clock free x ds votes c) (ed ∙ ap decimal ep)
-        ∙ (ap (λ (vs : List Bool). spelled n clock free x (decimal (slice_index parts.of y)) vs c) ev
-        ∙ (ap (λ (z : ℕ). spelled n clock free z (decimal (slice_index parts.of y)) (map (voted y) (range_with_len 0 (length (node_pins n y)))) c) ex
-        ∙ ap (λ (ws : List (List ℕ)). lines_text (copy_lines clock ws c free (node_of n (length n.inputs + y)))) (pins_same n parts voted y c)))
+        ap (λ (d : List ℕ). spelled n x d votes word ending c) (ed ∙ ap decimal ep)
+        ∙ (ap (λ (v : List Bool). spelled n x ds v word ending c) ev
+        ∙ (ap (λ (w : List ℕ). spelled n x ds vs w ending c) ew
+        ∙ (ap (λ (e : List ℕ). spelled n x ds vs (first_word (kind_of (node_of n x))) e c) ee
+        ∙ (ap (λ (i : ℕ). spelled n i ds vs (first_word (kind_of (node_of n i))) (ending_of clock free (node_of n i)) c) ex
+        ∙ (ap (λ (ws : List (List ℕ)). first_word (kind_of (node_of n z)) ++ (spaced ws ++ 32 ∷ (copy_text (name_of n z) c ++ ending_of clock free (node_of n z)))) (pins_same n parts voted y c)
+        ∙ copy_is n clock (pin_names n parts voted y c) c free z _ (node_at n y (Register [] false 0) below))))))
 
     all : (o a b c x y z : List ℕ) → a ≡ x → b ≡ y → c ≡ z → ((o ++ a) ++ b) ++ c ≡ ((o ++ x) ++ y) ++ z
     all o a b c x y z e f g = cc

@@ -1,3 +1,4 @@
 -- What private functions alone cite.
 pub mod Spelled
 pub mod Lines
+pub mod Pieces

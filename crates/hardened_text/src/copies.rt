@@ -1,7 +1,7 @@
 //! The lines of the copies of nodes.
 ghost use Rattle.std.specs.Prelude.{◌≡◌, ◌<◌, ◌≤◌, ◌+◌, ◌++◌, ◌∷◌, length, map, OnOk};
 ghost use Rattle.std.specs.List.{range_with_len};
-ghost use Rattle.flat_net.specs.Net.{net_count, node_of, pins_at, IsTable, IsRegister};
+ghost use Rattle.flat_net.specs.Net.{net_count, node_of, pins_at};
 ghost use Rattle.feedback_cut.specs.Inner.{node_pins};
 ghost use Rattle.blif_writer.specs.Left.{spaced};
 ghost use Rattle.blif_writer.specs.Text.{control_words, lines_text};
@@ -9,8 +9,9 @@ ghost use Rattle.triplicate.specs.Blocks.{hardened_clock};
 ghost use Rattle.triplicate.specs.Planned.{votes_in, plan_votes};
 ghost use Rattle.triplicate.specs.Pins.{AreVotesOf};
 ghost use Rattle.triplicate.specs.Taps.{AreTaps};
-ghost use Rattle.hardened_text.specs.Private.Spelled.{pin_spelled, pins_spelled};
-ghost use Rattle.hardened_text.specs.Private.Lines.{pin_names, copy_lines, AreRowsOf};
+ghost use Rattle.hardened_text.specs.Private.Spelled.{pin_spelled};
+ghost use Rattle.hardened_text.specs.Private.Lines.{pin_names, copy_lines, first_word, ending_of};
+ghost use Rattle.hardened_text.specs.Private.Pieces.{ArePieces, pins_of, copy_spelled};
 ghost use Rattle.tmr_base.specs.declared.copies.CopyNo.TheVariants.{First, Second, Third};
 
 use crate::names::{put_copy_name, put_voter_name};
@@ -21,158 +22,63 @@ use std::alloc::{AllocError, Global};
 use tmr_base::{CopyNo, NetId};
 use triplicate::Plan;
 
-/// Puts a blank and what copy c of node x reads at pin j. `digits` are those of its partition, and `votes` says which
-/// of its pins are voted.
-fn put_pin(
-    out: &mut Vec<u8>,
-    n: &FlatNet,
-    x: NetId,
-    digits: &[u8],
-    votes: &[bool],
-    c: CopyNo,
-    j: u32,
-) -> Result<(), AllocError>
-    requires range { x.0 < net_count n.now.net }
-    requires pin { j < length (pins_at (node_of n.now.net x.0)) }
-    requires votes { length votes.now ≡ length (pins_at (node_of n.now.net x.0)) }
-    ensures { OnOk result (out.new.items ≡ out.old.items ++ 32 ∷ pin_spelled n.now.net digits.now votes.now x.0 c j) }
+/// What the lines of each copy of a node are made of: the digits of its partition, which of its pins are voted, the first
+/// word, and all that stands behind the copy's name.
+#[derive(Drop)]
+struct Pieces<'a> {
+    net: &'a FlatNet,
+    node: NetId,
+    digits: &'a [u8],
+    votes: &'a [bool],
+    word: &'static [u8],
+    ending: &'a [u8],
+}
+
+/// Puts a blank and what copy c reads at pin j.
+fn put_pin(out: &mut Vec<u8>, pieces: &Pieces<'_>, c: CopyNo, j: u32) -> Result<(), AllocError>
+    requires pieces { ArePieces pieces.now }
+    requires pin { j < length (pins_at (node_of pieces.now.net.now.net pieces.now.node.0)) }
+    ensures { OnOk result (out.new.items ≡ out.old.items ++ 32 ∷ pin_spelled pieces.now.net.now.net pieces.now.digits.now pieces.now.votes.now pieces.now.node.0 c j) }
 {
-    let name = n.name(n.pin(x, j)).bytes();
-    if votes[j as usize] {
-        put_voter_name(out, name, digits, c)
+    let name = pieces.net.name(pieces.net.pin(pieces.node, j)).bytes();
+    if pieces.votes[j as usize] {
+        put_voter_name(out, name, pieces.digits, c)
     } else {
         put_copy_name(out, name, c)
     }
 }
 
-/// Puts what copy c of node x reads.
-fn put_pins(
-    out: &mut Vec<u8>,
-    n: &FlatNet,
-    x: NetId,
-    digits: &[u8],
-    votes: &[bool],
-    c: CopyNo,
-) -> Result<(), AllocError>
-    requires range { x.0 < net_count n.now.net }
-    requires votes { length votes.now ≡ length (pins_at (node_of n.now.net x.0)) }
-    ensures { OnOk result (out.new.items ≡ out.old.items ++ spaced (pins_spelled n.now.net digits.now votes.now x.0 c)) }
+/// Puts what copy c reads.
+fn put_pins(out: &mut Vec<u8>, pieces: &Pieces<'_>, c: CopyNo) -> Result<(), AllocError>
+    requires { ArePieces pieces.now }
+    ensures { OnOk result (out.new.items ≡ out.old.items ++ spaced (pins_of pieces.now c)) }
 {
-    for j in 0..n.pin_count(x) {
-        put_pin(out, n, x, digits, votes, c, j)?;
+    for j in 0..pieces.net.pin_count(pieces.node) {
+        put_pin(out, pieces, c, j)?;
     }
     Ok(())
 }
 
-/// Puts the lines of copy c of table x, whose rows these are.
-fn put_table(
-    out: &mut Vec<u8>,
-    n: &FlatNet,
-    x: NetId,
-    digits: &[u8],
-    votes: &[bool],
-    rows: &[u8],
-    free: bool,
-    c: CopyNo,
-) -> Result<(), AllocError>
-    requires range { x.0 < net_count n.now.net }
-    requires table { IsTable (node_of n.now.net x.0) }
-    requires votes { length votes.now ≡ length (pins_at (node_of n.now.net x.0)) }
-    requires rows { AreRowsOf (node_of n.now.net x.0) rows.now }
-    ensures { OnOk result (out.new.items ≡ out.old.items ++ lines_text (copy_lines (hardened_clock n.now.net.clock) (pins_spelled n.now.net digits.now votes.now x.0 c) c free (node_of n.now.net x.0))) }
+/// Puts the lines of copy c.
+fn put_copy(out: &mut Vec<u8>, pieces: &Pieces<'_>, c: CopyNo) -> Result<(), AllocError>
+    requires { ArePieces pieces.now }
+    ensures { OnOk result (out.new.items ≡ out.old.items ++ copy_spelled pieces.now c) }
 {
-    out.extend_from_slice(b".names")?;
-    put_pins(out, n, x, digits, votes, c)?;
-    put_copy_name(out, n.name(x).bytes(), c)?;
-    out.push(b'\n')?;
-    out.extend_from_slice(rows)?;
+    out.extend_from_slice(pieces.word)?;
+    put_pins(out, pieces, c)?;
+    put_copy_name(out, pieces.net.name(pieces.node).bytes(), c)?;
+    out.extend_from_slice(pieces.ending)?;
     Ok(())
 }
 
-/// Puts the line of copy c of register x. `control` is how its clock is told.
-fn put_register(
-    out: &mut Vec<u8>,
-    n: &FlatNet,
-    x: NetId,
-    digits: &[u8],
-    votes: &[bool],
-    control: &[u8],
-    free: bool,
-    c: CopyNo,
-) -> Result<(), AllocError>
-    requires range { x.0 < net_count n.now.net }
-    requires register { IsRegister (node_of n.now.net x.0) }
-    requires votes { length votes.now ≡ length (pins_at (node_of n.now.net x.0)) }
-    requires control { control.now ≡ spaced (control_words (hardened_clock n.now.net.clock)) }
-    ensures { OnOk result (out.new.items ≡ out.old.items ++ lines_text (copy_lines (hardened_clock n.now.net.clock) (pins_spelled n.now.net digits.now votes.now x.0 c) c free (node_of n.now.net x.0))) }
+/// Puts the lines of the three copies.
+fn put_three(out: &mut Vec<u8>, pieces: &Pieces<'_>) -> Result<(), AllocError>
+    requires { ArePieces pieces.now }
+    ensures { OnOk result (out.new.items ≡ ((out.old.items ++ copy_spelled pieces.now First) ++ copy_spelled pieces.now Second) ++ copy_spelled pieces.now Third) }
 {
-    out.extend_from_slice(b".latch")?;
-    put_pins(out, n, x, digits, votes, c)?;
-    put_copy_name(out, n.name(x).bytes(), c)?;
-    out.extend_from_slice(control)?;
-    put_start(out, n.init(x), free)?;
-    out.push(b'\n')?;
-    Ok(())
-}
-
-/// Puts the lines of copy c of net x. The copies of an input have none.
-#[tactic(auto, using(flat_net::proofs::Bodies::from_kind, crate::proofs::CopyPuts::inputs))]
-fn put_copy(
-    out: &mut Vec<u8>,
-    n: &FlatNet,
-    x: NetId,
-    digits: &[u8],
-    votes: &[bool],
-    rows: &[u8],
-    control: &[u8],
-    free: bool,
-    c: CopyNo,
-) -> Result<(), AllocError>
-    requires range { x.0 < net_count n.now.net }
-    requires votes { length votes.now ≡ length (pins_at (node_of n.now.net x.0)) }
-    requires control { control.now ≡ spaced (control_words (hardened_clock n.now.net.clock)) }
-    requires rows { AreRowsOf (node_of n.now.net x.0) rows.now }
-    ensures { OnOk result (out.new.items ≡ out.old.items ++ lines_text (copy_lines (hardened_clock n.now.net.clock) (pins_spelled n.now.net digits.now votes.now x.0 c) c free (node_of n.now.net x.0))) }
-{
-    match n.kind(x) {
-        Kind::Input => Ok(()),
-        Kind::Table => put_table(out, n, x, digits, votes, rows, free, c),
-        Kind::Register => put_register(out, n, x, digits, votes, control, free, c),
-    }
-}
-
-/// Puts the lines of the three copies of net x.
-fn put_three(
-    out: &mut Vec<u8>,
-    n: &FlatNet,
-    x: NetId,
-    digits: &[u8],
-    votes: &[bool],
-    rows: &[u8],
-    control: &[u8],
-    free: bool,
-) -> Result<(), AllocError>
-    requires range { x.0 < net_count n.now.net }
-    requires votes { length votes.now ≡ length (pins_at (node_of n.now.net x.0)) }
-    requires control { control.now ≡ spaced (control_words (hardened_clock n.now.net.clock)) }
-    requires rows { AreRowsOf (node_of n.now.net x.0) rows.now }
-    ensures { OnOk result (out.new.items ≡ ((out.old.items ++ lines_text (copy_lines (hardened_clock n.now.net.clock) (pins_spelled n.now.net digits.now votes.now x.0 First) First free (node_of n.now.net x.0)))
-        ++ lines_text (copy_lines (hardened_clock n.now.net.clock) (pins_spelled n.now.net digits.now votes.now x.0 Second) Second free (node_of n.now.net x.0)))
-        ++ lines_text (copy_lines (hardened_clock n.now.net.clock) (pins_spelled n.now.net digits.now votes.now x.0 Third) Third free (node_of n.now.net x.0))) }
-{
-    put_copy(out, n, x, digits, votes, rows, control, free, CopyNo::First)?;
-    put_copy(
-        out,
-        n,
-        x,
-        digits,
-        votes,
-        rows,
-        control,
-        free,
-        CopyNo::Second,
-    )?;
-    put_copy(out, n, x, digits, votes, rows, control, free, CopyNo::Third)?;
+    put_copy(out, pieces, CopyNo::First)?;
+    put_copy(out, pieces, CopyNo::Second)?;
+    put_copy(out, pieces, CopyNo::Third)?;
     Ok(())
 }
 
@@ -192,23 +98,54 @@ fn note_votes(n: &FlatNet, plan: &Plan, y: u32, votes: &mut Vec<bool>) -> Result
     Ok(())
 }
 
-/// The lines of the rows of net x, if it is a table, put into `rows`.
-fn note_rows(n: &FlatNet, x: NetId, rows: &mut Vec<u8>) -> Result<(), AllocError>
-    requires { x.0 < net_count n.now.net }
-    ensures { OnOk result (AreRowsOf (node_of n.now.net x.0) rows.new.items) }
+/// The first word of a net's lines. An input has no lines.
+fn first_word(kind: Kind) -> &'static [u8]
+    ensures { result.now ≡ first_word kind }
 {
-    rows.clear();
-    match n.kind(x) {
-        Kind::Table => put_rows(rows, n.cover(x)),
-        _ => Ok(()),
+    match kind {
+        Kind::Input => b"",
+        Kind::Table => b".names",
+        Kind::Register => b".latch",
     }
 }
 
-/// Room for what is known of one node while its copies are written.
+/// What stands behind the name of net x in its lines, put into `ending`: a table's rows, or a register's clock and the value
+/// that it begins with. `control` is how the clock is told.
+#[tactic(auto, using(flat_net::proofs::Bodies::from_kind, crate::proofs::CopyPuts::endings))]
+fn note_ending(
+    n: &FlatNet,
+    x: NetId,
+    control: &[u8],
+    free: bool,
+    ending: &mut Vec<u8>,
+) -> Result<(), AllocError>
+    requires range { x.0 < net_count n.now.net }
+    requires control { control.now ≡ spaced (control_words (hardened_clock n.now.net.clock)) }
+    ensures { OnOk result (ending.new.items ≡ ending_of (hardened_clock n.now.net.clock) free (node_of n.now.net x.0)) }
+{
+    ending.clear();
+    match n.kind(x) {
+        Kind::Input => Ok(()),
+        Kind::Table => {
+            ending.push(b'\n')?;
+            put_rows(ending, n.cover(x))
+        }
+        Kind::Register => {
+            ending.extend_from_slice(control)?;
+            put_start(ending, n.init(x), free)?;
+            ending.push(b'\n')?;
+            Ok(())
+        }
+    }
+}
+
+/// Room for what is known of one net while what stands for it is written.
 #[derive(Drop)]
 pub struct Room {
     votes: Vec<bool>,
-    rows: Vec<u8>,
+    ending: Vec<u8>,
+    /// What the lines of its voters begin with.
+    pub head: Vec<u8>,
 }
 
 impl Room {
@@ -216,7 +153,8 @@ impl Room {
     pub fn new(alloc: Global) -> Room {
         Room {
             votes: Vec::new(alloc),
-            rows: Vec::new(alloc),
+            ending: Vec::new(alloc),
+            head: Vec::new(alloc),
         }
     }
 }
@@ -242,10 +180,16 @@ pub fn put_copies(
     let _nodes = nodes_of(n);
     let x = NetId(n.input_count() + y);
     note_votes(n, plan, y, &mut room.votes)?;
-    note_rows(n, x, &mut room.rows)?;
+    note_ending(n, x, control, free, &mut room.ending)?;
     let mut digits = Buffer::new();
-    let digits = digits.format(plan.parts.of(y));
-    let digits = digits.as_bytes();
-    put_three(out, n, x, digits, &room.votes, &room.rows, control, free)?;
+    let pieces = Pieces {
+        net: n,
+        node: x,
+        digits: digits.format(plan.parts.of(y)).as_bytes(),
+        votes: &room.votes,
+        word: first_word(n.kind(x)),
+        ending: &room.ending,
+    };
+    put_three(out, &pieces)?;
     Ok(())
 }

@@ -122,7 +122,7 @@ fn put_own_copies(
     Ok(())
 }
 
-/// Puts what stands for net x: the lines of its copies, if it is a node, and of its voters. `head` is room too.
+/// Puts what stands for net x: the lines of its copies, if it is a node, and of its voters.
 fn put_block(
     out: &mut Vec<u8>,
     n: &FlatNet,
@@ -131,7 +131,6 @@ fn put_block(
     free: bool,
     control: &[u8],
     room: &mut Room,
-    head: &mut Vec<u8>,
 ) -> Result<(), AllocError>
     requires planned { AreVotesOf n.now.net plan.now.parts (votes_in plan.now) }
     requires taps { AreTaps n.now.net plan.now.parts (plan_votes n.now.net plan.now) plan.now.taps }
@@ -141,7 +140,12 @@ fn put_block(
     ensures { OnOk result (out.new.items ≡ out.old.items ++ block_text n.now.net plan.now.parts (plan_votes n.now.net plan.now) free x) }
 {
     put_own_copies(out, n, plan, x, free, control, room)?;
-    put_voters(out, n.name(NetId(x)).bytes(), plan.voters.row(x), head)?;
+    put_voters(
+        out,
+        n.name(NetId(x)).bytes(),
+        plan.voters.row(x),
+        &mut room.head,
+    )?;
     Ok(())
 }
 
@@ -167,11 +171,10 @@ fn put_blocks(alloc: Global, out: &mut Vec<u8>, n: &FreeNet, plan: &Plan) -> Res
     let mut control = Vec::new(alloc);
     put_control(&mut control, net)?;
     let mut room = Room::new(alloc);
-    let mut head = Vec::new(alloc);
     let nets = net.input_count() + nodes_of(net);
     for x in 0..nets {
         let free = is_free(n, plan.inputs, x);
-        put_block(out, net, plan, x, free, &control, &mut room, &mut head)?;
+        put_block(out, net, plan, x, free, &control, &mut room)?;
     }
     Ok(())
 }

@@ -36,7 +36,7 @@ inside library bound [] f ys a = (a.0, a.3)
 inside library bound (x ∷ xs) f ys a = let r = inside library x.path_end xs f ys a.4 in ((let h = a.0 in let k = r.0 in omega arith), r.1)
 
 pub frame_kept : (library : List PlainModel) (w : Walk) (depth : ℕ) (f : Frame) → IsWalking library w → 0 < depth → depth ≤ length w.frames.items → f ≡ get_or w.frames.items (depth - 1) f → (f.path_end ≤ length w.path.items) × IsPlacing library f.placing
-frame_kept library w depth f a some within is = inside library (length w.path.items) (reverse (drop depth w.frames.items)) f (reverse (take (depth - 1) w.frames.items)) (subst (AreFrames library (length w.path.items)) whole a.0)
+frame_kept library w depth f a some within is = inside library (length w.path.items) (reverse (drop depth w.frames.items)) f (reverse (take (depth - 1) w.frames.items)) (subst (AreFrames library (length w.path.items)) whole a.frames_are)
   where
     whole : innermost_first w ≡ reverse (drop depth w.frames.items) ++ f ∷ reverse (take (depth - 1) w.frames.items)
     whole = ap reverse (sym (take-append-drop depth w.frames.items))
@@ -75,14 +75,14 @@ pub inner_end : (library : List PlainModel) (w : Walk) (depth : ℕ) (f g : Fram
 inner_end library w depth f g fs a some within is first = (inside library g.path_end (reverse (drop depth w.frames.items)) f (reverse (take (depth - 1) w.frames.items)) (subst (AreFrames library g.path_end) (sym first ∙ split_at w depth f some within is) own)).0
   where
     all : AreFrames library (length w.path.items) (g ∷ fs)
-    all = subst (AreFrames library (length w.path.items)) first a.0
+    all = subst (AreFrames library (length w.path.items)) first a.frames_are
 
     own : AreFrames library g.path_end (g ∷ fs)
     own = (omega arith, all.1, all.2, all.3, all.4)
 
 module _ (library : List PlainModel) (w : Walk) (depth : ℕ) (f : Frame) (found : List ℕ) (whole : PlacedNet) (a : IsWalking library w) (some : 0 < depth) (within : depth ≤ length w.frames.items) (is : f ≡ get_or w.frames.items (depth - 1) f) (so_far : resolve (map (level_of library w.path.items) (reverse (take depth w.frames.items))) found ≡ whole) (end : ℕ) (net : List ℕ) (known : known_net w (depth - 1) found ≡ Some (end, net)) where
   pub known_here : (end ≤ f.path_end) × (whole ≡ record { path = take end w.path.items; name = net })
-  known_here = go ((known_inside library w.path.items (known_net w) (reverse (drop depth w.frames.items)) f (reverse (take (depth - 1) w.frames.items)) (subst (AreKnown library w.path.items (known_net w)) (split_at w depth f some within is) a.1)).0 found end net (subst (λ d. known_net w d found ≡ Some (end, net)) (sym deep) known))
+  known_here = go ((known_inside library w.path.items (known_net w) (reverse (drop depth w.frames.items)) f (reverse (take (depth - 1) w.frames.items)) (subst (AreKnown library w.path.items (known_net w)) (split_at w depth f some within is) a.known_are)).0 found end net (subst (λ d. known_net w d found ≡ Some (end, net)) (sym deep) known))
     where
       deep : length (reverse (take (depth - 1) w.frames.items)) ≡ depth - 1
       deep = omega (arith, length-reverse (take (depth - 1) w.frames.items), length-take (depth - 1) w.frames.items)

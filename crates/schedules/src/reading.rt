@@ -203,28 +203,35 @@ fn start_schedule(
     }
 }
 
+/// What a schedule is read for: the version of a certificate, the original, how many of its registers have start
+/// values, and the hardened design.
+#[derive(Clone, Copy, Drop)]
+struct Designs<'a> {
+    version: u8,
+    original: &'a FlatNet,
+    starts: u32,
+    hardened: &'a FlatNet,
+}
+
 /// Adds the start values, the rows and the upsets.
 fn read_arrays(
     alloc: Global,
-    version: u8,
+    designs: &Designs<'_>,
     top: &Table,
     rows: &[Value],
     upsets: &[Value],
-    n: &FlatNet,
-    count: u32,
-    h: &FlatNet,
 ) -> Result<Schedule, ScheduleFault>
-    ensures ok { IfOk result (λ s. IsReadAs (length n.now.net.inputs) (listed version n.now.net h.now.net (starts_of count (table_view top.now)) (map view rows.now) (map view upsets.now)) s) }
-    ensures struck { IfOk result (λ s. All (λ u. CanBeStruck version h.now.net u.net.0) s.upsets) }
-    ensures inputs { IfOk result (λ s. s.inputs ≡ length n.now.net.inputs) }
-    ensures starts { IfOk result (λ s. length s.starts ≡ count) }
-    ensures err { IfErr result (λ f. Fails f (listed version n.now.net h.now.net (starts_of count (table_view top.now)) (map view rows.now) (map view upsets.now))) }
+    ensures ok { IfOk result (λ s. IsReadAs (length designs.now.original.now.net.inputs) (listed designs.now.version designs.now.original.now.net designs.now.hardened.now.net (starts_of designs.now.starts (table_view top.now)) (map view rows.now) (map view upsets.now)) s) }
+    ensures struck { IfOk result (λ s. All (λ u. CanBeStruck designs.now.version designs.now.hardened.now.net u.net.0) s.upsets) }
+    ensures inputs { IfOk result (λ s. s.inputs ≡ length designs.now.original.now.net.inputs) }
+    ensures starts { IfOk result (λ s. length s.starts ≡ designs.now.starts) }
+    ensures err { IfErr result (λ f. Fails f (listed designs.now.version designs.now.original.now.net designs.now.hardened.now.net (starts_of designs.now.starts (table_view top.now)) (map view rows.now) (map view upsets.now))) }
 {
     if rows.len() > 1_048_576 || upsets.len() > 1_048_576 {
         return Err(ScheduleFault::TooMany);
     }
-    let inputs = n.input_count();
-    match start_schedule(alloc, top, inputs, count) {
+    let inputs = designs.original.input_count();
+    match start_schedule(alloc, top, inputs, designs.starts) {
         Err(fault) => Err(fault),
         Ok(started) => {
             let mut s = started;
@@ -232,7 +239,7 @@ fn read_arrays(
                 Err(fault) => return Err(fault),
                 Ok(()) => {}
             }
-            match read_upsets(alloc, version, upsets, h, s.cycles()) {
+            match read_upsets(alloc, designs.version, upsets, designs.hardened, s.cycles()) {
                 Err(fault) => Err(fault),
                 Ok(map) => match entries_of(alloc, map) {
                     Err(_) => Err(ScheduleFault::Memory),
@@ -265,7 +272,13 @@ pub fn read_schedule(
     ensures inputs { IfOk result (λ s. s.inputs ≡ length n.now.net.inputs) }
     ensures err { IfErr result (λ f. Fails f (sched_of 1 bytes.now n.now.net [] h.now.net)) }
 {
-    match read_of_version(alloc, 1, bytes, n, 0, h) {
+    let designs = Designs {
+        version: 1,
+        original: n,
+        starts: 0,
+        hardened: h,
+    };
+    match read_for(alloc, &designs, bytes) {
         Ok(s) => Ok(s),
         Err(fault) => Err(fault),
     }
@@ -290,54 +303,46 @@ pub fn read_schedule_free(
     ensures starts { IfOk result (λ s. length s.starts ≡ count_by (λ mark. mark) n.now.free) }
     ensures err { IfErr result (λ f. Fails f (sched_of 2 bytes.now n.now.design.net n.now.free h.now.design.net)) }
 {
-    match read_of_version(alloc, 2, bytes, n.net(), n.free_count(), h.net()) {
+    let designs = Designs {
+        version: 2,
+        original: n.net(),
+        starts: n.free_count(),
+        hardened: h.net(),
+    };
+    match read_for(alloc, &designs, bytes) {
         Ok(s) => Ok(s),
         Err(fault) => Err(fault),
     }
 }
 
-/// The schedule that the bytes write where there are so many start values, or the first fault.
-fn read_of_version(
-    alloc: Global,
-    version: u8,
-    bytes: &[u8],
-    n: &FlatNet,
-    count: u32,
-    h: &FlatNet,
-) -> Result<Schedule, ScheduleFault>
+/// The schedule that the bytes write for these designs, or the first fault.
+fn read_for(alloc: Global, designs: &Designs<'_>, bytes: &[u8]) -> Result<Schedule, ScheduleFault>
     requires { length bytes.now ≤ 16777216 }
-    ensures ok { IfOk result (λ s. IsReadAs (length n.now.net.inputs) (document_listed version count n.now.net h.now.net (document bytes.now)) s) }
-    ensures struck { IfOk result (λ s. All (λ u. CanBeStruck version h.now.net u.net.0) s.upsets) }
-    ensures inputs { IfOk result (λ s. s.inputs ≡ length n.now.net.inputs) }
-    ensures starts { IfOk result (λ s. length s.starts ≡ count) }
-    ensures err { IfErr result (λ f. Fails f (document_listed version count n.now.net h.now.net (document bytes.now))) }
+    ensures ok { IfOk result (λ s. IsReadAs (length designs.now.original.now.net.inputs) (document_listed designs.now.version designs.now.starts designs.now.original.now.net designs.now.hardened.now.net (document bytes.now)) s) }
+    ensures struck { IfOk result (λ s. All (λ u. CanBeStruck designs.now.version designs.now.hardened.now.net u.net.0) s.upsets) }
+    ensures inputs { IfOk result (λ s. s.inputs ≡ length designs.now.original.now.net.inputs) }
+    ensures starts { IfOk result (λ s. length s.starts ≡ designs.now.starts) }
+    ensures err { IfErr result (λ f. Fails f (document_listed designs.now.version designs.now.starts designs.now.original.now.net designs.now.hardened.now.net (document bytes.now))) }
 {
     match read_document(alloc, bytes) {
         Err(fault) => Err(fault),
-        Ok(top) => read_top(alloc, version, &top, n, count, h),
+        Ok(top) => read_top(alloc, designs, &top),
     }
 }
 
 /// The schedule that a document has, or its first fault.
-fn read_top(
-    alloc: Global,
-    version: u8,
-    top: &Table,
-    n: &FlatNet,
-    count: u32,
-    h: &FlatNet,
-) -> Result<Schedule, ScheduleFault>
-    ensures ok { IfOk result (λ s. IsReadAs (length n.now.net.inputs) (document_listed version count n.now.net h.now.net (Some (table_view top.now))) s) }
-    ensures struck { IfOk result (λ s. All (λ u. CanBeStruck version h.now.net u.net.0) s.upsets) }
-    ensures inputs { IfOk result (λ s. s.inputs ≡ length n.now.net.inputs) }
-    ensures starts { IfOk result (λ s. length s.starts ≡ count) }
-    ensures err { IfErr result (λ f. Fails f (document_listed version count n.now.net h.now.net (Some (table_view top.now)))) }
+fn read_top(alloc: Global, designs: &Designs<'_>, top: &Table) -> Result<Schedule, ScheduleFault>
+    ensures ok { IfOk result (λ s. IsReadAs (length designs.now.original.now.net.inputs) (document_listed designs.now.version designs.now.starts designs.now.original.now.net designs.now.hardened.now.net (Some (table_view top.now))) s) }
+    ensures struck { IfOk result (λ s. All (λ u. CanBeStruck designs.now.version designs.now.hardened.now.net u.net.0) s.upsets) }
+    ensures inputs { IfOk result (λ s. s.inputs ≡ length designs.now.original.now.net.inputs) }
+    ensures starts { IfOk result (λ s. length s.starts ≡ designs.now.starts) }
+    ensures err { IfErr result (λ f. Fails f (document_listed designs.now.version designs.now.starts designs.now.original.now.net designs.now.hardened.now.net (Some (table_view top.now)))) }
 {
-    if !has_file_keys(version, top) {
+    if !has_file_keys(designs.version, top) {
         return Err(ScheduleFault::Top);
     }
     match (inputs(top), upsets(top)) {
-        (Some(rows), Some(entries)) => read_arrays(alloc, version, top, rows, entries, n, count, h),
+        (Some(rows), Some(entries)) => read_arrays(alloc, designs, top, rows, entries),
         _ => Err(ScheduleFault::Top),
     }
 }

@@ -6,7 +6,7 @@ use Rattle.flat_net.specs.Free.{FreeDesign, node_bit}
 use Rattle.certificate.specs.Cert.{PlainCert, count_of}
 use Rattle.certificate.specs.Starts.{counted}
 use Rattle.explaining.specs.declared.reason.Reason.{Reason}
-use Rattle.explaining.specs.declared.reason.Reason.TheVariants.{Pin, VoterPin, Minority, LowLabel, WrongOutput, NoOutput, NewOutput}
+use Rattle.explaining.specs.declared.reason.Reason.TheVariants.{IsTable, IsRegister, PinCount, Polarity, RowCount, Row, Initial, Pin, VoterPin, Minority, LowLabel, WrongOutput, NoOutput, NewOutput}
 use Rattle.explaining.specs.Reasons.{VoterPinFails, VoteFailsFirst, LabelFailsFirst}
 
 -- net x is marked, as far as the certificate counts marks
@@ -22,6 +22,24 @@ HasNets n h (WrongOutput g x c) = (g.0 < net_count h) × (x.0 < net_count n)
 HasNets n h (NoOutput x c) = x.0 < net_count n
 HasNets n h (NewOutput g) = g.0 < net_count h
 HasNets n h _ = Unit {0}
+
+-- the reason is of a node's kind, of how many pins it has, of its rows, or of its initial value
+abbrev pub IsOfShape : Reason → Type 0
+IsOfShape IsTable = Unit {0}
+IsOfShape IsRegister = Unit {0}
+IsOfShape (PinCount is wanted) = Unit {0}
+IsOfShape Polarity = Unit {0}
+IsOfShape (RowCount is wanted) = Unit {0}
+IsOfShape (Row i is wanted) = Unit {0}
+IsOfShape (Initial is is_free wanted wanted_free) = Unit {0}
+IsOfShape _ = ⊥
+
+-- the reason is of what a node's pins read, or of a voter's value on them
+abbrev pub IsOfPins : Reason → Type 0
+IsOfPins (Pin j g x p c) = Unit {0}
+IsOfPins (VoterPin g x c) = Unit {0}
+IsOfPins (Minority a b c) = Unit {0}
+IsOfPins _ = ⊥
 
 -- each pin wants its net's count and so much more, and e reaches it
 abbrev pub AllReach : PlainCert → List ℕ → ℕ → ℕ → Type 0

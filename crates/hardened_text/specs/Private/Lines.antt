@@ -1,5 +1,5 @@
 -- Only private functions cite this: the lines of a hardened design and of its certificate, told net by net of the original.
-use Rattle.std.specs.Prelude.{◌≡◌, ℕ, ◌+◌, ◌-◌, Bool, List, [], ◌∷◌, ◌++◌, map, drop, length, codes, slice_index, Option, Some, None, if◌then◌else◌}
+use Rattle.std.specs.Prelude.{ℕ, ◌+◌, ◌-◌, Bool, List, [], ◌∷◌, ◌++◌, map, drop, length, codes, slice_index, Option, Some, None, if◌then◌else◌}
 use Rattle.std.specs.List.{flat_map, range_with_len}
 use Rattle.std.specs.Fmt.{decimal}
 use Rattle.tmr_base.specs.declared.copies.CopyNo.{CopyNo}
@@ -8,10 +8,12 @@ use Rattle.tmr_base.specs.declared.ids.Edge.{Edge}
 use Rattle.tmr_base.specs.Copies.{copy_number}
 use Rattle.tmr_base.specs.Names.{copy_text, voter_text}
 use Rattle.tmr_base.specs.Parts.{PlainParts}
-use Rattle.table_cover.specs.Cover.{PlainCover}
-use Rattle.flat_net.specs.Net.{Net, Node, Table, Register, node_of, name_of, IsCoverOf}
+use Rattle.flat_net.specs.declared.kind.Kind.{Kind}
+use Rattle.flat_net.specs.declared.kind.Kind.TheVariants as kind
+use Rattle.flat_net.specs.Net.{Net, Node, Table, Register, node_of, name_of}
 use Rattle.flat_net.specs.Free.{node_bit}
 use Rattle.feedback_cut.specs.Inner.{node_pins}
+use Rattle.blif_writer.specs.Left.{spaced}
 use Rattle.blif_writer.specs.Text.{control_words, init_word, start_of, row_lines, line_text, lines_text}
 use Rattle.certificate.specs.Text.{part_lines}
 use Rattle.certificate.specs.declared.role.Role.{Role}
@@ -36,9 +38,17 @@ copy_lines clock pins c free (Some (Table name cover nets)) = (codes ".names" �
 copy_lines clock pins c free (Some (Register name init net)) =
     (codes ".latch" ∷ (pins ++ copy_text name c ∷ (control_words clock ++ init_word (start_of free init) ∷ []))) ∷ []
 
--- the lines of a table's rows; of another net it says nothing
-abbrev pub AreRowsOf : Option Node → List ℕ → Type 0
-AreRowsOf net rows = (k : PlainCover) → IsCoverOf net k → rows ≡ lines_text (row_lines k)
+-- the first word of the lines of each copy
+abbrev pub first_word : Kind → List ℕ
+first_word kind.Input = []
+first_word kind.Table = codes ".names"
+first_word kind.Register = codes ".latch"
+
+-- what stands behind the name of each copy of a node
+abbrev pub ending_of : Option (Edge × List ℕ) → Bool → Option Node → List ℕ
+ending_of clock free None = []
+ending_of clock free (Some (Table name cover nets)) = 10 ∷ lines_text (row_lines cover)
+ending_of clock free (Some (Register name init net)) = (spaced (control_words clock) ++ 32 ∷ init_word (start_of free init)) ++ 10 ∷ []
 
 -- the lines of the voter for partition p that gives copy c of the net with this name
 abbrev pub voter_lines : List ℕ → ℕ → CopyNo → List (List (List ℕ))

@@ -5,14 +5,17 @@ use Rattle.std.specs.List.{list_all}
 use Rattle.std.specs.Str.{bytes_eq}
 use Rattle.indexmap.specs.IndexMap.{get}
 use Rattle.tmr_base.specs.Names.{is_name_byte}
+use Rattle.blif_text.specs.Views.{plain_model}
 use Rattle.blif_text.specs.Models.{PlainElement, Table, Register, Instance, PlainModel}
 use Rattle.hierarchy.specs.declared.walking.walk.Frame.{Frame}
 use Rattle.hierarchy.specs.declared.walking.walk.Walk.{Walk}
+use Rattle.hierarchy.specs.declared.walking.walk.Place.{Place}
 use Rattle.library_faults.specs.Graph.{names_of, model_named}
-use Rattle.library_faults.specs.Flat.{Level, actual_of, NetElement, resolve}
+use Rattle.library_faults.specs.Flat.{Level, PlacedNet, actual_of, NetElement, resolve}
 use Rattle.library_faults.specs.Private.Models.{model_at, element_at, IsInstance}
 use Rattle.hierarchy.specs.Private.Texts.{elements_with, elements_to}
 use Rattle.hierarchy.specs.declared.walking.bindings.Row.{Row}
+use Rattle.hierarchy.specs.declared.walking.bindings.Ready.{Ready}
 use Rattle.hierarchy.specs.Private.Bindings.{bindings_of, AreRows}
 use Rattle.wrapper_chains.specs.Bare.{AreBare}
 use Rattle.wrapper_chains.specs.Private.Placed.{placed_element}
@@ -68,9 +71,19 @@ AreKnown library path known (f ∷ frames) =
     → (end ≤ f.path_end) × (resolve (map (level_of library path) (f ∷ frames)) name ≡ record { path = take end path; name = net }))
     × AreKnown library path known frames
 
+-- the bytes of a path's text may stand in a name
+abbrev pub IsPathText : List ℕ → Type 0
+IsPathText path = list_all is_name_byte path ≡ true
+
+-- these placed models may stand in a walk with this path, which knows this of names
+pub record AreWalked (library : List PlainModel) (path : List ℕ) (known : ℕ → List ℕ → Option (ℕ × List ℕ)) (frames : List Frame) : Type 0 where
+  pub frames_are : AreFrames library (length path) frames
+  pub known_are : AreKnown library path known frames
+  pub text : IsPathText path
+
 -- what a walk keeps
 abbrev pub IsWalking : List PlainModel → Walk → Type 0
-IsWalking library w = AreFrames library (length w.path.items) (innermost_first w) × AreKnown library w.path.items (known_net w) (innermost_first w)
+IsWalking library w = AreWalked library w.path.items (known_net w) (innermost_first w)
 
 -- how many moves the walk of a model takes: one for each element, those of the models that it places, and one to leave it
 unfoldable pub moves_with : (List ℕ → ℕ) → List PlainElement → ℕ
@@ -92,21 +105,34 @@ abbrev pub moves : List PlainModel → Walk → ℕ
 moves library w = moves_from library (innermost_first w)
 
 -- the links are those of the library, and a model is only left out where it is bare
-pub record IsReady (library : List PlainModel) (rows : List Row) : Type 0 where
+pub record AreReady (library : List PlainModel) (rows : List Row) : Type 0 where
   pub holds : List Bool
   pub links : AreRows (names_of library) holds rows library
   pub bare : AreBare library holds
 
--- the bytes of a path's text may stand in a name
-abbrev pub IsPathText : List ℕ → Type 0
-IsPathText path = list_all is_name_byte path ≡ true
+abbrev pub library_of : Ready → List PlainModel
+library_of r = map plain_model r.models.now
+
+abbrev pub IsReady : Ready → Type 0
+IsReady r = AreReady (library_of r) r.rows.now
+
+-- a walk stands in a library that is ready
+pub record IsPlace (p : Place) : Type 0 where
+  pub ready : IsReady p.ready
+  pub walking : IsWalking (library_of p.ready) p.walk.now
+
+abbrev pub levels_at : Place → List Level
+levels_at p = levels_of (library_of p.ready) p.walk.now
+
+-- the net of a name in the innermost placed model
+abbrev pub net_at : Place → List ℕ → PlacedNet
+net_at p = resolve (levels_at p)
 
 -- the walk stands where one move from these placed models leads: the same is to come, and fewer moves are left
 pub record IsMoved (library : List PlainModel) (path : List ℕ) (frames : List Frame) (w : Walk) : Type 0 where
   pub same : coming library w ≡ coming_from library path frames
   pub walking : IsWalking library w
   pub fewer : moves library w < moves_from library frames
-  pub text : IsPathText path → IsPathText w.path.items
 
 -- the walk has passed this table or register, which came next
 pub record IsNextElement (library : List PlainModel) (old : Walk) (x i : ℕ) (new : Walk) : Type 0 where
@@ -114,7 +140,6 @@ pub record IsNextElement (library : List PlainModel) (old : Walk) (x i : ℕ) (n
   pub element : i < length (model_at library x).elements
   pub plain : ¬ IsInstance (element_at library x i)
   pub walking : IsWalking library new
-  pub text : IsPathText old.path.items → IsPathText new.path.items
   pub comes : coming library old ≡ placed_element (levels_of library new) (element_at library x i) ++ coming library new
 
 -- the next element, where one is still to come
@@ -131,3 +156,7 @@ pub record IsNetWithin (library : List PlainModel) (w : Walk) (actual : List ℕ
 abbrev pub AreWithin : List PlainModel → Walk → List (List ℕ × List ℕ) → (List ℕ → Option (ℕ × List ℕ)) → Type 0
 AreWithin library w bindings nets = (name : List ℕ) (end : ℕ) (net : List ℕ) → nets name ≡ Some (end, net)
     → (actual : List ℕ) × (actual_of bindings name ≡ Some actual) × IsNetWithin library w actual end net
+
+-- the same of the formals of a statement
+abbrev pub AreNetsBelow : Place → PlainElement → (List ℕ → Option (ℕ × List ℕ)) → Type 0
+AreNetsBelow p element nets = AreWithin (library_of p.ready) p.walk.now (bindings_of element) nets

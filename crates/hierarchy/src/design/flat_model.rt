@@ -11,12 +11,12 @@ ghost use Rattle.hierarchy.specs.Flatten.{IsFlatFault};
 ghost use Rattle.hierarchy.specs.Private.Texts.{flat_model as texted_model, name_clash as texted_clash};
 ghost use Rattle.hierarchy.specs.Private.Room.{HasRoom};
 ghost use Rattle.hierarchy.specs.Private.Alone.{places_nothing};
-ghost use Rattle.hierarchy.specs.Private.Walk.{IsReady};
+ghost use Rattle.hierarchy.specs.Private.Walk.{AreReady};
 ghost use Rattle.hierarchy.specs.Private.Naming.{IsClash};
 ghost use Rattle.hierarchy.specs.Private.Stages.{IsFlatModel};
 
 use crate::flat_fault::FlatFault;
-use crate::walking::bindings::{Row, all_links};
+use crate::walking::bindings::{Ready, Row, all_links};
 use crate::walking::branching::branching_models;
 use crate::walking::named_model::named_model;
 use crate::walking::naming::NamingFault;
@@ -30,7 +30,7 @@ use wrapper_chains::{cut_short, filled_models};
 /// The statements of a library made ready to be followed. What was known of it is let go.
 fn ready_rows(alloc: Global, models: &[BlifModel], looked: Looked) -> Result<Vec<Row>, OutOfMemory>
     requires { looked.names.keys ≡ names_of (map plain_model models.now) }
-    ensures { IfOk result (λ rows. IsReady (map plain_model models.now) rows.items) }
+    ensures { IfOk result (λ rows. AreReady (map plain_model models.now) rows.items) }
 {
     let holds = filled_models(alloc, &looked.names, models, &looked.order)?;
     let branching = branching_models(alloc, &looked.names, models, &holds)?;
@@ -50,7 +50,11 @@ fn walked_model(
     ensures fault { IfErr result (λ fault. IsClash (map plain_model models.now) fault) }
 {
     let rows = ready_rows(alloc, models, looked)?;
-    named_model(alloc, models, &rows)
+    let ready = Ready {
+        models,
+        rows: &rows,
+    };
+    named_model(alloc, &ready)
 }
 
 /// The same, where long chains of wrappers are cut short before.

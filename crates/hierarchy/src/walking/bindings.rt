@@ -32,6 +32,13 @@ pub struct Row {
     pub(crate) links: Vec<Link>,
 }
 
+/// A library that is ready to be walked: its models, and the links of their elements.
+#[derive(Clone, Copy, Drop)]
+pub struct Ready<'a> {
+    pub(crate) models: &'a [BlifModel],
+    pub(crate) rows: &'a [Row],
+}
+
 /// The actual of each formal, where there are many bindings.
 fn many_actuals(
     alloc: Global,

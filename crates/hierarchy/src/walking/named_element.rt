@@ -2,19 +2,19 @@
 ghost use Rattle.std.specs.Prelude.{◌≡◌, ◌∷◌, [], map, flat_map, IfOk, OnOk, IfErr};
 ghost use Rattle.std.specs.Str.{bytes_eq};
 ghost use Rattle.indexmap.specs.IndexMap.{get};
-ghost use Rattle.blif_text.specs.Views.{plain_model, plain_element};
+ghost use Rattle.blif_text.specs.Views.{plain_element};
 ghost use Rattle.blif_text.specs.Models.{Table, Register};
 ghost use Rattle.hierarchy.specs.Private.Texts.{named};
 ghost use Rattle.hierarchy.specs.Clash.{nets_of};
 ghost use Rattle.hierarchy.specs.Private.Naming.{AreNamed, IsNamingFault};
-ghost use Rattle.hierarchy.specs.Private.Walk.{IsPathText, IsReady, IsWalking, coming, levels_of};
+ghost use Rattle.hierarchy.specs.Private.Walk.{library_of, IsPlace, IsReady, IsWalking, coming, levels_at};
 ghost use Rattle.wrapper_chains.specs.Private.Placed.{placed_element};
 ghost use Rattle.library_faults.specs.Private.Models.{IsInstance};
 
-use crate::walking::bindings::Row;
+use crate::walking::bindings::Ready;
 use crate::walking::naming::{NamingFault, name_control, name_net, name_nets};
-use crate::walking::walk::{Walk, next_element};
-use blif_text::{BlifModel, Element, Init};
+use crate::walking::walk::{Place, Walk, next_element};
+use blif_text::{Element, Init};
 use indexmap::IndexMap;
 use std::alloc::Global;
 use table_cover::Cover;
@@ -25,22 +25,18 @@ use tmr_base::{Edge, Name};
 fn name_table(
     alloc: Global,
     texts: &mut IndexMap<Name, usize>,
-    models: &[BlifModel],
-    rows: &[Row],
-    walk: &Walk,
+    place: &Place<'_>,
     pins: &[Name],
     out: &Name,
     cover: &Cover,
 ) -> Result<Element, NamingFault>
-    requires ready { IsReady (map plain_model models.now) rows.now }
-    requires walking { IsWalking (map plain_model models.now) walk.now }
-    requires text { IsPathText walk.now.path.items }
-    ensures element { IfOk result (λ found. plain_element found ∷ [] ≡ map named (placed_element (levels_of (map plain_model models.now) walk.now) (Table pins.now out.now cover.now))) }
-    ensures named { OnOk result (AreNamed (get bytes_eq texts.old) (get bytes_eq texts.new) (flat_map nets_of (placed_element (levels_of (map plain_model models.now) walk.now) (Table pins.now out.now cover.now)))) }
-    ensures fault { IfErr result (λ fault. IsNamingFault (get bytes_eq texts.old) (flat_map nets_of (placed_element (levels_of (map plain_model models.now) walk.now) (Table pins.now out.now cover.now))) fault) }
+    requires { IsPlace place.now }
+    ensures element { IfOk result (λ found. plain_element found ∷ [] ≡ map named (placed_element (levels_at place.now) (Table pins.now out.now cover.now))) }
+    ensures named { OnOk result (AreNamed (get bytes_eq texts.old) (get bytes_eq texts.new) (flat_map nets_of (placed_element (levels_at place.now) (Table pins.now out.now cover.now)))) }
+    ensures fault { IfErr result (λ fault. IsNamingFault (get bytes_eq texts.old) (flat_map nets_of (placed_element (levels_at place.now) (Table pins.now out.now cover.now))) fault) }
 {
-    let pins = name_nets(alloc, texts, models, rows, walk, pins)?;
-    let out = name_net(alloc, texts, models, rows, walk, out)?;
+    let pins = name_nets(alloc, texts, place, pins)?;
+    let out = name_net(alloc, texts, place, out)?;
     let cover = cover.copy(alloc)?;
     Ok(Element::Table { pins, out, cover })
 }
@@ -50,24 +46,20 @@ fn name_table(
 fn name_latch(
     alloc: Global,
     texts: &mut IndexMap<Name, usize>,
-    models: &[BlifModel],
-    rows: &[Row],
-    walk: &Walk,
+    place: &Place<'_>,
     pin: &Name,
     out: &Name,
     control: &Option<(Edge, Name)>,
     init: Init,
 ) -> Result<Element, NamingFault>
-    requires ready { IsReady (map plain_model models.now) rows.now }
-    requires walking { IsWalking (map plain_model models.now) walk.now }
-    requires text { IsPathText walk.now.path.items }
-    ensures element { IfOk result (λ found. plain_element found ∷ [] ≡ map named (placed_element (levels_of (map plain_model models.now) walk.now) (Register pin.now out.now control.now init))) }
-    ensures named { OnOk result (AreNamed (get bytes_eq texts.old) (get bytes_eq texts.new) (flat_map nets_of (placed_element (levels_of (map plain_model models.now) walk.now) (Register pin.now out.now control.now init)))) }
-    ensures fault { IfErr result (λ fault. IsNamingFault (get bytes_eq texts.old) (flat_map nets_of (placed_element (levels_of (map plain_model models.now) walk.now) (Register pin.now out.now control.now init))) fault) }
+    requires { IsPlace place.now }
+    ensures element { IfOk result (λ found. plain_element found ∷ [] ≡ map named (placed_element (levels_at place.now) (Register pin.now out.now control.now init))) }
+    ensures named { OnOk result (AreNamed (get bytes_eq texts.old) (get bytes_eq texts.new) (flat_map nets_of (placed_element (levels_at place.now) (Register pin.now out.now control.now init)))) }
+    ensures fault { IfErr result (λ fault. IsNamingFault (get bytes_eq texts.old) (flat_map nets_of (placed_element (levels_at place.now) (Register pin.now out.now control.now init))) fault) }
 {
-    let pin = name_net(alloc, texts, models, rows, walk, pin)?;
-    let out = name_net(alloc, texts, models, rows, walk, out)?;
-    let control = name_control(alloc, texts, models, rows, walk, control)?;
+    let pin = name_net(alloc, texts, place, pin)?;
+    let out = name_net(alloc, texts, place, out)?;
+    let control = name_control(alloc, texts, place, control)?;
     Ok(Element::Latch {
         pin,
         out,
@@ -80,29 +72,23 @@ fn name_latch(
 fn name_element(
     alloc: Global,
     texts: &mut IndexMap<Name, usize>,
-    models: &[BlifModel],
-    rows: &[Row],
-    walk: &Walk,
+    place: &Place<'_>,
     element: &Element,
 ) -> Result<Element, NamingFault>
-    requires ready { IsReady (map plain_model models.now) rows.now }
-    requires walking { IsWalking (map plain_model models.now) walk.now }
-    requires text { IsPathText walk.now.path.items }
+    requires place { IsPlace place.now }
     requires plain { ¬ IsInstance (plain_element element.now) }
-    ensures element { IfOk result (λ found. plain_element found ∷ [] ≡ map named (placed_element (levels_of (map plain_model models.now) walk.now) (plain_element element.now))) }
-    ensures named { OnOk result (AreNamed (get bytes_eq texts.old) (get bytes_eq texts.new) (flat_map nets_of (placed_element (levels_of (map plain_model models.now) walk.now) (plain_element element.now)))) }
-    ensures fault { IfErr result (λ fault. IsNamingFault (get bytes_eq texts.old) (flat_map nets_of (placed_element (levels_of (map plain_model models.now) walk.now) (plain_element element.now))) fault) }
+    ensures element { IfOk result (λ found. plain_element found ∷ [] ≡ map named (placed_element (levels_at place.now) (plain_element element.now))) }
+    ensures named { OnOk result (AreNamed (get bytes_eq texts.old) (get bytes_eq texts.new) (flat_map nets_of (placed_element (levels_at place.now) (plain_element element.now)))) }
+    ensures fault { IfErr result (λ fault. IsNamingFault (get bytes_eq texts.old) (flat_map nets_of (placed_element (levels_at place.now) (plain_element element.now))) fault) }
 {
     match element {
-        Element::Table { pins, out, cover } => {
-            name_table(alloc, texts, models, rows, walk, pins, out, cover)
-        }
+        Element::Table { pins, out, cover } => { name_table(alloc, texts, place, pins, out, cover) }
         Element::Latch {
             pin,
             out,
             control,
             init,
-        } => name_latch(alloc, texts, models, rows, walk, pin, out, control, *init),
+        } => name_latch(alloc, texts, place, pin, out, control, *init),
         Element::Instance { .. } => unreachable!(),
     }
 }
@@ -111,23 +97,25 @@ fn name_element(
 pub(crate) fn name_elements(
     alloc: Global,
     texts: &mut IndexMap<Name, usize>,
-    models: &[BlifModel],
-    rows: &[Row],
+    ready: &Ready<'_>,
     walk: &mut Walk,
 ) -> Result<Vec<Element>, NamingFault>
-    requires ready { IsReady (map plain_model models.now) rows.now }
-    requires walking { IsWalking (map plain_model models.now) walk.old }
-    requires text { IsPathText walk.old.path.items }
-    ensures elements { IfOk result (λ found. map plain_element found.items ≡ map named (coming (map plain_model models.now) walk.old)) }
-    ensures named { OnOk result (AreNamed (get bytes_eq texts.old) (get bytes_eq texts.new) (flat_map nets_of (coming (map plain_model models.now) walk.old))) }
-    ensures fault { IfErr result (λ fault. IsNamingFault (get bytes_eq texts.old) (flat_map nets_of (coming (map plain_model models.now) walk.old)) fault) }
+    requires ready { IsReady ready.now }
+    requires walking { IsWalking (library_of ready.now) walk.old }
+    ensures elements { IfOk result (λ found. map plain_element found.items ≡ map named (coming (library_of ready.now) walk.old)) }
+    ensures named { OnOk result (AreNamed (get bytes_eq texts.old) (get bytes_eq texts.new) (flat_map nets_of (coming (library_of ready.now) walk.old))) }
+    ensures fault { IfErr result (λ fault. IsNamingFault (get bytes_eq texts.old) (flat_map nets_of (coming (library_of ready.now) walk.old)) fault) }
 {
     let mut elements = Vec::new(alloc);
     'elements: loop {
-        let Some((x, i)) = next_element(alloc, walk, models, rows)? else {
+        let Some((x, i)) = next_element(alloc, walk, ready)? else {
             return Ok(elements);
         };
-        let element = name_element(alloc, texts, models, rows, walk, &models[x].elements[i])?;
+        let place = Place {
+            ready: *ready,
+            walk: &*walk,
+        };
+        let element = name_element(alloc, texts, &place, &ready.models[x].elements[i])?;
         elements.push(element)?;
     }
 }

@@ -2,19 +2,16 @@
 ghost use Rattle.std.specs.Prelude.{◌≡◌, ◌≤◌, ◌++◌, ◌∷◌, [], List, false, length, map, take, IfOk, OnOk, IfErr};
 ghost use Rattle.std.specs.Str.{bytes_eq};
 ghost use Rattle.indexmap.specs.IndexMap.{get};
-ghost use Rattle.library_faults.specs.Flat.{PlacedNet, resolved_control, resolve as resolve_name};
+ghost use Rattle.library_faults.specs.Flat.{PlacedNet, resolved_control};
 ghost use Rattle.hierarchy.specs.Private.Texts.{net_text, named_control};
 ghost use Rattle.hierarchy.specs.Clash.{control_nets};
 ghost use Rattle.hierarchy.specs.Private.Texts.{is_taken};
 ghost use Rattle.hierarchy.specs.Private.Naming.{IsNamed, AreNamed, IsNamingFault};
-ghost use Rattle.hierarchy.specs.Private.Walk.{IsPathText, IsReady, IsWalking, levels_of};
-ghost use Rattle.blif_text.specs.Views.{plain_model};
+ghost use Rattle.hierarchy.specs.Private.Walk.{IsPathText, IsPlace, levels_at, net_at};
 ghost use Rattle.hierarchy.specs.declared.walking.naming.NamingFault.TheVariants.{Memory};
 
-use crate::walking::bindings::Row;
 use crate::walking::resolve::resolve;
-use crate::walking::walk::Walk;
-use blif_text::BlifModel;
+use crate::walking::walk::Place;
 use indexmap::IndexMap;
 use std::alloc::{AllocError, AllocFailed, Global};
 use tmr_base::{Edge, Name, NameFault, OutOfMemory};
@@ -99,20 +96,16 @@ fn add_net(
 pub(crate) fn name_net(
     alloc: Global,
     texts: &mut IndexMap<Name, usize>,
-    models: &[BlifModel],
-    rows: &[Row],
-    walk: &Walk,
+    place: &Place<'_>,
     name: &Name,
 ) -> Result<Name, NamingFault>
-    requires ready { IsReady (map plain_model models.now) rows.now }
-    requires walking { IsWalking (map plain_model models.now) walk.now }
-    requires text { IsPathText walk.now.path.items }
-    ensures text { IfOk result (λ text. text ≡ net_text (resolve_name (levels_of (map plain_model models.now) walk.now) name.now)) }
-    ensures named { OnOk result (AreNamed (get bytes_eq texts.old) (get bytes_eq texts.new) (resolve_name (levels_of (map plain_model models.now) walk.now) name.now ∷ [])) }
-    ensures fault { IfErr result (λ fault. IsNamingFault (get bytes_eq texts.old) (resolve_name (levels_of (map plain_model models.now) walk.now) name.now ∷ []) fault) }
+    requires { IsPlace place.now }
+    ensures text { IfOk result (λ text. text ≡ net_text (net_at place.now name.now)) }
+    ensures named { OnOk result (AreNamed (get bytes_eq texts.old) (get bytes_eq texts.new) (net_at place.now name.now ∷ [])) }
+    ensures fault { IfErr result (λ fault. IsNamingFault (get bytes_eq texts.old) (net_at place.now name.now ∷ []) fault) }
 {
-    let (end, found) = resolve(models, rows, walk, name);
-    let (text, taken) = add_net(alloc, texts, &walk.path, end, found)?;
+    let (end, found) = resolve(place, name);
+    let (text, taken) = add_net(alloc, texts, &place.walk.path, end, found)?;
     if taken {
         return Err(NamingFault::Clash(text));
     }
@@ -123,21 +116,17 @@ pub(crate) fn name_net(
 pub(crate) fn name_nets(
     alloc: Global,
     texts: &mut IndexMap<Name, usize>,
-    models: &[BlifModel],
-    rows: &[Row],
-    walk: &Walk,
+    place: &Place<'_>,
     names: &[Name],
 ) -> Result<Vec<Name>, NamingFault>
-    requires ready { IsReady (map plain_model models.now) rows.now }
-    requires walking { IsWalking (map plain_model models.now) walk.now }
-    requires text { IsPathText walk.now.path.items }
-    ensures text { IfOk result (λ found. found.items ≡ map net_text (map (resolve_name (levels_of (map plain_model models.now) walk.now)) names.now)) }
-    ensures named { OnOk result (AreNamed (get bytes_eq texts.old) (get bytes_eq texts.new) (map (resolve_name (levels_of (map plain_model models.now) walk.now)) names.now)) }
-    ensures fault { IfErr result (λ fault. IsNamingFault (get bytes_eq texts.old) (map (resolve_name (levels_of (map plain_model models.now) walk.now)) names.now) fault) }
+    requires { IsPlace place.now }
+    ensures text { IfOk result (λ found. found.items ≡ map net_text (map (net_at place.now) names.now)) }
+    ensures named { OnOk result (AreNamed (get bytes_eq texts.old) (get bytes_eq texts.new) (map (net_at place.now) names.now)) }
+    ensures fault { IfErr result (λ fault. IsNamingFault (get bytes_eq texts.old) (map (net_at place.now) names.now) fault) }
 {
     let mut found = Vec::with_capacity(alloc, names.len())?;
     for name in names {
-        let text = name_net(alloc, texts, models, rows, walk, name)?;
+        let text = name_net(alloc, texts, place, name)?;
         found.push(text)?;
     }
     Ok(found)
@@ -148,21 +137,17 @@ pub(crate) fn name_nets(
 pub(crate) fn name_control(
     alloc: Global,
     texts: &mut IndexMap<Name, usize>,
-    models: &[BlifModel],
-    rows: &[Row],
-    walk: &Walk,
+    place: &Place<'_>,
     control: &Option<(Edge, Name)>,
 ) -> Result<Option<(Edge, Name)>, NamingFault>
-    requires ready { IsReady (map plain_model models.now) rows.now }
-    requires walking { IsWalking (map plain_model models.now) walk.now }
-    requires text { IsPathText walk.now.path.items }
-    ensures text { IfOk result (λ found. found ≡ named_control (resolved_control (levels_of (map plain_model models.now) walk.now) control.now)) }
-    ensures named { OnOk result (AreNamed (get bytes_eq texts.old) (get bytes_eq texts.new) (control_nets (resolved_control (levels_of (map plain_model models.now) walk.now) control.now))) }
-    ensures fault { IfErr result (λ fault. IsNamingFault (get bytes_eq texts.old) (control_nets (resolved_control (levels_of (map plain_model models.now) walk.now) control.now)) fault) }
+    requires { IsPlace place.now }
+    ensures text { IfOk result (λ found. found ≡ named_control (resolved_control (levels_at place.now) control.now)) }
+    ensures named { OnOk result (AreNamed (get bytes_eq texts.old) (get bytes_eq texts.new) (control_nets (resolved_control (levels_at place.now) control.now))) }
+    ensures fault { IfErr result (λ fault. IsNamingFault (get bytes_eq texts.old) (control_nets (resolved_control (levels_at place.now) control.now)) fault) }
 {
     match control {
         Some((edge, clock)) => {
-            let text = name_net(alloc, texts, models, rows, walk, clock)?;
+            let text = name_net(alloc, texts, place, clock)?;
             Ok(Some((*edge, text)))
         }
         None => Ok(None),

@@ -5,11 +5,11 @@ ghost use Rattle.std.specs.Prelude.{ℕ, List, option_and_then, ◌≡◌, ◌<�
 ghost use Rattle.library_faults.specs.Flat.{step};
 ghost use Rattle.hierarchy.specs.Private.Alone.{is_placing};
 ghost use Rattle.hierarchy.specs.declared.walking.bindings.Row.{Row};
-ghost use Rattle.hierarchy.specs.Private.Walk.{innermost_first, known_net, AreFrames, AreKnown, IsReady, IsMoved, IsNext, IsWalking};
+ghost use Rattle.hierarchy.specs.Private.Walk.{library_of, innermost_first, known_net, AreWalked, IsReady, IsMoved, IsNext, IsWalking};
 ghost use Rattle.library_faults.specs.Private.Models.{IsInstance, element_at, model_at};
 ghost use Rattle.blif_text.specs.Views.{plain_model, plain_element};
 
-use crate::walking::bindings::{Link, Row};
+use crate::walking::bindings::{Link, Ready, Row};
 use crate::walking::resolve::nets_within;
 use blif_text::{BlifModel, Element};
 use indexmap::IndexMap;
@@ -37,6 +37,13 @@ pub struct Walk {
     pub(crate) frames: Vec<Frame>,
     pub(crate) path: Vec<u8>,
     pub(crate) known: Vec<IndexMap<Name, (usize, Name)>>,
+}
+
+/// The innermost placed model of a walk over a library.
+#[derive(Clone, Copy, Drop)]
+pub struct Place<'a> {
+    pub(crate) ready: Ready<'a>,
+    pub(crate) walk: &'a Walk,
 }
 
 /// Takes the innermost placed model off.
@@ -130,22 +137,20 @@ pub(crate) fn element_in(models: &[BlifModel], x: usize, i: usize) -> &Element
 }
 
 /// Passes a `.subckt` statement, and goes into the model that it places where an element stands there.
-fn place(
+fn pass_statement(
     alloc: Global,
     walk: &mut Walk,
-    models: &[BlifModel],
-    rows: &[Row],
+    ready: &Ready<'_>,
     top: Frame,
     element: &Element,
 ) -> Result<(), OutOfMemory>
-    requires ready { IsReady (map plain_model models.now) rows.now }
-    requires here { plain_element element.now ≡ element_at (map plain_model models.now) top.model top.next }
-    requires walking { AreFrames (map plain_model models.now) (length walk.old.path.items) (top ∷ innermost_first walk.old) }
-    requires known { AreKnown (map plain_model models.now) walk.old.path.items (known_net walk.old) (top ∷ innermost_first walk.old) }
-    requires next { top.next < length (model_at (map plain_model models.now) top.model).elements }
+    requires ready { IsReady ready.now }
+    requires here { plain_element element.now ≡ element_at (library_of ready.now) top.model top.next }
+    requires walking { AreWalked (library_of ready.now) walk.old.path.items (known_net walk.old) (top ∷ innermost_first walk.old) }
+    requires next { top.next < length (model_at (library_of ready.now) top.model).elements }
     requires room { top.next < 18446744073709551615 }
-    requires instance { IsInstance (element_at (map plain_model models.now) top.model top.next) }
-    ensures { OnOk result (IsMoved (map plain_model models.now) walk.old.path.items (top ∷ innermost_first walk.old) walk.new) }
+    requires instance { IsInstance (element_at (library_of ready.now) top.model top.next) }
+    ensures { OnOk result (IsMoved (library_of ready.now) walk.old.path.items (top ∷ innermost_first walk.old) walk.new) }
 {
     let passed = Frame {
         model: top.model,
@@ -155,10 +160,14 @@ fn place(
         path_end: top.path_end,
     };
     push_frame(walk, passed)?;
-    let link = link_at(rows, top.model, top.next);
+    let link = link_at(ready.rows, top.model, top.next);
     if let Some(target) = link.target {
-        if walk.frames.len() <= models.len() {
-            let known = nets_within(alloc, models, rows, walk, link, element)?;
+        if walk.frames.len() <= ready.models.len() {
+            let place = Place {
+                ready: *ready,
+                walk: &*walk,
+            };
+            let known = nets_within(alloc, &place, link, element)?;
             enter(alloc, walk, top, target, known)?;
         }
     }
@@ -204,23 +213,22 @@ pub(crate) fn begin_walk(alloc: Global) -> Result<Walk, OutOfMemory>
 pub(crate) fn next_element(
     alloc: Global,
     walk: &mut Walk,
-    models: &[BlifModel],
-    rows: &[Row],
+    ready: &Ready<'_>,
 ) -> Result<Option<(usize, usize)>, OutOfMemory>
-    requires ready { IsReady (map plain_model models.now) rows.now }
-    requires walking { IsWalking (map plain_model models.now) walk.old }
-    ensures { IfOk result (λ found. IsNext (map plain_model models.now) walk.old found walk.new) }
+    requires ready { IsReady ready.now }
+    requires walking { IsWalking (library_of ready.now) walk.old }
+    ensures { IfOk result (λ found. IsNext (library_of ready.now) walk.old found walk.new) }
 {
     'moves: loop {
         let Some(top) = pop_frame(walk) else {
             return Ok(None);
         };
-        let elements = &models[top.model].elements;
+        let elements = &ready.models[top.model].elements;
         if top.next >= elements.len() {
             continue;
         }
         if is_placing(&elements[top.next]) {
-            place(alloc, walk, models, rows, top, &elements[top.next])?;
+            pass_statement(alloc, walk, ready, top, &elements[top.next])?;
             continue;
         }
         let passed = Frame {

@@ -10,14 +10,14 @@ use Rattle.schedules.proofs.reading.read_top.Goals as goal
 
 pub returns-in-Some-Some-clause-ok : goal.returns-in-Some-Some-clause-ok
 returns-in-Some-Some-clause-ok c =
-    let keys : only_keys (is_file_key c.args.version) (table_view c.args.top.now) ≡ true = sym c.has_file_keys.ensures ∙ c.if-not-has_file_keys.false in
+    let keys : only_keys (is_file_key c.args.designs.now.version) (table_view c.args.top.now) ≡ true = sym c.has_file_keys.ensures ∙ c.if-not-has_file_keys.false in
     let rows : inputs_of (table_view c.args.top.now) ≡ Some (items_view c.deref.result.now) = rw c.deref.ensures.value (sym c.in-Some-Some.ensures) in
-    let same = top_listed c.args.version c.args.count c.args.n.now.net c.args.h.now.net (table_view c.args.top.now) c.deref.result.now c.in-Some-Some.entries.now keys rows (sym c.in-Some-Some.ensures') in
-    subst (λ (r : Result Listed ScheduleFault). IfOk c.read_arrays.result (λ s. IsReadAs (length c.args.n.now.net.inputs) r s)) (sym same) c.read_arrays.ensures.ok
+    let same = top_listed c.args.designs.now.version c.args.designs.now.starts c.args.designs.now.original.now.net c.args.designs.now.hardened.now.net (table_view c.args.top.now) c.deref.result.now c.in-Some-Some.entries.now keys rows (sym c.in-Some-Some.ensures') in
+    subst (λ (r : Result Listed ScheduleFault). IfOk c.read_arrays.result (λ s. IsReadAs (length c.args.designs.now.original.now.net.inputs) r s)) (sym same) c.read_arrays.ensures.ok
 
 pub returns-in-Some-Some-clause-err : goal.returns-in-Some-Some-clause-err
 returns-in-Some-Some-clause-err c =
-    let keys : only_keys (is_file_key c.args.version) (table_view c.args.top.now) ≡ true = sym c.has_file_keys.ensures ∙ c.if-not-has_file_keys.false in
+    let keys : only_keys (is_file_key c.args.designs.now.version) (table_view c.args.top.now) ≡ true = sym c.has_file_keys.ensures ∙ c.if-not-has_file_keys.false in
     let rows : inputs_of (table_view c.args.top.now) ≡ Some (items_view c.deref.result.now) = rw c.deref.ensures.value (sym c.in-Some-Some.ensures) in
-    let same = top_listed c.args.version c.args.count c.args.n.now.net c.args.h.now.net (table_view c.args.top.now) c.deref.result.now c.in-Some-Some.entries.now keys rows (sym c.in-Some-Some.ensures') in
+    let same = top_listed c.args.designs.now.version c.args.designs.now.starts c.args.designs.now.original.now.net c.args.designs.now.hardened.now.net (table_view c.args.top.now) c.deref.result.now c.in-Some-Some.entries.now keys rows (sym c.in-Some-Some.ensures') in
     subst (λ (r : Result Listed ScheduleFault). IfErr c.read_arrays.result (λ f. Fails f r)) (sym same) c.read_arrays.ensures.err

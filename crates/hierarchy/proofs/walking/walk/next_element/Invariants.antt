@@ -1,14 +1,12 @@
-use Rattle.std.proofs.Common.{◌≡◌, map}
-use Rattle.blif_text.specs.Views.{plain_model}
-use Rattle.hierarchy.specs.Private.Walk.{coming, moves, IsWalking, IsPathText}
+use Rattle.std.proofs.Common.{◌≡◌}
+use Rattle.hierarchy.specs.Private.Walk.{coming, moves, IsWalking, library_of}
 use Rattle.hierarchy.proofs.walking.walk.next_element.Given as goal
 
 abbrev pub invariant-moves : goal.invariant-moves
 invariant-moves l = record {
-  same : coming (map plain_model l.models) l.walk ≡ coming (map plain_model l.models) l.fn.walk;
-  walking : IsWalking (map plain_model l.models) l.walk;
-  text : IsPathText l.fn.walk.path.items → IsPathText l.walk.path.items;
+  same : coming (library_of l.ready) l.walk ≡ coming (library_of l.ready) l.fn.walk;
+  walking : IsWalking (library_of l.ready) l.walk;
 }
 
 abbrev pub decreases-moves : goal.decreases-moves
-decreases-moves l = moves (map plain_model l.models) l.walk
+decreases-moves l = moves (library_of l.ready) l.walk
