@@ -19,8 +19,8 @@ use Rattle.dwc.proofs.Texts.{twin_tailed, comparator_tailed, alarm_tailed}
 use Rattle.dwc.proofs.Nodes.{twin_name, comparator_name, alarm_name}
 use Rattle.dwc.proofs.Making.{node_at}
 use Rattle.dwc.proofs.Valid.{model_same, clock_same, output_below, is_valid}
-use Rattle.guarded_text.specs.Private.Spelled.{two_spelled, comparator_text, any_rows, alarm_text}
-use Rattle.guarded_text.specs.Private.Lines.{guarded_clock, ended, copy_lines, twins_text}
+use Rattle.guarded_text.specs.Private.Spelled.{tailed, two_spelled, comparator_text, any_rows, alarm_text}
+use Rattle.guarded_text.specs.Private.Lines.{guarded_clock, all_tailed, copy_lines, twins_text}
 use Rattle.guarded_text.proofs.Rows.{twos_same, ones_same, numbers_same}
 
 -- ---- the parts of a guarded design
@@ -72,13 +72,8 @@ any_rows_same (suc count) = regroup (replicate (suc count) 48)
 
 -- ---- lines
 
-comparator_regroup : (first name a b tail rows : List ℕ) →
-    ((first ++ spaced (a ∷ b ∷ (name ++ tail) ∷ [])) ++ 10 ∷ []) ++ rows ≡ first ++ ((32 ∷ (a ++ 32 ∷ b)) ++ 32 ∷ (name ++ (tail ++ 10 ∷ rows)))
-comparator_regroup first name a b tail rows =
-    pieces first (32 ∷ a) (32 ∷ b) (32 ∷ (name ++ tail)) (10 ∷ []) rows ∙ ap (λ (t : List ℕ). first ++ ((32 ∷ (a ++ 32 ∷ b)) ++ 32 ∷ t)) (append_assoc name tail (10 ∷ rows))
-  where
-    pieces : (o p q r s t : List ℕ) → ((o ++ (p ++ (q ++ (r ++ [])))) ++ s) ++ t ≡ o ++ ((p ++ q) ++ (r ++ (s ++ t)))
-    pieces o p q r s t = simp (append_assoc, append-nil)
+comparator_regroup : (o p q r s t : List ℕ) → ((o ++ (p ++ (q ++ (r ++ [])))) ++ s) ++ t ≡ o ++ ((p ++ q) ++ (r ++ (s ++ t)))
+comparator_regroup o p q r s t = simp (append_assoc, append-nil)
 
 alarm_regroup : (first names last rows : List ℕ) → ((first ++ (names ++ (32 ∷ (last ++ [])))) ++ 10 ∷ []) ++ rows ≡ first ++ (names ++ (32 ∷ (last ++ 10 ∷ rows)))
 alarm_regroup first names last rows = simp (append_assoc, append-nil)
@@ -93,14 +88,14 @@ module _ (n : Net) (valid : IsValid n) where
   twin_named : (x c : ℕ) → x < net_count n → c < 2 → name_of (guard_net n) (twin c x) ≡ twin_text (name_of n x) c
   twin_named x c high l = twin_name n x c high l ∙ sym (twin_tailed (name_of n x) c)
 
-  comparator_named : (k y : ℕ) → slice_get n.outputs k ≡ Some y → name_of (guard_net n) (2 * net_count n + k) ≡ name_of n y ++ codes "~e"
+  comparator_named : (k y : ℕ) → slice_get n.outputs k ≡ Some y → name_of (guard_net n) (2 * net_count n + k) ≡ tailed (name_of n y) 101
   comparator_named k y at = comparator_name n k y at ∙ sym (comparator_tailed (name_of n y))
 
   alarm_named : name_of (guard_net n) (alarm_net n) ≡ codes "alarm~z"
   alarm_named = alarm_name n ∙ sym alarm_tailed
 
   -- what a copy reads
-  pins_named : (c : ℕ) (pins : List ℕ) → c < 2 → All (λ x. x < net_count n) pins → net_words (guard_net n) (map (twin c) pins) ≡ ended n (126 ∷ (48 + c) ∷ []) pins
+  pins_named : (c : ℕ) (pins : List ℕ) → c < 2 → All (λ x. x < net_count n) pins → net_words (guard_net n) (map (twin c) pins) ≡ all_tailed n (48 + c) pins
   pins_named c [] l all = refl
   pins_named c (x ∷ pins) l all = cons (twin_named x c (all 0 0 (omega arith)) l) (pins_named c pins l (λ i d h. all (suc i) d (omega (arith, h))))
     where
@@ -109,7 +104,7 @@ module _ (n : Net) (valid : IsValid n) where
 
   -- ---- the copies of a node
 
-  copy_same : (c : ℕ) (node : Node) → c < 2 → IsWired (net_count n) node → node_lines (guard_net n) (node_twin node c, false) ≡ copy_lines n (126 ∷ (48 + c) ∷ []) (Some node)
+  copy_same : (c : ℕ) (node : Node) → c < 2 → IsWired (net_count n) node → node_lines (guard_net n) (node_twin node c, false) ≡ copy_lines n (48 + c) (Some node)
   copy_same c (Table name cover pins) l wired = ap (λ (ws : List (List ℕ)). (codes ".names" ∷ (ws ++ twin_text name c ∷ [])) ∷ row_lines cover) (pins_named c pins l wired.0)
   copy_same c (Register name init pin) l wired =
       ap (λ (w : List ℕ). (codes ".latch" ∷ w ∷ twin_text name c ∷ (control_words (guard_net n).clock ++ init_word (start_of false init) ∷ [])) ∷ []) (twin_named pin c wired l)
@@ -129,15 +124,15 @@ module _ (n : Net) (valid : IsValid n) where
 
   comparator_same : (y : ℕ) → y < net_count n → node_text (guard_net n) (comparator n y) ≡ comparator_text (name_of n y)
   comparator_same y high =
-      let own : List ℕ = name_of n y ++ codes "~e" in
+      let own : List ℕ = tailed (name_of n y) 101 in
       let g : Net = guard_net n in
       ap (λ (t : List ℕ). (t ++ 10 ∷ []) ++ lines_text (row_lines differ_cover)) (joined (codes ".names") (name_of g (twin 0 y) ∷ name_of g (twin 1 y) ∷ own ∷ []))
       ∙ (two _ _ _ _ (twin_named y 0 high (omega arith)) (twin_named y 1 high (omega arith))
-      ∙ comparator_regroup (codes ".names") (name_of n y) (twin_text (name_of n y) 0) (twin_text (name_of n y) 1) (codes "~e") (lines_text (row_lines differ_cover)))
+      ∙ comparator_regroup (codes ".names") (32 ∷ twin_text (name_of n y) 0) (32 ∷ twin_text (name_of n y) 1) (32 ∷ tailed (name_of n y) 101) (10 ∷ []) (lines_text (row_lines differ_cover)))
     where
       two : (a b u v : List ℕ) → a ≡ u → b ≡ v →
-          ((codes ".names" ++ spaced (a ∷ b ∷ (name_of n y ++ codes "~e") ∷ [])) ++ 10 ∷ []) ++ lines_text (row_lines differ_cover)
-          ≡ ((codes ".names" ++ spaced (u ∷ v ∷ (name_of n y ++ codes "~e") ∷ [])) ++ 10 ∷ []) ++ lines_text (row_lines differ_cover)
+          ((codes ".names" ++ spaced (a ∷ b ∷ tailed (name_of n y) 101 ∷ [])) ++ 10 ∷ []) ++ lines_text (row_lines differ_cover)
+          ≡ ((codes ".names" ++ spaced (u ∷ v ∷ tailed (name_of n y) 101 ∷ [])) ++ 10 ∷ []) ++ lines_text (row_lines differ_cover)
       two a b u v e f = cc
 
   comparators_same : flat_map (node_text (guard_net n)) (map (comparator n) n.outputs) ≡ flat_map (λ y. comparator_text (name_of n y)) n.outputs
@@ -146,10 +141,10 @@ module _ (n : Net) (valid : IsValid n) where
       ∙ ones_same (λ y. node_text (guard_net n) (comparator n y)) (λ y. comparator_text (name_of n y)) n.outputs (λ k y at. comparator_same y (output_below n valid k y at))
 
   -- the names of all comparators
-  read_by_alarm : spaced (net_words (guard_net n) (range_with_len (2 * net_count n) (length n.outputs))) ≡ flat_map (λ y. 32 ∷ (name_of n y ++ codes "~e")) n.outputs
+  read_by_alarm : spaced (net_words (guard_net n) (range_with_len (2 * net_count n) (length n.outputs))) ≡ flat_map (λ y. 32 ∷ tailed (name_of n y) 101) n.outputs
   read_by_alarm =
-      ap spaced (numbers_same (name_of (guard_net n)) (λ y. name_of n y ++ codes "~e") (2 * net_count n) n.outputs comparator_named)
-      ∙ flat_map-map (λ (w : List ℕ). 32 ∷ w) (λ y. name_of n y ++ codes "~e") n.outputs
+      ap spaced (numbers_same (name_of (guard_net n)) (λ y. tailed (name_of n y) 101) (2 * net_count n) n.outputs comparator_named)
+      ∙ flat_map-map (λ (w : List ℕ). 32 ∷ w) (λ y. tailed (name_of n y) 101) n.outputs
 
   alarm_same : node_text (guard_net n) (alarm n) ≡ alarm_text n
   alarm_same =
@@ -157,8 +152,8 @@ module _ (n : Net) (valid : IsValid n) where
       let rows : List ℕ = lines_text (row_lines (any_cover (length n.outputs))) in
       ap (λ (t : List ℕ). (t ++ 10 ∷ []) ++ rows) (joined (codes ".names") (names ++ codes "alarm~z" ∷ []) ∙ ap (λ (t : List ℕ). codes ".names" ++ t) (spaced_append names (codes "alarm~z" ∷ [])))
       ∙ (ap (λ (t : List ℕ). ((codes ".names" ++ (t ++ spaced (codes "alarm~z" ∷ []))) ++ 10 ∷ []) ++ rows) read_by_alarm
-      ∙ (alarm_regroup (codes ".names") (flat_map (λ y. 32 ∷ (name_of n y ++ codes "~e")) n.outputs) (codes "alarm~z") rows
-      ∙ ap (λ (t : List ℕ). codes ".names" ++ (flat_map (λ y. 32 ∷ (name_of n y ++ codes "~e")) n.outputs ++ (codes " alarm~z\n" ++ t))) (any_rows_same (length n.outputs))))
+      ∙ (alarm_regroup (codes ".names") (flat_map (λ y. 32 ∷ tailed (name_of n y) 101) n.outputs) (codes "alarm~z") rows
+      ∙ ap (λ (t : List ℕ). codes ".names" ++ (flat_map (λ y. 32 ∷ tailed (name_of n y) 101) n.outputs ++ (codes " alarm~z\n" ++ t))) (any_rows_same (length n.outputs))))
 
   -- the lines of all nodes
   nodes_same : nodes_left (guard_net n) [] 0 ≡ flat_map (twins_text n) n.nodes ++ (flat_map (λ y. comparator_text (name_of n y)) n.outputs ++ alarm_text n)

@@ -1,10 +1,10 @@
 //! The lines of the comparators and of the alarm.
-ghost use Rattle.std.specs.Prelude.{◌≡◌, ◌++◌, ◌∷◌, codes, length, OnOk};
+ghost use Rattle.std.specs.Prelude.{◌≡◌, ◌++◌, ◌∷◌, length, OnOk};
 ghost use Rattle.std.specs.List.{flat_map};
 ghost use Rattle.flat_net.specs.Net.{name_of};
-ghost use Rattle.guarded_text.specs.Private.Spelled.{comparator_text, any_rows, alarm_text};
+ghost use Rattle.guarded_text.specs.Private.Spelled.{tailed, comparator_text, any_rows, alarm_text};
 
-use crate::names::{put_ended, put_two_names};
+use crate::names::{put_tailed, put_two_names};
 use flat_net::FlatNet;
 use std::alloc::{AllocError, Global};
 
@@ -14,7 +14,8 @@ fn put_comparator(out: &mut Vec<u8>, name: &[u8]) -> Result<(), AllocError>
 {
     out.extend_from_slice(b".names")?;
     put_two_names(out, name)?;
-    put_ended(out, name, b"~e\n10 1\n01 1\n")?;
+    put_tailed(out, name, b'e')?;
+    out.extend_from_slice(b"\n10 1\n01 1\n")?;
     Ok(())
 }
 
@@ -30,10 +31,10 @@ pub fn put_comparators(out: &mut Vec<u8>, n: &FlatNet) -> Result<(), AllocError>
 
 /// Puts the names of all comparators.
 fn put_comparator_names(out: &mut Vec<u8>, n: &FlatNet) -> Result<(), AllocError>
-    ensures { OnOk result (out.new.items ≡ out.old.items ++ flat_map (λ y. 32 ∷ (name_of n.now.net y ++ codes "~e")) n.now.net.outputs) }
+    ensures { OnOk result (out.new.items ≡ out.old.items ++ flat_map (λ y. 32 ∷ tailed (name_of n.now.net y) 101) n.now.net.outputs) }
 {
     for k in 0..n.output_count() {
-        put_ended(out, n.name(n.output(k)).bytes(), b"~e")?;
+        put_tailed(out, n.name(n.output(k)).bytes(), b'e')?;
     }
     Ok(())
 }

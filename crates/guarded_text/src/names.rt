@@ -1,16 +1,17 @@
 //! The names of copies, put into a text.
 ghost use Rattle.std.specs.Prelude.{◌≡◌, ◌++◌, ◌∷◌, OnOk};
-ghost use Rattle.guarded_text.specs.Private.Spelled.{two_spelled};
+ghost use Rattle.guarded_text.specs.Private.Spelled.{tailed, two_spelled};
 
 use std::alloc::AllocError;
 
-/// Puts a blank, the name, and what stands behind it.
-pub fn put_ended(out: &mut Vec<u8>, name: &[u8], ending: &[u8]) -> Result<(), AllocError>
-    ensures { OnOk result (out.new.items ≡ out.old.items ++ 32 ∷ (name.now ++ ending.now)) }
+/// Puts a blank, the name, a tilde and this byte. Two bytes are put faster one by one than as a slice.
+pub fn put_tailed(out: &mut Vec<u8>, name: &[u8], byte: u8) -> Result<(), AllocError>
+    ensures { OnOk result (out.new.items ≡ out.old.items ++ 32 ∷ tailed name.now byte) }
 {
     out.push(b' ')?;
     out.extend_from_slice(name)?;
-    out.extend_from_slice(ending)?;
+    out.push(b'~')?;
+    out.push(byte)?;
     Ok(())
 }
 
@@ -18,7 +19,7 @@ pub fn put_ended(out: &mut Vec<u8>, name: &[u8], ending: &[u8]) -> Result<(), Al
 pub fn put_two_names(out: &mut Vec<u8>, name: &[u8]) -> Result<(), AllocError>
     ensures { OnOk result (out.new.items ≡ out.old.items ++ two_spelled name.now) }
 {
-    put_ended(out, name, b"~0")?;
-    put_ended(out, name, b"~1")?;
+    put_tailed(out, name, b'0')?;
+    put_tailed(out, name, b'1')?;
     Ok(())
 }

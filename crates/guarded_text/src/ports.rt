@@ -7,7 +7,7 @@ ghost use Rattle.blif_writer.specs.Text.{edge_word, clock_words, control_words};
 ghost use Rattle.guarded_text.specs.Private.Spelled.{two_spelled};
 ghost use Rattle.guarded_text.specs.Private.Lines.{guarded_clock};
 
-use crate::names::{put_ended, put_two_names};
+use crate::names::{put_tailed, put_two_names};
 use flat_net::FlatNet;
 use std::alloc::AllocError;
 use tmr_base::{Edge, NetId};
@@ -47,7 +47,7 @@ fn put_clock(out: &mut Vec<u8>, n: &FlatNet) -> Result<(), AllocError>
     ensures { OnOk result (out.new.items ≡ out.old.items ++ spaced (clock_words (guarded_clock n.now.net.clock))) }
 {
     match n.clock() {
-        Some((_, clock)) => put_ended(out, clock.bytes(), b"~k"),
+        Some((_, clock)) => put_tailed(out, clock.bytes(), b'k'),
         None => Ok(()),
     }
 }
@@ -69,7 +69,7 @@ pub fn put_control(out: &mut Vec<u8>, n: &FlatNet) -> Result<(), AllocError>
     match n.clock() {
         Some((edge, clock)) => {
             out.extend_from_slice(edge_text(edge))?;
-            put_ended(out, clock.bytes(), b"~k")
+            put_tailed(out, clock.bytes(), b'k')
         }
         None => Ok(()),
     }
