@@ -4,7 +4,7 @@ ghost use Rattle.std.specs.Fmt.{decimal};
 ghost use Rattle.tmr_words.specs.FileWords.{read_words as read_pieces};
 ghost use Rattle.tmr_texts.specs.Texts.{joined, greatest, open_word, accepted_line, place_text, not_accepted_line, refused_line, load_fault_line, save_fault_line, counted_text, flattened_line, guard_line, aag_line, graph_line, guarded_line, not_guarded_line, line_reason, usage_text, memory_text, certificate_too_long};
 ghost use Rattle.tmr_words.specs.Topics.{call_of};
-ghost use Rattle.flat_net.specs.Net.{net_count};
+ghost use Rattle.flat_net.specs.Net.{Net, net_count};
 ghost use Rattle.validator.specs.Place.{IsPlace};
 
 use aag_design::Counts;
@@ -273,18 +273,18 @@ pub fn at_line(alloc: Global, line: u32, kind: &str) -> Result<Vec<u8>, OutOfMem
     )
 }
 
-/// The line of a design that is guarded.
+/// The line of a design that is guarded, whose guarded design has so many nodes.
 #[tactic(auto, unfolding(crate::specs::Texts::guard_line))]
 pub fn guard_made(
     alloc: Global,
     net: &FlatNet,
-    guarded: &FlatNet,
+    guarded_nodes: u32,
     assumed: u32,
 ) -> Result<Vec<u8>, OutOfMemory>
-    ensures { IfOk result (λ text. text.items ≡ guard_line net.now.net guarded.now.net assumed) }
+    ensures { IfOk result (λ text. (guarded : Net) → length guarded.nodes ≡ guarded_nodes → text.items ≡ guard_line net.now.net guarded assumed) }
 {
     let nodes = counted(alloc, b"guard nodes ", net.node_count() as u64)?;
-    let guarded_nodes = counted(alloc, b" to ", guarded.node_count() as u64)?;
+    let guarded_nodes = counted(alloc, b" to ", guarded_nodes as u64)?;
     let outputs = counted(alloc, b" outputs ", net.output_count() as u64)?;
     let open_values = counted(alloc, b" assumed ", assumed as u64)?;
     join(

@@ -1,5 +1,5 @@
 -- What a guarded design comes to, and its check.
-use Rattle.std.proofs.Common.{◌≡◌, ℕ, ◌≤◌, ◌⊎◌, zero, suc, Bool, List, [], ◌∷◌, length, inl, inr, refl, ap, subst, ◌∙◌, arith}
+use Rattle.std.proofs.Common.{◌≡◌, ℕ, ◌≤◌, ◌⊎◌, zero, suc, Bool, List, [], ◌∷◌, length, inl, inr, refl, ap, subst, arith}
 use Rattle.std.specs.Prelude.{count_by, slice_get}
 use Rattle.flat_net.specs.Net.{Net}
 use Rattle.blif_writer.specs.NetOf.{IsNetOf}
@@ -15,20 +15,18 @@ use Rattle.tmr_top.specs.Loads.{original_file, hardened_file}
 use Rattle.tmr_top.specs.Designs.{HoldsDesign}
 use Rattle.tmr_texts.specs.Texts.{guard_line}
 
-pub guarded_outcome : (held : Contents) (w : Guarding) (n g : Net) (a : List Bool) (bytes text : List ℕ) → HoldsDesign held (original_file w.original) n a → g ≡ guard_net n → Guards n g → bytes ≡ flat_text g → length bytes ≤ 1073741824 → IsNetOf bytes 1073741824 g 0 → text ≡ guard_line n g (count_by (λ bit. bit) a) → IsGuarded w held (bytes ∷ []) text
-guarded_outcome held w n g a bytes text holds is guards bytes_are keeps read says = record {
+pub guarded_outcome : (held : Contents) (w : Guarding) (n : Net) (a : List Bool) (bytes text : List ℕ) → HoldsDesign held (original_file w.original) n a → Guards n (guard_net n) → bytes ≡ flat_text (guard_net n) → length bytes ≤ 1073741824 → IsNetOf bytes 1073741824 (guard_net n) 0
+    → text ≡ guard_line n (guard_net n) (count_by (λ bit. bit) a) → IsGuarded w held (bytes ∷ []) text
+guarded_outcome held w n a bytes text holds guards same keeps read says = record {
   original = n;
   free = a;
   holds = holds;
-  guards = subst (Guards n) is guards;
+  guards = guards;
   saves = ap (λ (t : List ℕ). t ∷ []) same;
   keeps = subst (λ (t : List ℕ). length t ≤ 1073741824) same keeps;
-  read = subst (λ (d : Net). IsNetOf (flat_text (guard_net n)) 1073741824 d 0) is (subst (λ (t : List ℕ). IsNetOf t 1073741824 g 0) same read);
-  says = says ∙ ap (λ (d : Net). guard_line n d (count_by (λ bit. bit) a)) is;
+  read = subst (λ (t : List ℕ). IsNetOf t 1073741824 (guard_net n) 0) same read;
+  says = says;
 }
-  where
-    same : bytes ≡ flat_text (guard_net n)
-    same = bytes_are ∙ ap flat_text is
 
 -- the first of the two files that is no design
 pub none_read : (w : Guarding) (line : List ℕ) (held : Contents) → AreRefused (original_file w.original) (hardened_file w.guarded) line held → IsUnguarded w held line ⊎ IsGuardUnread w held line

@@ -15,9 +15,8 @@ use crate::conclusion::conclude;
 use crate::decision::{Decision, Work, saving};
 use crate::designs::{checked_nodes, open_original};
 use crate::loads::stopped;
-use blif_writer::write_flat;
-use dwc::guard;
 use flat_net::FreeNet;
+use guarded_text::{guard_text, guarded_nodes};
 use std::alloc::Global;
 use tmr_base::OutOfMemory;
 use tmr_outside::Files;
@@ -43,9 +42,9 @@ fn tell<'a>(
         (λ held. HoldsDesign held (original_file words.now.original.now) design.now.design.net design.now.free)) }
 {
     text_keeps_limit(design);
-    let guarded = guard(alloc, design.net())?;
-    let bytes = write_flat(alloc, &guarded)?;
-    let text = guard_made(alloc, design.net(), &guarded, design.free_count())?;
+    let net = design.net();
+    let bytes = guard_text(alloc, net)?;
+    let text = guard_made(alloc, net, guarded_nodes(net), design.free_count())?;
     saving(alloc, words.guarded, bytes, text)
 }
 

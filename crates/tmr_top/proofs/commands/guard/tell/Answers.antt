@@ -1,6 +1,8 @@
 use Rattle.std.proofs.Common.{◌≡◌, ℕ, ◌≤◌, length, refl, sym, ap, subst, ◌∙◌}
 use Rattle.flat_net.specs.Net.{Design}
 use Rattle.blif_writer.specs.Length.{flat_length}
+use Rattle.blif_writer.specs.NetOf.{IsNetOf}
+use Rattle.blif_writer.specs.Text.{flat_text}
 use Rattle.dwc.specs.Guard.{guard_net}
 use Rattle.dwc.specs.Tells.{Guards}
 use Rattle.tmr_words.specs.FileWords.{guarding_in}
@@ -12,11 +14,15 @@ use Rattle.tmr_top.proofs.commands.guard.tell.Goals as goal
 pub returns : goal.returns
 returns c =
     let n = c.args.design.now.design.net in
-    let g = c.in_ok-guarded.guarded.net in
-    let design : g ≡ guard_net n = c.in_ok-guarded.ensures.design ∙ ap (λ (d : Design). guard_net d.net) c.net.ensures.net in
-    let guards = subst (λ (d : Design). Guards d.net g) c.net.ensures.net c.in_ok-guarded.ensures.guards in
-    let says = c.in_ok-text.ensures ∙ (ap (λ (d : Design). guard_line d.net g c.free_count.result) c.net-2.ensures.net ∙ ap (guard_line n g) c.free_count.ensures) in
-    let keeps : length c.in_ok-bytes.bytes.items ≤ 1073741824 = subst (λ (k : ℕ). k ≤ 1073741824) (sym (c.in_ok-bytes.ensures.length ∙ ap flat_length design)) c.text_keeps_limit.ensures in
+    let bytes = c.in_ok-bytes.bytes.items in
+    let same : c.net-net.result.now ≡ c.args.design.now.design = c.net-net.ensures.net in
+    let guards = subst (λ (d : Design). Guards d.net (guard_net d.net)) same c.guard_text.ensures.guards in
+    let text : bytes ≡ flat_text (guard_net n) = c.in_ok-bytes.ensures.text ∙ ap (λ (d : Design). flat_text (guard_net d.net)) same in
+    let long : length bytes ≡ flat_length (guard_net n) = c.in_ok-bytes.ensures.length ∙ ap (λ (d : Design). flat_length (guard_net d.net)) same in
+    let keeps : length bytes ≤ 1073741824 = subst (λ (k : ℕ). k ≤ 1073741824) (sym long) c.text_keeps_limit.ensures in
+    let read = subst (λ (d : Design). IsNetOf bytes 1073741824 (guard_net d.net) 0) same (c.in_ok-bytes.ensures.again 1073741824 keeps) in
+    let count = sym (c.guarded_nodes.ensures ∙ ap (λ (d : Design). length (guard_net d.net).nodes) same) in
+    let says = c.in_ok-text.ensures (guard_net n) count ∙ (ap (λ (d : Design). guard_line d.net (guard_net n) c.free_count.result) same ∙ ap (guard_line n (guard_net n)) c.free_count.ensures) in
     if_ok c.saving.result _ _ (λ w is. done_over _ _ _ _ _ w is refl (λ t e. cc)
-    (λ held holds. guarded_outcome held (guarding_in c.args.words.now) n g c.args.design.now.free c.in_ok-bytes.bytes.items _ holds design guards c.in_ok-bytes.ensures.text keeps (c.in_ok-bytes.ensures.again 1073741824 keeps) says)
+    (λ held holds. guarded_outcome held (guarding_in c.args.words.now) n c.args.design.now.free bytes _ holds guards text keeps read says)
     (λ held holds p e. absurd cc)) c.saving.ensures
