@@ -42,21 +42,6 @@ fn parts_of(alloc: Global, count: u32, digits: &[u8], nodes: u32) -> Result<Part
     Ok(Parts::make(count, of))
 }
 
-/// `COUNT DIGITS`: the counts and the numbers.
-fn parts_text(alloc: Global, count: u32, digits: &[u8]) -> Result<String, Stop>
-    requires { 0 < count }
-{
-    if digits.len() > 1000 {
-        return Err(bad_case(alloc));
-    }
-    let parts = parts_of(alloc, count, digits, digits.len() as u32)?;
-    let mut text = format!(in alloc; "{} partitions, {} nodes:", parts.count(), parts.len())?;
-    for i in 0..parts.len() {
-        write!(text, " {}", parts.of(i))?;
-    }
-    Ok(text)
-}
-
 /// The components inside these partitions.
 fn groups_of(alloc: Global, n: &FlatNet, parts: &Parts) -> Result<LoopGroups, Stop>
     requires { length parts.now.of ≡ length n.now.net.nodes }
@@ -288,14 +273,6 @@ fn answer_of(
     }
 }
 
-/// `COUNT DIGITS` alone.
-fn parts_answer(alloc: Global, count: u32, digits: &[u8]) -> Result<String, Stop> {
-    if count == 0 {
-        return Err(bad_case(alloc));
-    }
-    parts_text(alloc, count, digits)
-}
-
 /// The design of a text in these partitions, by the verb.
 fn design_answer(
     alloc: Global,
@@ -311,14 +288,11 @@ fn design_answer(
     answer_of(alloc, &n, verb, count, digits)
 }
 
-/// `COUNT DIGITS TEXT`, or `COUNT DIGITS` alone for `parts`.
+/// `COUNT DIGITS TEXT`.
 fn partitioned(alloc: Global, texts: &Texts, verb: &str, rest: &str) -> Result<String, Stop> {
     let (count, rest) = first_word(rest);
     let (digits, text) = first_word(rest);
     let count = number(alloc, count)?;
-    if verb == "parts" {
-        return parts_answer(alloc, count, digits.as_bytes());
-    }
     let bytes = texts.bytes_of(text)?;
     design_answer(alloc, bytes.as_slice(), verb, count, digits.as_bytes())
 }
@@ -364,7 +338,7 @@ fn bounded(alloc: Global, texts: &Texts, rest: &str) -> Result<String, Stop> {
     bound_answer(alloc, bytes.as_slice(), most, count, digits.as_bytes())
 }
 
-/// `parts COUNT DIGITS`, `loops COUNT DIGITS TEXT`, `registers COUNT DIGITS TEXT`, `depths COUNT DIGITS TEXT` and `bound MOST COUNT DIGITS TEXT`.
+/// `loops COUNT DIGITS TEXT`, `registers COUNT DIGITS TEXT`, `depths COUNT DIGITS TEXT` and `bound MOST COUNT DIGITS TEXT`.
 pub fn answer(alloc: Global, texts: &Texts, verb: &str, rest: &str) -> Result<String, Stop> {
     match verb {
         "bound" => bounded(alloc, texts, rest),

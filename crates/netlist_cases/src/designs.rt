@@ -144,15 +144,6 @@ fn put_pins(text: &mut String, net: &FlatNet) -> Result<(), AllocError> {
     Ok(())
 }
 
-/// Puts the nodes in an order in which they can be evaluated.
-pub fn put_order(text: &mut String, net: &FlatNet) -> Result<(), AllocError> {
-    text.push_str(" order")?;
-    for i in 0..net.node_count() {
-        put_net(text, net, net.ordered(i))?;
-    }
-    Ok(())
-}
-
 fn put_clock(text: &mut String, net: &FlatNet) -> Result<(), AllocError> {
     match net.clock() {
         Some((Edge::Rising, clock)) => {
@@ -167,8 +158,8 @@ fn put_clock(text: &mut String, net: &FlatNet) -> Result<(), AllocError> {
     }
 }
 
-/// All that a design says, but for the order of its nodes.
-pub fn design_text(alloc: Global, net: &FlatNet) -> Result<String, AllocError> {
+/// All that a design says.
+fn design_text(alloc: Global, net: &FlatNet) -> Result<String, AllocError> {
     let mut text = String::from_str(alloc, "model")?;
     put_name(&mut text, net.model())?;
     put_nodes(&mut text, net)?;
@@ -286,41 +277,6 @@ fn find_answer(alloc: Global, bytes: &[u8]) -> Result<String, Stop> {
     Ok(find_text(alloc, &net, length)?)
 }
 
-/// What flattening answers, or what ends it.
-fn flat_or_fault(alloc: Global, bytes: &[u8]) -> Result<String, Stop> {
-    match flat_answer(alloc, bytes, MOST) {
-        Err(Stop::Answered(text)) => Ok(text),
-        answer => answer,
-    }
-}
-
-/// Puts an answer where it is another than the last, which it then takes the place of.
-pub fn put_change(
-    text: &mut String,
-    last: &mut String,
-    k: usize,
-    answer: String,
-) -> Result<(), AllocError> {
-    if answer.as_str() != last.as_str() {
-        write!(text, "{k}: {answer}\n")?;
-    }
-    last.clear();
-    last.push_str(answer.as_str())
-}
-
-/// What the first bytes of a text flatten to, for each number of them, with a line for each change.
-fn heads_answer(alloc: Global, bytes: &[u8]) -> Result<String, Stop> {
-    let mut text = String::new(alloc);
-    let mut last = String::new(alloc);
-    for k in 0..bytes.len() {
-        let answer = flat_or_fault(alloc, &bytes[..k])?;
-        put_change(&mut text, &mut last, k, answer)?;
-    }
-    let whole = flat_or_fault(alloc, bytes)?;
-    write!(text, "{}: {whole}", bytes.len())?;
-    Ok(text)
-}
-
 /// `LIMIT TEXT`.
 fn limited_answer(alloc: Global, texts: &Texts, rest: &str) -> Result<String, Stop> {
     let (limit, text) = first_word(rest);
@@ -334,12 +290,11 @@ fn bytes_answer(alloc: Global, verb: &str, bytes: &[u8]) -> Result<String, Stop>
     match verb {
         "design" => design_answer(alloc, bytes),
         "free" => free_answer(alloc, bytes),
-        "find" => find_answer(alloc, bytes),
-        _ => heads_answer(alloc, bytes),
+        _ => find_answer(alloc, bytes),
     }
 }
 
-/// `flatten LIMIT TEXT`, `design TEXT`, `free TEXT`, `find TEXT` and `heads TEXT`.
+/// `flatten LIMIT TEXT`, `design TEXT`, `free TEXT` and `find TEXT`.
 pub fn answer(alloc: Global, texts: &Texts, verb: &str, rest: &str) -> Result<String, Stop> {
     if verb == "flatten" {
         return limited_answer(alloc, texts, rest);

@@ -2,7 +2,6 @@
 
 use crate::escapes::{put_name, put_names};
 use blif_text::TextFault;
-use certificate::CertFault;
 use flat_net::NetFault;
 use hierarchy::FlatFault;
 use std::alloc::{AllocError, Global};
@@ -28,7 +27,7 @@ pub fn text_fault(alloc: Global, fault: TextFault) -> Result<String, AllocError>
     }
 }
 
-pub fn net_fault(alloc: Global, fault: &NetFault) -> Result<String, AllocError> {
+fn net_fault(alloc: Global, fault: &NetFault) -> Result<String, AllocError> {
     match fault {
         NetFault::DoubleDriven(name) => named(alloc, "double driven", name),
         NetFault::MixedClock(name) => named(alloc, "mixed clock", name),
@@ -51,17 +50,5 @@ pub fn flat_fault(alloc: Global, fault: &FlatFault) -> Result<String, AllocError
         FlatFault::NameClash(name) => named(alloc, "name clash", name),
         FlatFault::Net(fault) => net_fault(alloc, fault),
         FlatFault::Memory => String::from_str(alloc, "want of memory"),
-    }
-}
-
-/// The kind of a refusal and its line.
-pub fn cert_fault(alloc: Global, fault: CertFault) -> Result<String, AllocError> {
-    match fault {
-        CertFault::Line(line) => format!(in alloc; "Line {line}"),
-        CertFault::UnknownNet(line) => format!(in alloc; "UnknownNet {line}"),
-        CertFault::Order(line) => format!(in alloc; "Order {line}"),
-        CertFault::Range(line) => format!(in alloc; "Range {line}"),
-        CertFault::Doubled(line) => format!(in alloc; "Doubled {line}"),
-        CertFault::Memory => String::from_str(alloc, "want of memory"),
     }
 }

@@ -6,11 +6,9 @@
 #![tactic(auto)]
 
 mod answer;
-mod certificates;
 mod covers;
 mod cuts;
 mod designs;
-mod drafts;
 mod escapes;
 mod faults;
 mod hardenings;
@@ -18,7 +16,6 @@ mod hashes;
 mod keeping;
 mod libraries;
 mod names;
-mod pairs;
 mod partitions;
 mod reading;
 mod stop;
