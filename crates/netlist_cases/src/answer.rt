@@ -3,7 +3,7 @@
 use crate::keeping::{Texts, keep};
 use crate::stop::{Stop, bad_case};
 use crate::words::first_word;
-use crate::{covers, cuts, designs, hardenings, names, partitions, reading};
+use crate::{covers, cuts, hardenings, names, partitions, reading};
 use std::alloc::Global;
 
 /// What the case of this line answers. A line without words and one of `#` answer nothing.
@@ -29,8 +29,7 @@ fn small_answer(alloc: Global, texts: &Texts, verb: &str, rest: &str) -> Result<
 /// The same of the verbs that ask of designs.
 fn design_answer(alloc: Global, texts: &Texts, verb: &str, rest: &str) -> Result<String, Stop> {
     match verb {
-        "design" | "flatten" | "free" | "find" => designs::answer(alloc, texts, verb, rest),
-        "loops" | "registers" | "depths" | "bound" => cuts::answer(alloc, texts, verb, rest),
+        "loops" | "registers" | "bound" => cuts::answer(alloc, texts, verb, rest),
         "partition" => partitions::answer(alloc, texts, rest),
         "clusters" => partitions::cluster_answer(alloc, texts, rest),
         "harden_free" | "harden_deep" => hardenings::answer(alloc, texts, verb, rest),

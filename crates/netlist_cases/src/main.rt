@@ -10,7 +10,6 @@ mod covers;
 mod cuts;
 mod designs;
 mod escapes;
-mod faults;
 mod hardenings;
 mod hashes;
 mod keeping;
