@@ -3,7 +3,7 @@
 use crate::keeping::{Texts, keep};
 use crate::stop::{Stop, bad_case};
 use crate::words::first_word;
-use crate::{certificates, covers, cuts, designs, drafts, hardenings, names, partitions, reading};
+use crate::{covers, cuts, hardenings, names, partitions, reading};
 use std::alloc::Global;
 
 /// What the case of this line answers. A line without words and one of `#` answer nothing.
@@ -11,7 +11,7 @@ pub fn answer(alloc: Global, texts: &mut Texts, line: &str) -> Result<String, St
     let (verb, rest) = first_word(line);
     match verb {
         "" | "#" => Ok(String::new(alloc)),
-        "text" | "each" | "edit" => keep(alloc, texts, verb, rest),
+        "text" | "each" => keep(alloc, texts, verb, rest),
         _ => small_answer(alloc, texts, verb, rest),
     }
 }
@@ -20,8 +20,7 @@ pub fn answer(alloc: Global, texts: &mut Texts, line: &str) -> Result<String, St
 fn small_answer(alloc: Global, texts: &Texts, verb: &str, rest: &str) -> Result<String, Stop> {
     match verb {
         "name" | "voter" | "number" => names::answer(alloc, verb, rest),
-        "cover" | "same" | "wide" | "majority" => covers::answer(alloc, verb, rest),
-        "draft" => drafts::answer(alloc, rest),
+        "cover" | "same" | "wide" => covers::answer(alloc, verb, rest),
         "read" | "cuts" | "feed" => reading::answer(alloc, texts, verb, rest),
         _ => design_answer(alloc, texts, verb, rest),
     }
@@ -30,18 +29,10 @@ fn small_answer(alloc: Global, texts: &Texts, verb: &str, rest: &str) -> Result<
 /// The same of the verbs that ask of designs.
 fn design_answer(alloc: Global, texts: &Texts, verb: &str, rest: &str) -> Result<String, Stop> {
     match verb {
-        "design" | "flatten" | "free" | "find" | "heads" => {
-            designs::answer(alloc, texts, verb, rest)
-        }
-        "parts" | "loops" | "registers" | "depths" | "bound" => cuts::answer(
-            alloc, texts, verb, rest,
-        ),
+        "loops" | "registers" | "bound" => cuts::answer(alloc, texts, verb, rest),
         "partition" => partitions::answer(alloc, texts, rest),
         "clusters" => partitions::cluster_answer(alloc, texts, rest),
         "harden_free" | "harden_deep" => hardenings::answer(alloc, texts, verb, rest),
-        "cert" | "certheads" | "check" | "least" => {
-            certificates::answer(alloc, texts, verb, rest)
-        }
         _ => Err(bad_case(alloc)),
     }
 }

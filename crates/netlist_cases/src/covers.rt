@@ -3,7 +3,7 @@
 use crate::stop::{Stop, bad_case};
 use crate::words::{first_word, long_number, number};
 use std::alloc::{AllocError, Global};
-use table_cover::{Cover, RowFault, majority};
+use table_cover::{Cover, RowFault};
 
 /// Adds a row, where there is room for one more.
 fn push_marks(cover: &mut Cover, marks: &[u8], output: u8) -> Result<(), RowFault> {
@@ -122,20 +122,6 @@ fn wide_text(alloc: Global, width: u32, rows: &str, words: &str) -> Result<Strin
     Ok(format!(in alloc; "{value}")?)
 }
 
-/// The majority of the three lowest bits of a number.
-fn majority_of(number: u32) -> bool {
-    majority(number & 4 != 0, number & 2 != 0, number & 1 != 0)
-}
-
-/// The majority of the three bits of each number below 8.
-fn majorities(alloc: Global) -> Result<String, AllocError> {
-    let mut text = String::new(alloc);
-    for number in 0..8u32 {
-        text.push(if majority_of(number) { '1' } else { '0' })?;
-    }
-    Ok(text)
-}
-
 /// `WIDTH ROW .. = ROW ..` and `WIDTH ROW .. = WORD ..`.
 fn two_sides(alloc: Global, verb: &str, rest: &str) -> Result<String, Stop> {
     let (width, rest) = first_word(rest);
@@ -150,11 +136,10 @@ fn two_sides(alloc: Global, verb: &str, rest: &str) -> Result<String, Stop> {
     wide_text(alloc, width, one, other)
 }
 
-/// `cover WIDTH ROW ..`, `majority`, `same WIDTH ROW .. = ROW ..` and `wide WIDTH ROW .. = WORD ..`.
+/// `cover WIDTH ROW ..`, `same WIDTH ROW .. = ROW ..` and `wide WIDTH ROW .. = WORD ..`.
 pub fn answer(alloc: Global, verb: &str, rest: &str) -> Result<String, Stop> {
     match verb {
         "cover" => cover_text(alloc, rest),
-        "majority" => Ok(majorities(alloc)?),
         _ => two_sides(alloc, verb, rest),
     }
 }

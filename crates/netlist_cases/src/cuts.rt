@@ -5,13 +5,13 @@ ghost use Rattle.feedback_cut.specs.Components.{AreComponents};
 ghost use Rattle.feedback_cut.specs.Cut.{CutsLoops};
 ghost use Rattle.graph.specs.Rows.{row};
 
-use crate::designs::{design_of, node_id};
+use crate::designs::{free_of, node_id};
 use crate::keeping::Texts;
 use crate::stop::{Stop, bad_case};
 use crate::words::{first_word, number};
 use feedback_cut::{CutPins, LoopGroups, components, cut, cut_registers};
 use flat_net::FlatNet;
-use recovery_depth::{DepthTable, Extra, bound, depths};
+use recovery_depth::{Extra, bound};
 use std::alloc::{AllocError, Global};
 use tmr_base::{PartId, Parts};
 
@@ -40,21 +40,6 @@ fn parts_of(alloc: Global, count: u32, digits: &[u8], nodes: u32) -> Result<Part
         of.push(part_of(digits, i, count))?;
     }
     Ok(Parts::make(count, of))
-}
-
-/// `COUNT DIGITS`: the counts and the numbers.
-fn parts_text(alloc: Global, count: u32, digits: &[u8]) -> Result<String, Stop>
-    requires { 0 < count }
-{
-    if digits.len() > 1000 {
-        return Err(bad_case(alloc));
-    }
-    let parts = parts_of(alloc, count, digits, digits.len() as u32)?;
-    let mut text = format!(in alloc; "{} partitions, {} nodes:", parts.count(), parts.len())?;
-    for i in 0..parts.len() {
-        write!(text, " {}", parts.of(i))?;
-    }
-    Ok(text)
 }
 
 /// The components inside these partitions.
@@ -183,47 +168,6 @@ fn registers_text(alloc: Global, n: &FlatNet, parts: &Parts) -> Result<String, S
     loops_text(alloc, n, parts, &pins)
 }
 
-/// The labels of all nodes and the depths of all partitions.
-fn table_of(alloc: Global, n: &FlatNet, parts: &Parts) -> Result<DepthTable, Stop>
-    requires { length parts.now.of ≡ length n.now.net.nodes }
-    ensures labels { IfOk result (λ table. length table.labels ≡ length n.now.net.nodes) }
-    ensures depths { IfOk result (λ table. length table.depths ≡ parts.now.count) }
-{
-    let pins = cut_pins(alloc, n, parts)?;
-    Ok(depths(alloc, n, parts, &pins)?)
-}
-
-fn put_labels(text: &mut String, table: &DepthTable, nodes: u32) -> Result<(), AllocError>
-    requires { length table.now.labels ≡ nodes }
-{
-    text.push_str("labels")?;
-    for i in 0..nodes {
-        write!(text, " {}", table.label(i))?;
-    }
-    Ok(())
-}
-
-fn put_depths(text: &mut String, table: &DepthTable, count: u32) -> Result<(), AllocError>
-    requires { length table.now.depths ≡ count }
-{
-    text.push_str(" depths")?;
-    for p in 0..count {
-        write!(text, " {}", table.depth(PartId(p)))?;
-    }
-    Ok(())
-}
-
-/// The label of each node, and the depth of each partition.
-fn depths_text(alloc: Global, n: &FlatNet, parts: &Parts) -> Result<String, Stop>
-    requires { length parts.now.of ≡ length n.now.net.nodes }
-{
-    let table = table_of(alloc, n, parts)?;
-    let mut text = String::new(alloc);
-    put_labels(&mut text, &table, n.node_count())?;
-    put_depths(&mut text, &table, parts.count())?;
-    Ok(text)
-}
-
 /// The labels, depths and further pins where no label is above a bound.
 fn extra_of(alloc: Global, n: &FlatNet, parts: &Parts, most: u32) -> Result<Extra, Stop>
     requires nodes { length parts.now.of ≡ length n.now.net.nodes }
@@ -258,7 +202,7 @@ fn put_extra_depths(text: &mut String, extra: &Extra, count: u32) -> Result<(), 
     Ok(())
 }
 
-/// The same where no label is above a bound, with `*` behind the label of a register whose pin is voted for this.
+/// The label of each node and the depth of each partition where no label is above a bound, with `*` behind the label of a register whose pin is voted for this.
 fn bound_text(alloc: Global, n: &FlatNet, parts: &Parts, most: u32) -> Result<String, Stop>
     requires nodes { length parts.now.of ≡ length n.now.net.nodes }
     requires most { 0 < most }
@@ -283,17 +227,8 @@ fn answer_of(
     let parts = parts_of(alloc, count, digits, n.node_count())?;
     match verb {
         "loops" => cut_text(alloc, n, &parts),
-        "registers" => registers_text(alloc, n, &parts),
-        _ => depths_text(alloc, n, &parts),
+        _ => registers_text(alloc, n, &parts),
     }
-}
-
-/// `COUNT DIGITS` alone.
-fn parts_answer(alloc: Global, count: u32, digits: &[u8]) -> Result<String, Stop> {
-    if count == 0 {
-        return Err(bad_case(alloc));
-    }
-    parts_text(alloc, count, digits)
 }
 
 /// The design of a text in these partitions, by the verb.
@@ -307,18 +242,15 @@ fn design_answer(
     if count == 0 {
         return Err(bad_case(alloc));
     }
-    let n = design_of(alloc, bytes)?;
-    answer_of(alloc, &n, verb, count, digits)
+    let n = free_of(alloc, bytes)?;
+    answer_of(alloc, n.net(), verb, count, digits)
 }
 
-/// `COUNT DIGITS TEXT`, or `COUNT DIGITS` alone for `parts`.
+/// `COUNT DIGITS TEXT`.
 fn partitioned(alloc: Global, texts: &Texts, verb: &str, rest: &str) -> Result<String, Stop> {
     let (count, rest) = first_word(rest);
     let (digits, text) = first_word(rest);
     let count = number(alloc, count)?;
-    if verb == "parts" {
-        return parts_answer(alloc, count, digits.as_bytes());
-    }
     let bytes = texts.bytes_of(text)?;
     design_answer(alloc, bytes.as_slice(), verb, count, digits.as_bytes())
 }
@@ -349,8 +281,8 @@ fn bound_answer(
     if most == 0 || count == 0 {
         return Err(bad_case(alloc));
     }
-    let n = design_of(alloc, bytes)?;
-    bound_answer_of(alloc, &n, most, count, digits)
+    let n = free_of(alloc, bytes)?;
+    bound_answer_of(alloc, n.net(), most, count, digits)
 }
 
 /// `MOST COUNT DIGITS TEXT`.
@@ -364,7 +296,7 @@ fn bounded(alloc: Global, texts: &Texts, rest: &str) -> Result<String, Stop> {
     bound_answer(alloc, bytes.as_slice(), most, count, digits.as_bytes())
 }
 
-/// `parts COUNT DIGITS`, `loops COUNT DIGITS TEXT`, `registers COUNT DIGITS TEXT`, `depths COUNT DIGITS TEXT` and `bound MOST COUNT DIGITS TEXT`.
+/// `loops COUNT DIGITS TEXT`, `registers COUNT DIGITS TEXT` and `bound MOST COUNT DIGITS TEXT`.
 pub fn answer(alloc: Global, texts: &Texts, verb: &str, rest: &str) -> Result<String, Stop> {
     match verb {
         "bound" => bounded(alloc, texts, rest),

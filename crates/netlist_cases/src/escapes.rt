@@ -69,13 +69,6 @@ pub fn put_bytes(text: &mut String, bytes: &[u8]) -> Result<(), AllocError> {
     Ok(())
 }
 
-/// Bytes as they stand in a case.
-pub fn encoded(alloc: Global, bytes: &[u8]) -> Result<String, AllocError> {
-    let mut text = String::new(alloc);
-    put_bytes(&mut text, bytes)?;
-    Ok(text)
-}
-
 /// Puts a blank and a name.
 pub fn put_name(text: &mut String, name: &Name) -> Result<(), AllocError> {
     text.push(' ')?;

@@ -4,7 +4,7 @@ ghost use Rattle.std.specs.Prelude.{◌≡◌, ◌+◌, ◌≤◌, ◌⊎◌, tr
 ghost use Rattle.flat_net.specs.Net.{net_count, pin_total};
 ghost use Rattle.certificate.specs.Cert.{Fits};
 
-use crate::designs::{MOST, free_of};
+use crate::designs::free_of;
 use crate::escapes::put_bytes;
 use crate::keeping::Texts;
 use crate::stop::{Stop, bad_case};
@@ -80,7 +80,7 @@ fn free_answer(alloc: Global, texts: &Texts, rest: &str) -> Result<String, Stop>
     let (size, text) = first_word(rest);
     let size = number(alloc, size)?;
     let bytes = texts.bytes_of(text)?;
-    let n = free_of(alloc, bytes.as_slice(), MOST)?;
+    let n = free_of(alloc, bytes.as_slice())?;
     let pair = free_pair(alloc, &n, size)?;
     pair_text(alloc, &n, &pair)
 }
@@ -94,7 +94,7 @@ fn deep_answer(alloc: Global, texts: &Texts, rest: &str) -> Result<String, Stop>
     let version = if version == "2" { 2 } else { 1 };
     let most = number(alloc, most)?;
     let bytes = texts.bytes_of(text)?;
-    let n = free_of(alloc, bytes.as_slice(), MOST)?;
+    let n = free_of(alloc, bytes.as_slice())?;
     let pair = deep_pair(alloc, &n, size, version, most)?;
     pair_text(alloc, &n, &pair)
 }

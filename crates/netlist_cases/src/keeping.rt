@@ -103,44 +103,16 @@ fn push_each(alloc: Global, bytes: &mut Vec<u8>, rest: &str) -> Result<(), Stop>
     Ok(())
 }
 
-/// The bytes with this text in the place of a line, counted from 1.
-fn edited(alloc: Global, bytes: &[u8], line: u32, text: &str) -> Result<Vec<u8>, AllocError> {
-    let mut edited = Vec::new(alloc);
-    let mut number = 1u32;
-    for b in bytes {
-        if number != line {
-            edited.push(*b)?;
-        } else if *b == b'\n' {
-            push_decoded(&mut edited, text)?;
-            edited.push(b'\n')?;
-        }
-        if *b == b'\n' {
-            number = number.wrapping_add(1);
-        }
-    }
-    Ok(edited)
-}
-
-/// `$OLD LINE TEXT`: the kept text with another line.
-fn edited_of(alloc: Global, texts: &Texts, rest: &str) -> Result<Vec<u8>, Stop> {
-    let (old, rest) = first_word(rest);
-    let (line, text) = first_word(rest);
-    let line = number(alloc, line)?;
-    let bytes = texts.bytes_of(old)?;
-    Ok(edited(alloc, bytes.as_slice(), line, text)?)
-}
-
-/// `text NAME TEXT`, `each NAME FROM..TO TEXT` and `edit NAME $OLD LINE TEXT`.
+/// `text NAME TEXT` and `each NAME FROM..TO TEXT`.
 pub fn keep(alloc: Global, texts: &mut Texts, verb: &str, rest: &str) -> Result<String, Stop> {
     let (name, rest) = first_word(rest);
     let bytes = match verb {
         "text" => texts.bytes_of(rest)?,
-        "each" => {
+        _ => {
             let mut bytes = texts.take(name);
             push_each(alloc, &mut bytes, rest)?;
             bytes
         }
-        _ => edited_of(alloc, texts, rest)?,
     };
     texts.keep(name, bytes)?;
     Ok(String::new(alloc))

@@ -6,19 +6,15 @@
 #![tactic(auto)]
 
 mod answer;
-mod certificates;
 mod covers;
 mod cuts;
 mod designs;
-mod drafts;
 mod escapes;
-mod faults;
 mod hardenings;
 mod hashes;
 mod keeping;
 mod libraries;
 mod names;
-mod pairs;
 mod partitions;
 mod reading;
 mod stop;

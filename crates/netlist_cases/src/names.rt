@@ -11,7 +11,7 @@ use tmr_base::{
 const COPIES: [CopyNo; 3] = [CopyNo::First, CopyNo::Second, CopyNo::Third];
 
 /// The name that a text stands for.
-pub fn name_of(alloc: Global, text: &str) -> Result<Name, Stop> {
+fn name_of(alloc: Global, text: &str) -> Result<Name, Stop> {
     let bytes = decoded(alloc, text)?;
     match Name::read(alloc, bytes.as_slice()) {
         Ok(name) => Ok(name),

@@ -3,7 +3,7 @@
 ghost use Rattle.std.specs.Prelude.{◌≡◌, ◌<◌, length, IfOk};
 ghost use Rattle.partitioner.specs.Sizes.{KeepsSize};
 
-use crate::designs::design_of;
+use crate::designs::free_of;
 use crate::keeping::Texts;
 use crate::stop::{Stop, bad_case};
 use crate::words::{first_word, number};
@@ -120,8 +120,8 @@ fn lines_of(alloc: Global, n: &FlatNet, sizes: &str, passes: &str) -> Result<Str
 
 /// The lines of a text's design.
 fn answer_of(alloc: Global, bytes: &[u8], sizes: &str, passes: &str) -> Result<String, Stop> {
-    let n = design_of(alloc, bytes)?;
-    lines_of(alloc, &n, sizes, passes)
+    let n = free_of(alloc, bytes)?;
+    lines_of(alloc, n.net(), sizes, passes)
 }
 
 /// `SIZE,.. PASSES,.. TEXT`: a line for each size.
@@ -171,6 +171,6 @@ fn cluster_lines(alloc: Global, n: &FlatNet, sizes: &str) -> Result<String, Stop
 pub fn cluster_answer(alloc: Global, texts: &Texts, rest: &str) -> Result<String, Stop> {
     let (sizes, net) = first_word(rest);
     let bytes = texts.bytes_of(net)?;
-    let n = design_of(alloc, bytes.as_slice())?;
-    cluster_lines(alloc, &n, sizes)
+    let n = free_of(alloc, bytes.as_slice())?;
+    cluster_lines(alloc, n.net(), sizes)
 }

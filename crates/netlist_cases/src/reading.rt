@@ -2,12 +2,19 @@
 
 ghost use Rattle.std.specs.Prelude.{◌≤◌, length};
 
-use crate::faults::text_fault;
 use crate::keeping::Texts;
 use crate::libraries::library_text;
 use crate::stop::{Stop, bad_case};
 use blif_text::{Library, Reader, TextFault, read_library};
 use std::alloc::{AllocError, Global};
+
+/// The line and the kind of a refusal.
+fn text_fault(alloc: Global, fault: TextFault) -> Result<String, AllocError> {
+    match fault {
+        TextFault::Bad { line, kind } => format!(in alloc; "line {line} {kind:?}"),
+        TextFault::Memory => String::from_str(alloc, "want of memory"),
+    }
+}
 
 /// The library of a text.
 fn read_whole(alloc: Global, bytes: &[u8]) -> Result<Library, TextFault> {

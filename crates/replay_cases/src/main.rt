@@ -1,15 +1,12 @@
-//! Reads schedules for pairs of designs, replays them, and prints what is answered.
+//! Runs up to 64 schedules of a pair, or inputs of a design, at once, and prints what is answered.
 //!
 //! Standard input has a line for each case. `orig TEXT`, `hard TEXT` and `cert TEXT` give the pair for the lines behind
-//! them, with `/` in place of each line's end. The other lines are a verb and a schedule file, written alike: `schedule`
-//! reads it, `allowed` asks the certificate, `replay` and `wave` run it, and `wide` runs all schedules that stand between
-//! `|`. `many COUNT` reads a file with so many rows, and `deep COUNT` one with so many brackets. Each of these is printed
-//! again, and its answer below it. `campaign NUMBER CYCLES` runs 64 schedules on the pair that are drawn from the number, and
-//! `near NUMBER CYCLES` 64 whose upsets are too near.
+//! them, with `/` in place of each line's end. `wide TEXT` replays all schedules that stand between `|`, written alike.
+//! `words TEXT` runs the original, a step between two `/`: the words of its inputs, and `NAME=RUNS:VALUES` for a net that
+//! is forced. `chain COUNT STEPS` runs a chain of so many inverters. Each of these is printed again, and its answer below it.
 #![tactic(auto)]
 
 mod asking;
-mod campaigning;
 mod designs;
 mod files;
 mod list;

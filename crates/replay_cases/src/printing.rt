@@ -64,51 +64,7 @@ pub fn put_replay(
     write!(text, "wrong {} / late {}", o.wrong, o.late)
 }
 
-/// The differences and the six lines of a replay.
-pub fn replay_text(
-    alloc: Global,
-    n: &FlatNet,
-    s: &Schedule,
-    o: &Outcome,
-) -> Result<String, AllocError> {
-    let mut text = String::new(alloc);
-    put_replay(&mut text, n, s, o)?;
-    Ok(text)
-}
-
-/// How many cycles and upsets there are, and the start values.
-pub fn schedule_text(alloc: Global, s: &Schedule) -> Result<String, AllocError> {
-    let mut text = String::new(alloc);
-    write!(
-        text,
-        "cycles {} upsets {} starts ",
-        s.cycles(),
-        s.upset_count()
-    )?;
-    for j in 0..s.start_count() {
-        text.push(digit(s.start(j)))?;
-    }
-    Ok(text)
-}
-
 /// The fault by its name.
 pub fn fault_text(alloc: Global, fault: ScheduleFault) -> Result<String, AllocError> {
     format!(in alloc; "{fault:?}")
-}
-
-/// Bits, in groups of four.
-pub fn wave_text(alloc: Global, values: &[bool]) -> Result<String, AllocError> {
-    let mut text = String::new(alloc);
-    for i in 0..values.len() {
-        if i % 4 == 0 && i > 0 {
-            text.push(' ')?;
-        }
-        text.push(digit(values[i]))?;
-    }
-    Ok(text)
-}
-
-/// Whether a schedule is allowed.
-pub fn allowed_text(alloc: Global, allowed: bool) -> Result<String, AllocError> {
-    format!(in alloc; "allowed {}", yes_or_no(allowed))
 }
