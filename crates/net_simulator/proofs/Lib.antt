@@ -9,3 +9,5 @@ pub mod ShortTables
 pub mod Triples
 pub mod TruthLaws
 pub mod TruthTables
+pub mod TwinLaws
+pub mod ChangeLaws

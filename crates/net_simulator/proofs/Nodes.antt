@@ -91,12 +91,12 @@ module _ (n : Net) (tables : Tables) (are : AreTables n tables) (k : ℕ) (e : E
         (subst (λ (x : ℕ). TellsNode (node_of n x) (slice_index truths.words.items k)) net_is (tell.words k within)) same)
 
   -- its value is written
-  pub table_settles : (started : Bool) (ins before : List Bool) (forced : ℕ → Option Bool) (v : List Bool) (value b : Bool)
-      → value ≡ own_value (node_of n e.net.0) (number_of_cycle started) before v → b ≡ unwrap_or (forced e.net.0) value
-      → IsSettled n (number_of_cycle started) ins before forced (IsAmong n nets k) v → IsSettled n (number_of_cycle started) ins before forced (IsAmong n nets (k + 1)) (slice_set v e.net.0 b)
-  table_settles started ins before forced v value b f g settled =
+  pub table_settles : (t : ℕ) (ins before : List Bool) (forced : ℕ → Option Bool) (v : List Bool) (value b : Bool)
+      → value ≡ own_value (node_of n e.net.0) t before v → b ≡ unwrap_or (forced e.net.0) value
+      → IsSettled n t ins before forced (IsAmong n nets k) v → IsSettled n t ins before forced (IsAmong n nets (k + 1)) (slice_set v e.net.0 b)
+  table_settles t ins before forced v value b f g settled =
       let (low, high) = table_within n e.net.0 entry_table in
-      own_settle n (number_of_cycle started) ins before forced v (IsAmong n nets k) (IsAmong n nets (k + 1)) e.net.0 value b settled low high
+      own_settle n t ins before forced v (IsAmong n nets k) (IsAmong n nets (k + 1)) e.net.0 value b settled low high
       (λ y q apart. among_fewer n nets k y q (λ same. apart (same ∙ net_is)))
       (λ y q i m same. unread_at n nets are.order k within y q i m (same ∙ sym net_is))
       f g

@@ -1,7 +1,10 @@
+pub mod Beside
 pub mod Cycle
 pub mod Forced
 pub mod Inside
+pub mod Layouts
 pub mod Registers
 pub mod Settled
 pub mod Tables
 pub mod Truth
+pub mod Twins

@@ -19,7 +19,7 @@ use flat_net::FlatNet;
 use tmr_base::NetId;
 
 /// What its own equation gives a register.
-fn register_word(register: Held, started: bool, before: &[u64]) -> u64
+pub fn register_word(register: Held, started: bool, before: &[u64]) -> u64
     ensures { (j : ℕ) → j < 64 → word_bit j result ≡ (if started then word_bit j (slice_index before.now register.pin.0) else register.init) }
 {
     if started {
@@ -54,7 +54,7 @@ fn set_registers(
 }
 
 /// The word of a table, by the word that tells it if it is short, or else by its literals.
-fn table_word(entry: Entry, word: u64, pins: &[NetId], literals: &[Literal], now: &[u64]) -> u64
+pub fn table_word(entry: Entry, word: u64, pins: &[NetId], literals: &[Literal], now: &[u64]) -> u64
     requires { length pins.now ≤ 6 }
     ensures { (j : ℕ) → j < 64 → word_bit j result ≡ short_value entry word pins.now literals.now (bit (bits_of j now.now)) }
 {

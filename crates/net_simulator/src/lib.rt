@@ -4,12 +4,17 @@
 //! each net meets its equation but for those that are forced; a step takes no memory.
 #![tactic(auto)]
 
+mod beside;
+mod changes;
 mod cycle;
 mod marks;
 mod registers;
 mod short;
 mod tables;
 mod truth;
+mod twin_sim;
+mod twins;
 mod wide;
 
+pub use twin_sim::TwinSim;
 pub use wide::WideSim;

@@ -40,7 +40,7 @@ impl<'a> Model for WideSim<'a> {
 }
 
 /// Forces what the triples say, and nothing else.
-fn force(marks: &mut Marks, triples: &[(NetId, u64, u64)])
+pub fn force(marks: &mut Marks, triples: &[(NetId, u64, u64)])
     requires sized { AreMarks (length marks.old.forced.items) marks.old }
     requires nets { All (λ f. f.0.0 < length marks.old.forced.items) triples.now }
     ensures forced { (j x : ℕ) → j < 64 → marked marks.new j x ≡ forced_in j triples.now x }
@@ -110,5 +110,12 @@ impl<'a> WideSim<'a> {
         ensures { IfSome self.now.last (λ words. result ≡ slice_index words x.0) }
     {
         self.words[x.0 as usize]
+    }
+
+    /// The words of all nets in the last cycle.
+    pub(crate) fn words(&self) -> &[u64]
+        ensures { IfSome self.now.last (λ words. result.now ≡ words) }
+    {
+        self.words.as_slice()
     }
 }

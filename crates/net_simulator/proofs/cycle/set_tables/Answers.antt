@@ -40,7 +40,7 @@ loop-i-preserved c =
       settled = λ j ins l first.
           settled_words n (number_of_cycle c.args.started) ins (bits_of j c.args.before.now) (marked c.args.marks.now j) (IsAmong n (entry_nets c.args.tables.now.entries.items) (c.loop-i.i + 1)) c.loop-i.now j e.net.0 c.word.result
           (table_settles n c.args.tables.now c.requires.tables c.loop-i.i e there
-          c.args.started ins (bits_of j c.args.before.now) (marked c.args.marks.now j) (bits_of j c.loop-i.now) (word_bit j c.table_word-own.result) (word_bit j c.word.result)
+          (number_of_cycle c.args.started) ins (bits_of j c.args.before.now) (marked c.args.marks.now j) (bits_of j c.loop-i.now) (word_bit j c.table_word-own.result) (word_bit j c.word.result)
           (c.table_word-own.ensures j l
           ∙ (ap (λ (w : ℕ). short_value e w c.split_at-in-loop-i.result.0.now c.split_at.result.0.now (bit (bits_of j c.loop-i.now))) (c.word_at_place-word.ensures ∙ ap (λ (ws : List ℕ). slice_index ws c.loop-i.i) c.deref.ensures.value)
           ∙ entry_short_value n c.args.tables.now c.requires.tables c.loop-i.i e there c.args.truths.now c.requires.truths c.loop-i.rest_pins.now c.loop-i.invariant.pins

@@ -1,0 +1,9 @@
+use Rattle.net_simulator.specs.Cycle.{forced_in}
+use Rattle.net_simulator.proofs.twin_sim.cycle_beside.Goals as goal
+
+pub returns-clause-cycle : goal.returns-clause-cycle
+returns-clause-cycle c = λ j n l twins met.
+    c.run_beside.ensures.cycle j n c.args.own.now (forced_in j c.args.forced.now) l twins met c.start_beside.ensures.own (c.start_beside.ensures.beside c.args.layout.now.net.now.net) (λ x. c.start_beside.ensures.forced j x l)
+
+pub returns-clause-alike : goal.returns-clause-alike
+returns-clause-alike c = λ readers. (c.run_beside.ensures.beside c.args.own.now readers (c.start_beside.ensures.beside c.args.layout.now.net.now.net)).same
