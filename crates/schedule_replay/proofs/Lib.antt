@@ -13,3 +13,4 @@ pub mod WideLaws
 pub mod WideRows
 pub mod WideOutcomes
 pub mod Unharmed
+pub mod BesideLaws

@@ -21,7 +21,7 @@ use Rattle.schedule_replay.specs.Starts.{or_else, start_in, MarksRegisters, AreS
 use Rattle.schedule_replay.proofs.Taking.{or_none, all_spread}
 
 -- a mark at what is no register
-no_register : (n : Net) (free w : List Bool) (x : ℕ) → MarksRegisters n free → (IsInitOf (node_of n x) false → ⊥) → start_at n free w x ≡ None
+pub no_register : (n : Net) (free w : List Bool) (x : ℕ) → MarksRegisters n free → (IsInitOf (node_of n x) false → ⊥) → start_at n free w x ≡ None
 no_register n free w x marks none = go (node_bit (length n.inputs) free x) refl
   where
     go : (b : Bool) → node_bit (length n.inputs) free x ≡ b → (if b then Some (node_bit (length n.inputs) w x) else None) ≡ None

@@ -1,5 +1,6 @@
 pub mod Allowing
 pub mod Many
+pub mod Origins
 pub mod Outcome
 pub mod Private
 pub mod OutcomeView

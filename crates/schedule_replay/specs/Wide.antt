@@ -1,9 +1,9 @@
 -- A replay of up to 64 runs between two cycles. Private functions alone cite it.
-use Rattle.std.specs.Prelude.{◌≡◌, ℕ, ◌+◌, ◌*◌, ◌<◌, ◌≤◌, ◌||◌, ◌↔◌, IsTrue, Bool, nat_eq, nat_le, List, [], ◌∷◌, ◌++◌, All, length, slice_get, slice_index, option_map, replicate, Some, if◌then◌else◌}
+use Rattle.std.specs.Prelude.{◌≡◌, ℕ, ◌+◌, ◌*◌, ◌<◌, ◌≤◌, ◌||◌, ◌↔◌, IsTrue, Bool, nat_eq, nat_le, List, [], ◌∷◌, ◌++◌, All, length, slice_get, slice_index, option_map, replicate, Some, None, if◌then◌else◌}
 use Rattle.tmr_base.specs.declared.ids.NetId.{NetId}
 use Rattle.tmr_base.specs.declared.ids.Upset.{Upset}
 use Rattle.table_cover.specs.Words.{word_bit, bits_of}
-use Rattle.flat_net.specs.Net.{Net, net_count}
+use Rattle.flat_net.specs.Net.{Net, net_count, node_of, IsTable}
 use Rattle.net_meaning.specs.Meaning.{start_at}
 use Rattle.certificate.specs.Cert.{PlainCert}
 use Rattle.certificate.specs.Schedules.{Allowed}
@@ -17,6 +17,7 @@ use Rattle.schedule_replay.specs.declared.wide_running.WideRunning.{WideRunning}
 use Rattle.schedule_replay.specs.declared.starts.Starts.{Starts}
 use Rattle.schedule_replay.specs.Outcome.{Counts, IsReplayOf, bits_differ, one_if}
 use Rattle.schedule_replay.specs.OutcomeView.{plain_outcome}
+use Rattle.schedule_replay.specs.Origins.{RunsBeside}
 use Rattle.schedule_replay.specs.Running.{Traces}
 use Rattle.schedule_replay.specs.Starts.{start_in, MarksRegisters, AreStarts}
 use Rattle.schedules.specs.Schedule.{PlainSchedule}
@@ -40,14 +41,17 @@ abbrev pub AreToldQuiet : PlainCert → List PlainSchedule → ℕ → List Prog
 AreToldQuiet k list t runs =
     (j : ℕ) (s : PlainSchedule) (p : Progress) → slice_get list j ≡ Some s → slice_get runs j ≡ Some p → TellQuiet k s.upsets t p.lasts.items
 
--- the two simulators are of these designs, there is room for a cycle's inputs, and start values are of nets
-pub record IsWideReady (n h : Net) (r : WideRunning) : Type 0 where
+-- the two simulators are of these designs, the one runs beside the other, there is room for a cycle's inputs, and start values are of
+-- nets, and of no table of the original
+pub record IsWideReady (n h : Net) (k : PlainCert) (r : WideRunning) : Type 0 where
   pub original : r.original.net ≡ n
   pub hardened : r.hardened.net ≡ h
   pub row : length r.row.items ≡ length n.inputs
   pub spread : length r.spread.items ≡ 3 * length n.inputs
   pub original_range : All (λ f. f.0.0 < net_count n) r.original_starts.items
   pub hardened_range : All (λ f. f.0.0 < net_count h) r.hardened_starts.items
+  pub beside : RunsBeside n h k r.hardened
+  pub registers : (j x : ℕ) → j < 64 → IsTable (node_of n x) → forced_in j r.original_starts.items x ≡ None
 
 -- these triples give the marked registers of run j their start values, and nothing else, as far as cycle t goes
 abbrev pub AreStartsIn : Net → List Bool → List Bool → ℕ → ℕ → List (NetId × ℕ × ℕ) → Type 0

@@ -7,6 +7,7 @@
 #![tactic(auto)]
 
 mod allowing;
+mod origins;
 mod outcome;
 mod replaying;
 mod starts;

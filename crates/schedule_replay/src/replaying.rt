@@ -3,6 +3,7 @@ ghost use Rattle.std.specs.Prelude.{◌≡◌, ◌*◌, ◌<◌, List, Bool, All
 ghost use Rattle.flat_net.specs.Net.{net_count};
 ghost use Rattle.certificate.specs.Cert.{Fits};
 ghost use Rattle.validator.specs.Masking.{Masks, FreeMasks};
+ghost use Rattle.schedule_replay.specs.Origins.{NamesNoTable};
 ghost use Rattle.schedule_replay.specs.Outcome.{IsReplayOf, IsFreeReplay};
 ghost use Rattle.schedules.specs.Reading.{IsNodeOf};
 ghost use Rattle.schedule_replay.specs.OutcomeView.{plain_outcome};
@@ -35,6 +36,7 @@ fn replay_from(
     requires nets { All (λ u. u.net.0 < net_count h.now.net) s.now.upsets }
     requires original { All (λ f. f.0.0 < net_count n.now.net) starts.original.items }
     requires hardened { All (λ f. f.0.0 < net_count h.now.net) starts.hardened.items }
+    requires registers { NamesNoTable n.now.net starts.original.items }
     ensures { IfOk result (λ o. (f w g u : List Bool) → MarksRegisters n.now.net f → MarksRegisters h.now.net g → AreStarts n.now.net f w 0 starts.original.items → AreStarts h.now.net g u 0 starts.hardened.items →
         IsReplayOf n.now.net f w h.now.net g u c.now s.now (plain_outcome o)) }
 {

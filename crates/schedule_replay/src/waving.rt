@@ -5,6 +5,7 @@ ghost use Rattle.flat_net.specs.Net.{net_count};
 ghost use Rattle.net_meaning.specs.Meaning.{row_at};
 ghost use Rattle.certificate.specs.Cert.{Fits};
 ghost use Rattle.schedule_replay.specs.declared.outcome.Difference.{Difference};
+ghost use Rattle.schedule_replay.specs.Origins.{NamesNoTable};
 ghost use Rattle.schedule_replay.specs.Outcome.{outputs_in};
 ghost use Rattle.schedule_replay.specs.Starts.{MarksRegisters, AreStarts};
 ghost use Rattle.schedule_replay.specs.Waves.{waves, wave_of, AreWavesOf, AreFreeWaves};
@@ -71,6 +72,7 @@ fn waves_from(
     requires nets { All (λ u. u.net.0 < net_count h.now.net) s.now.upsets }
     requires original { All (λ f. f.0.0 < net_count n.now.net) starts.original.items }
     requires hardened { All (λ f. f.0.0 < net_count h.now.net) starts.hardened.items }
+    requires registers { NamesNoTable n.now.net starts.original.items }
     ensures { IfOk result (λ v. (f w g u : List Bool) → MarksRegisters n.now.net f → MarksRegisters h.now.net g → AreStarts n.now.net f w 0 starts.original.items → AreStarts h.now.net g u 0 starts.hardened.items →
         AreWavesOf n.now.net f w h.now.net g u s.now v.items) }
 {
@@ -79,7 +81,7 @@ fn waves_from(
     free_traces_are_unique();
     let list = slice::from_ref(s);
     let mut runs = start_progress(alloc, c, list)?;
-    let mut running = start_runs(alloc, n, h, &starts)?;
+    let mut running = start_runs(alloc, n, h, c, &starts)?;
     let mut values = Vec::new(alloc);
     for t in 0..s.cycles() {
         advance_runs(n, h, c, list, t, &mut runs, &mut running)?;

@@ -9,6 +9,7 @@ ghost use Rattle.schedule_replay.specs.Many.{HaveOneLength, AreReplaysOf};
 ghost use Rattle.schedules.specs.Reading.{IsNodeOf};
 ghost use Rattle.schedule_replay.specs.Running.{Traces, AreTracesOf, HasCounted, CountsFit};
 ghost use Rattle.schedules.specs.Schedule.{PlainSchedule, IsPlainSchedule};
+ghost use Rattle.schedule_replay.specs.Origins.{NamesNoTable};
 ghost use Rattle.schedule_replay.specs.Wide.{HaveTaken, IsWideReady, HasRunWide, AreReplaysFrom, HasBegun, HaveBegun};
 
 use crate::starts::{Starts, no_starts};
@@ -43,11 +44,11 @@ fn count_cycle_wide(
     requires nets { All (λ s. All (λ u. u.net.0 < net_count h.now.net) s.upsets) list.now }
     requires t { All (λ s. t < length s.rows) list.now }
     requires limit { t < 1048576 }
-    requires ready { IsWideReady n.now.net h.now.net r.old }
+    requires ready { IsWideReady n.now.net h.now.net c.now r.old }
     requires taken { HaveTaken c.now list.now t runs.old.items }
     requires long { length o.old.items ≡ length list.now }
     requires bounded { All (λ a. CountsFit t a) o.old.items }
-    ensures ready { OnOk result (IsWideReady n.now.net h.now.net r.new) }
+    ensures ready { OnOk result (IsWideReady n.now.net h.now.net c.now r.new) }
     ensures taken { OnOk result (HaveTaken c.now list.now (t + 1) runs.new.items) }
     ensures long { OnOk result (length o.new.items ≡ length list.now) }
     ensures bounded { OnOk result (All (λ a. CountsFit (t + 1) a) o.new.items) }
@@ -120,6 +121,7 @@ pub fn replay_runs(
     requires nets { All (λ s. All (λ u. u.net.0 < net_count h.now.net) s.upsets) list.now }
     requires original { All (λ f. f.0.0 < net_count n.now.net) starts.now.original.items }
     requires hardened { All (λ f. f.0.0 < net_count h.now.net) starts.now.hardened.items }
+    requires registers { NamesNoTable n.now.net starts.now.original.items }
     ensures outcomes { IfOk result (λ v. AreReplaysFrom n.now.net h.now.net starts.now c.now list.now v.items) }
     ensures plain { OnOk result (All (λ s. IsPlainSchedule s) list.now) }
 {
@@ -128,7 +130,7 @@ pub fn replay_runs(
     free_traces_are_unique();
     let mut outcomes = start_outcomes(alloc, c, list)?;
     let mut runs = start_progress(alloc, c, list)?;
-    let mut running = start_runs(alloc, n, h, starts)?;
+    let mut running = start_runs(alloc, n, h, c, starts)?;
     for t in 0..list[0].cycles() {
         count_cycle_wide(n, h, c, list, t, &mut runs, &mut running, &mut outcomes)?;
     }

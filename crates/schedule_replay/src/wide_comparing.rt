@@ -7,6 +7,7 @@ ghost use Rattle.net_meaning.specs.Meaning.{row_at};
 ghost use Rattle.certificate.specs.Cert.{Fits, part_of};
 ghost use Rattle.schedule_replay.specs.declared.outcome.Outcome.{Outcome as AnOutcome};
 ghost use Rattle.schedule_replay.specs.declared.wide_rows.Progress.{Progress as AProgress};
+ghost use Rattle.schedule_replay.specs.Origins.{RunsBeside, IsCompared};
 ghost use Rattle.schedule_replay.specs.Outcome.{output_at, outputs_in, late_in, copies_wrong};
 ghost use Rattle.schedules.specs.Schedule.{PlainSchedule};
 ghost use Rattle.schedule_replay.specs.Wide.{AreToldQuiet, difference_in, wrong_in, late_in_run, is_told_quiet, HasNoted, Notes};
@@ -19,7 +20,7 @@ use crate::wide_rows::Progress;
 use crate::words::bit_of_run;
 use certificate::Certificate;
 use flat_net::FlatNet;
-use net_simulator::WideSim;
+use net_simulator::{TwinSim, WideSim};
 use tmr_base::{CopyNo, NetId, OutOfMemory, PartId};
 
 /// The words of a net of the original and of its three copies.
@@ -79,7 +80,7 @@ pub fn output_words(
     h: &FlatNet,
     i: u32,
     original: &WideSim,
-    hardened: &WideSim,
+    hardened: &TwinSim,
 ) -> FourWords
     requires i { i < length n.now.net.outputs }
     requires outputs { length h.now.net.outputs ≡ 3 * length n.now.net.outputs }
@@ -105,7 +106,7 @@ pub fn compare_outputs_wide(
     h: &FlatNet,
     t: u32,
     original: &WideSim,
-    hardened: &WideSim,
+    hardened: &TwinSim,
     o: &mut Vec<Outcome>,
 ) -> Result<(), OutOfMemory>
     requires outputs { length h.now.net.outputs ≡ 3 * length n.now.net.outputs }
@@ -170,14 +171,14 @@ fn late_runs(o: &mut Vec<Outcome>, w: &FourWords, runs: &[Progress], p: PartId, 
     }
 }
 
-/// Node x and its copies.
+/// Node x and its copies. Where these have its word, none of them is read.
 fn node_words(
     n: &FlatNet,
     h: &FlatNet,
     c: &Certificate,
     x: NetId,
     original: &WideSim,
-    hardened: &WideSim,
+    hardened: &TwinSim,
 ) -> FourWords
     requires fits { Fits n.now.net h.now.net c.now }
     requires low { length n.now.net.inputs ≤ x.0 }
@@ -186,12 +187,23 @@ fn node_words(
     requires hardened_net { hardened.now.net ≡ h.now.net }
     requires original { IsSome original.now.last }
     requires hardened { IsSome hardened.now.last }
+    requires beside { RunsBeside n.now.net h.now.net c.now hardened.now }
+    requires compared { IsCompared original.now hardened.now }
     ensures { (t j : ℕ) (tr ft : List (List Bool)) → option_map (bits_of j) original.now.last ≡ Some (row_at tr t) → option_map (bits_of j) hardened.now.last ≡ Some (row_at ft t) → wrong_in result j ≡ copies_wrong c.now tr ft t x.0 }
 {
-    // Both designs stand for what the certificate fits.
-    let _known = (n.input_count(), h.input_count());
+    // Both designs stand for what the certificate fits, and it for itself.
+    let _known = (n.input_count(), h.input_count(), c.hardened_inputs());
+    let own = original.value(x);
+    if !hardened.may_differ(x) {
+        return FourWords {
+            original: own,
+            first: own,
+            second: own,
+            third: own,
+        };
+    }
     FourWords {
-        original: original.value(x),
+        original: own,
         first: hardened.value(c.copy(x, CopyNo::First)),
         second: hardened.value(c.copy(x, CopyNo::Second)),
         third: hardened.value(c.copy(x, CopyNo::Third)),
@@ -205,7 +217,7 @@ pub fn compare_nodes_wide(
     c: &Certificate,
     t: u32,
     original: &WideSim,
-    hardened: &WideSim,
+    hardened: &TwinSim,
     runs: &[Progress],
     o: &mut Vec<Outcome>,
 )
@@ -214,6 +226,8 @@ pub fn compare_nodes_wide(
     requires hardened_net { hardened.now.net ≡ h.now.net }
     requires original { IsSome original.now.last }
     requires hardened { IsSome hardened.now.last }
+    requires beside { RunsBeside n.now.net h.now.net c.now hardened.now }
+    requires compared { IsCompared original.now hardened.now }
     requires few { length o.old.items ≤ 64 }
     requires long { length runs.now ≡ length o.old.items }
     requires lasts { All (λ q. length q.lasts.items ≡ length c.now.depth) runs.now }

@@ -9,7 +9,7 @@ use Rattle.schedule_replay.proofs.wide.replay_runs.Given as goal
 
 abbrev pub invariant-loop-t : goal.invariant-loop-t
 invariant-loop-t l = record {
-  ready : IsWideReady l.n.net l.h.net l.running;
+  ready : IsWideReady l.n.net l.h.net l.c l.running;
   taken : HaveTaken l.c l.list l.t l.runs.items;
   long : length l.outcomes.items ≡ length l.list;
   bounded : All (λ a. CountsFit l.t a) l.outcomes.items;

@@ -1,4 +1,7 @@
-use Rattle.std.proofs.Common.{◌<◌, ◌∙◌, Bool, List, sym, ap, subst, arith}
+use Rattle.std.proofs.Common.{◌<◌, ◌∙◌, ℕ, Bool, List, length, sym, ap, subst, arith}
+use Rattle.std.proofs.lemmas.List.{length-map}
+use Rattle.flat_net.specs.Nodes.{number_of}
+use Rattle.schedule_replay.specs.Origins.{CopiesStandFor}
 use Rattle.std.specs.Prelude.{All, option_map}
 use Rattle.tmr_base.specs.declared.ids.NetId.{NetId}
 use Rattle.table_cover.specs.Words.{bits_of}
@@ -14,6 +17,12 @@ returns-clause-ready c = record {
   spread = let e = c.in_ok-spread.ensures in omega arith;
   original_range = c.in_ok-original_starts.ensures.nets (net_count c.args.n.now.net) (subst (λ (fs : List (NetId × Bool)). All (λ f. f.0.0 < net_count c.args.n.now.net) fs) (sym c.deref.ensures.value) c.requires.original);
   hardened_range = c.in_ok-hardened_starts.ensures.nets (net_count c.args.h.now.net) (subst (λ (fs : List (NetId × Bool)). All (λ f. f.0.0 < net_count c.args.h.now.net) fs) (sym c.deref-2.ensures.value) c.requires.hardened);
+  beside = record {
+    original = c.in_ok-hardened.ensures.original;
+    long = ap length c.in_ok-hardened.ensures.origins ∙ (length-map c.in_ok-origins.origins.items number_of ∙ c.in_ok-origins.ensures.long);
+    copies = subst (λ (os : List ℕ). CopiesStandFor c.args.n.now.net c.args.c.now os) (sym c.in_ok-hardened.ensures.origins) c.in_ok-origins.ensures.copies;
+  };
+  registers = λ j x l table. c.in_ok-original_starts.ensures.forced j x l ∙ (ap (λ (fs : List (NetId × Bool)). forced_to fs x) c.deref.ensures.value ∙ c.requires.registers x table);
 }
 
 pub returns-clause-begun : goal.returns-clause-begun
