@@ -4,10 +4,10 @@
 //! `harden_free` does so with a certificate of version 2, and `harden_deep` in either version with a bound on depths.
 //! `harden_form` does so for the lean form too, whose partitions cost no more and whose cut is that at registers.
 //!
-//! What is hard: nets have different numbers of voters, so a copy's number does not follow from its original's alone, and a pin may read a
-//! copy or a voter that is not made yet. So it is counted first where in the hardened design that begins which stands for each net, its copies
-//! and then its voters (`layout`). Each pin is then a sum (`pins`), and one pass over the nets makes all nodes, names and roles (`tripling`).
-//! No net is found by its name, and no order of tables is searched for: the original's serves, with inputs and registers first (`ordering`).
+//! What is hard: nets have different numbers of voters, so the number of a copy does not follow from its original's alone, and a pin may
+//! read a copy or a voter that is not made yet. So it is counted first where the copies and voters of each net begin (`layout`). Each pin is
+//! then a sum (`pins`), and one pass over the nets makes all nodes, names and roles (`tripling`). No net is found by its name, and no order
+//! of tables is searched for: the original's serves, with inputs and registers first (`ordering`).
 #![tactic(auto)]
 
 mod assembling;
