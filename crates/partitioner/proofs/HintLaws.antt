@@ -167,7 +167,7 @@ any_weaker f g (y ∷ ys) h e = go (cases_Bool (f y)) (λ k. any_weaker f g ys h
     go (inr k) later = ap (λ (b : Bool). g y || b) (later (sym (ap (λ (b : Bool). b || list_any f ys) k) ∙ e)) ∙ or_true (g y)
 
 -- where some other node reads x, it is read
-kept_read : (n : Net) (of : List ℕ) (i x q : ℕ) → is_kept n of i x q ≡ true → 0 < reader_count n of x q
+pub kept_read : (n : Net) (of : List ℕ) (i x q : ℕ) → is_kept n of i x q ≡ true → 0 < reader_count n of x q
 unfolding reader_count
 kept_read n of i x q e =
     let some = any_weaker (λ y. not (eqb i y) && eqb (get_or of y 0) q) (λ y. eqb (get_or of y 0) q) (other_readers n x) (λ y h. (and_parts (not (eqb i y)) (eqb (get_or of y 0) q) h).1) e in

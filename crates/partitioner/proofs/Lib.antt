@@ -18,3 +18,7 @@ pub mod SetLaws
 pub mod SpotLaws
 pub mod RestLaws
 pub mod HintLaws
+pub mod LaneLaws
+pub mod MarkLaws
+pub mod NearLaws
+pub mod ScanLaws

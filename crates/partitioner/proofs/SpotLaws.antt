@@ -36,7 +36,7 @@ pub record NotesMoved (n : Net) (i b : ℕ) (old new : Spots) : Type 0 where
   pub nets : All (λ x. has new.nets b x ≡ true) (wide_sources n i)
 
 -- a reader where none was
-newly_read : (n : Net) (of : List ℕ) (i b x : ℕ) (P : ℕ → Type 0) → i < length of → i < length n.nodes → x < length n.nodes → is_wide n x ≡ true → (get_or of i 0 ≡ b → ⊥) → All P (wide_sources n i) → 0 < reader_count n (set of i b) x b → (0 < reader_count n of x b) ⊎ P x
+pub newly_read : (n : Net) (of : List ℕ) (i b x : ℕ) (P : ℕ → Type 0) → i < length of → i < length n.nodes → x < length n.nodes → is_wide n x ≡ true → (get_or of i 0 ≡ b → ⊥) → All P (wide_sources n i) → 0 < reader_count n (set of i b) x b → (0 < reader_count n of x b) ⊎ P x
 newly_read n of i b x P l l' m wide apart all some = go (cases_Bool (reads_other n i x)) (reader_count_moved n of i b x b l l')
   where
     go : (reads_other n i x ≡ true) ⊎ (reads_other n i x ≡ false) → reader_count n (set of i b) x b + one_if (reads_other n i x && eqb (get_or of i 0) b) ≡ reader_count n of x b + one_if (reads_other n i x && eqb b b) → (0 < reader_count n of x b) ⊎ P x
@@ -49,7 +49,7 @@ newly_read n of i b x P l l' m wide apart all some = go (cases_Bool (reads_other
         inl (omega (arith, moved, none, some))
 
 -- elsewhere readers are not more
-still_read : (n : Net) (of : List ℕ) (i b x q : ℕ) → i < length of → i < length n.nodes → (b ≡ q → ⊥) → 0 < reader_count n (set of i b) x q → 0 < reader_count n of x q
+pub still_read : (n : Net) (of : List ℕ) (i b x q : ℕ) → i < length of → i < length n.nodes → (b ≡ q → ⊥) → 0 < reader_count n (set of i b) x q → 0 < reader_count n of x q
 still_read n of i b x q l l' ne some =
     let moved = reader_count_moved n of i b x q l l' in
     let none : one_if (reads_other n i x && eqb b q) ≡ 0 = ap (λ (c : Bool). one_if (reads_other n i x && c)) (ne_eqb b q ne) ∙ no (reads_other n i x) in

@@ -10,3 +10,6 @@ pub mod Gaining
 pub mod Ready
 pub mod Resting
 pub mod Hinting
+pub mod Marks
+pub mod Lanes
+pub mod Scanning

@@ -2,5 +2,6 @@
 
 pub mod gains;
 pub mod hints;
+pub mod lanes;
 pub mod losses;
 pub mod pairs;

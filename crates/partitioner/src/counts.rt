@@ -1,6 +1,8 @@
 //! What is counted beside a partitioning.
 
 pub mod counting;
+pub mod marking;
+pub mod marks;
 pub mod partitioning;
 pub mod sets;
 pub mod spots;

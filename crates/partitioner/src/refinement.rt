@@ -5,3 +5,4 @@ pub mod moving;
 pub mod placing;
 pub mod refining;
 pub mod resting;
+pub mod scanning;

@@ -8,6 +8,7 @@ ghost use Rattle.partitioner.specs.Reads.{AreReads};
 ghost use Rattle.partitioner.specs.Private.Tracking.{IsPlaced, Tracks, held_parts, placed_parts, reader_count};
 
 use crate::counts::counting::{count_at, set_count};
+use crate::counts::marking::marks_of;
 use crate::counts::partitioning::{Partitioning, Placed};
 use crate::reading::{Reads, Sources, reads_of, sorted_sources};
 use flat_net::{FlatNet, nodes_of};
@@ -124,6 +125,7 @@ pub fn tracked(alloc: Global, n: &FlatNet, placed: Placed) -> Result<Partitionin
     let Reads { readers, sources } = reads;
     let Sources { rows, wide } = sorted_sources(alloc, n, &readers, sources)?;
     let counts = counts_of(alloc, n, &readers, of.as_slice())?;
+    let marks = marks_of(alloc, n, &readers, of.as_slice(), count)?;
     Ok(Partitioning {
         count,
         of,
@@ -132,6 +134,7 @@ pub fn tracked(alloc: Global, n: &FlatNet, placed: Placed) -> Result<Partitionin
         wide,
         held,
         counts,
+        marks,
     })
 }
 

@@ -9,6 +9,7 @@ ghost use Rattle.partitioner.specs.Private.Moving.{Shifts};
 ghost use Rattle.partitioner.specs.Private.Spotting.{AreSpots};
 
 use crate::counts::counting::{count_at, set_count};
+use crate::counts::marking::{mark_row, unmark_left};
 use crate::counts::partitioning::Partitioning;
 use crate::counts::spots::{Spots, leave_spots, note_spots, open_spots, shut_spots};
 use crate::refinement::placing::{has_room, part_of};
@@ -64,6 +65,8 @@ fn put_node(n: &FlatNet, p: &mut Partitioning, i: u32, b: u32) -> Result<(), Out
     shift_counts(&mut p.counts, p.wide.row(i), a, b)?;
     shift_held(&mut p.held, a, b);
     p.of[i as usize] = b;
+    p.marks.mark(i, b);
+    mark_row(&mut p.marks, p.wide.row(i), b);
     Ok(())
 }
 
@@ -94,5 +97,6 @@ pub fn move_to(
     let is_full = !has_room(n, p, size, b);
     shut_spots(&mut spots.free, &spots.nets, b, nodes, is_full);
     leave_spots(n, p, spots, size, p.wide.row(i), a);
+    unmark_left(n, p, i, a);
     Ok(())
 }

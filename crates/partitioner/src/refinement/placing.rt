@@ -17,6 +17,7 @@ use crate::costs::hints::{Tallies, count_hints, least_in, no_hints};
 use crate::costs::losses::loss_up_to;
 use crate::counts::partitioning::{Partitioning, Placed};
 use crate::counts::spots::Spots;
+use crate::refinement::scanning::{consider_blocks, is_scanned};
 use flat_net::FlatNet;
 use node_reads::is_wide;
 
@@ -68,7 +69,7 @@ fn is_settled(lead: Lead, start: u32, tried: u64) -> bool
 }
 
 /// The lead after partition q is tried for node i.
-fn consider(
+pub fn consider(
     n: &FlatNet,
     p: &Partitioning,
     gains: &Gains,
@@ -308,6 +309,9 @@ fn best_place(
     for x in p.sources.row(i) {
         if is_settled(lead, start, tried) {
             return lead.place;
+        }
+        if tried > u64::from(gains.counted) && is_scanned(n, p, gains, i) {
+            return consider_blocks(n, p, gains, size, i, lead).place;
         }
         lead = consider_source(n, p, spots, gains, hints, size, i, lead, *x, tried);
         tried += 1;

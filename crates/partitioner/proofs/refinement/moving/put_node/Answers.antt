@@ -8,6 +8,8 @@ use Rattle.partitioner.specs.Private.Counting.{count_at}
 use Rattle.partitioner.specs.Private.Moving.{Shifts}
 use Rattle.partitioner.specs.Sizes.{held}
 use Rattle.node_reads.proofs.WideRows.{wide_below, wide_read, wide_pass}
+use Rattle.partitioner.specs.Private.Marks.{is_marked}
+use Rattle.partitioner.proofs.NearLaws.{marks_moved}
 use Rattle.partitioner.proofs.HeldLaws.{held_some, held_shifted, held_moved}
 use Rattle.partitioner.proofs.ShiftLaws.{wide_once, source_counted, readers_within, counts_moved}
 use Rattle.partitioner.proofs.refinement.moving.put_node.Goals as goal
@@ -74,4 +76,13 @@ returns-clause-tracks c =
           let now : get_or (set (set p.held.items (get_or of i 0) (get_or p.held.items (get_or of i 0) 0 - 1)) b (get_or p.held.items b 0 + 1)) q 0 ≡ held (set of i b) q = omega (arith, shifted, moved, was) in
           ap (λ (h : List ℕ). get_or h q 0) holds ∙ now;
       counts = λ x q l m wide. counts_moved n of i b x q (count_at p.counts) (count_at c.shift_counts.new.counts) within c.requires.node l wide (tracks.counts x q l m wide) shifts;
+      marks = marks_moved n of p.count i b p.marks c.mark_row.new.marks within c.requires.node c.requires.partition c.requires.apart tracks.marks (c.mark_row.ensures.long ∙ c.mark.ensures.long)
+          (λ z. c.mark_row.ensures.rows z ∙ c.mark.ensures.rows z) (λ z r h. c.mark_row.ensures.kept z r (c.mark.ensures.kept z r h)) (c.mark_row.ensures.kept i b c.mark.ensures.added)
+          (subst (λ (row : List ℕ). All (λ x. is_marked c.mark_row.new.marks x b ≡ true) row) (c.row-2.ensures ∙ tracks.wide i c.requires.node) c.mark_row.ensures.row);
     }
+
+pub mark_row-requires : goal.mark_row-requires
+mark_row-requires c =
+    let row : c.row-2.result.now ≡ wide_sources c.args.n.now.net c.args.i = c.row-2.ensures ∙ c.requires.tracks.wide c.args.i c.requires.node in
+    subst (λ (bound : ℕ). All (λ x. x < bound) c.row-2.result.now) (sym (c.mark.ensures.long ∙ c.requires.tracks.marks.long))
+    (subst (λ (xs : List ℕ). All (λ x. x < length c.args.n.now.net.nodes) xs) (sym row) (wide_below c.args.n.now.net c.args.i))

@@ -2,7 +2,7 @@ use Rattle.std.proofs.Common.{◌≡◌, ◌+◌, ◌∙◌, ℕ, true, List, sy
 use Rattle.node_reads.specs.Sources.{other_sources}
 use Rattle.partitioner.specs.Private.Leading.{LeadsOrLoses, is_settled, start_of}
 use Rattle.partitioner.proofs.LossLaws.{sources_below}
-use Rattle.partitioner.proofs.PlaceLaws.{settled_place, exhausted_place, readers_tried, source_tried, missed_loses}
+use Rattle.partitioner.proofs.PlaceLaws.{settled_place, exhausted_place, readers_tried, source_tried, missed_loses, all_place}
 use Rattle.partitioner.proofs.refinement.placing.best_place.Goals as goal
 
 pub loop-x-init : goal.loop-x-init
@@ -41,3 +41,7 @@ consider_source-lead-requires-clause-least c = λ q h room.
     let perm : IsPermutation (other_sources c.args.n.now.net c.args.i) c.row-x-items.result.now = subst (λ (row : List ℕ). IsPermutation (other_sources c.args.n.now.net c.args.i) row) (sym c.row-x-items.ensures) (c.requires.counted.tracks.sources c.args.i c.requires.counted.node) in
     subst (λ (tried : ℕ). LeadsOrLoses c.args.n.now.net c.args.p.now c.args.i c.loop-x.lead.place tried q) (sym c.loop-x.invariant.2)
     (missed_loses c.args.n.now.net c.args.size c.args.p.now c.args.i c.loop-x.lead.place c.row-x-items.result.now c.loop-x.x-index perm c.loop-x.invariant.1 q h room)
+
+pub returns-then-is_scanned-clause-place : goal.returns-then-is_scanned-clause-place
+returns-then-is_scanned-clause-place c =
+    all_place c.args.n.now.net c.args.size c.args.p.now c.args.i c.consider_blocks.result c.requires.counted.tracks c.requires.counted.node c.consider_blocks.ensures.lead c.consider_blocks.ensures.tried
