@@ -4,7 +4,7 @@ use Rattle.std.specs.Prelude.{find, option_map, flat_map}
 use Rattle.std.specs.Option.{option_or}
 use Rattle.std.specs.Str.{bytes_eq}
 use Rattle.std.proofs.lemmas.Bool.{eqb-true, eq-eqb, false_from_ne_true}
-use Rattle.std.proofs.lemmas.List.{take-append-le, take_all, length-take, append-nil, append_assoc, take_more, map-append, take-append-drop}
+use Rattle.std.proofs.lemmas.List.{length-take, append-nil, append_assoc, take_more, map-append, take-append-drop}
 use Rattle.std.proofs.lemmas.List.Folds.{find-append}
 use Rattle.std.proofs.lemmas.Slice.Eq.{bytes_eq-Decides}
 use Rattle.tmr_base.specs.declared.ids.Edge.{Edge}

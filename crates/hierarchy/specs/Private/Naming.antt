@@ -7,7 +7,7 @@ use Rattle.blif_text.specs.Models.{PlainModel}
 use Rattle.hierarchy.specs.declared.walking.naming.NamingFault.{NamingFault}
 use Rattle.hierarchy.specs.declared.walking.naming.NamingFault.TheVariants.{Clash, Memory}
 
--- no model holds as many statements as a path's number would tell of
+-- these may be numbers of statements, of which no model holds 2^64
 abbrev pub AreSmall : List ℕ → Type 0
 AreSmall path = All (λ number. number < 2 ^ 64) path
 

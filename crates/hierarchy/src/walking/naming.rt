@@ -2,7 +2,7 @@
 ghost use Rattle.std.specs.Prelude.{◌≡◌, ◌≤◌, ◌++◌, ◌∷◌, [], List, false, length, map, take, IfOk, OnOk, IfErr};
 ghost use Rattle.std.specs.Str.{bytes_eq};
 ghost use Rattle.indexmap.specs.IndexMap.{get};
-ghost use Rattle.library_faults.specs.Flat.{PlacedNet, path_text, net_text, named_control, resolved_control};
+ghost use Rattle.library_faults.specs.Flat.{PlacedNet, step, path_text, net_text, named_control, resolved_control};
 ghost use Rattle.hierarchy.specs.Clash.{control_nets, is_taken};
 ghost use Rattle.hierarchy.specs.Private.Naming.{AreSmall, IsNamed, AreNamed, IsNamingFault};
 ghost use Rattle.hierarchy.specs.Private.Walk.{IsPlace, levels_at, net_at};
@@ -11,7 +11,7 @@ ghost use Rattle.hierarchy.specs.declared.walking.naming.NamingFault.TheVariants
 use crate::walking::resolve::resolve;
 use crate::walking::walk::Place;
 use indexmap::IndexMap;
-use library_faults::step_text;
+use itoa::Buffer;
 use std::alloc::{AllocError, AllocFailed, Global};
 use tmr_base::{Edge, Name, NameFault, OutOfMemory};
 
@@ -48,12 +48,24 @@ impl<T: Drop> From<AllocFailed<T>> for NamingFault {
     }
 }
 
+/// Puts the text of a number on a path.
+#[tactic(auto, unfolding(library_faults::specs::Flat::step))]
+fn put_step(out: &mut Vec<u8>, number: usize) -> Result<(), AllocError>
+    ensures { OnOk result (out.new.items ≡ out.old.items ++ step number) }
+{
+    let mut digits = Buffer::new();
+    out.push(b'u')?;
+    out.extend_from_slice(digits.format(number).as_bytes())?;
+    out.push(b'/')?;
+    Ok(())
+}
+
 /// Puts the text of a path.
-fn put_path(alloc: Global, out: &mut Vec<u8>, path: &[usize]) -> Result<(), AllocError>
+fn put_path(out: &mut Vec<u8>, path: &[usize]) -> Result<(), AllocError>
     ensures { OnOk result (out.new.items ≡ out.old.items ++ path_text path.now) }
 {
     for number in path {
-        out.extend_from_slice(step_text(alloc, *number)?.as_bytes())?;
+        put_step(out, *number)?;
     }
     Ok(())
 }
@@ -67,7 +79,7 @@ fn net_name(alloc: Global, path: &[usize], end: usize, name: &Name) -> Result<Na
 {
     let bytes = name.bytes();
     let mut text = Vec::new(alloc);
-    put_path(alloc, &mut text, &path[..end])?;
+    put_path(&mut text, &path[..end])?;
     text.extend_from_slice(bytes)?;
     match Name::read(alloc, &text) {
         Ok(name) => Ok(name),
