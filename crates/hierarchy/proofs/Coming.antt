@@ -9,16 +9,14 @@ use Rattle.blif_text.specs.Library.{name_of}
 use Rattle.hierarchy.specs.declared.walking.walk.Frame.{Frame}
 use Rattle.hierarchy.specs.declared.walking.walk.Walk.{Walk}
 use Rattle.library_faults.specs.Graph.{names_of, number_named, model_named}
-use Rattle.library_faults.specs.Flat.{Level, NetElement, no_model, step, path_of, actual_of, resolve}
-use Rattle.hierarchy.specs.Private.Texts.{elements_with, elements_to}
+use Rattle.library_faults.specs.Flat.{Level, NetElement, no_model, path_of, actual_of, resolve, elements_with, elements_to}
 use Rattle.hierarchy.specs.Private.Bindings.{target_of, bindings_of}
 use Rattle.hierarchy.specs.Private.Walk.{bound_by, level_of, rest_of, coming_from, known_net, AreFrames, AreKnown, moves_with, moves_to, moves_from}
 use Rattle.library_faults.specs.Private.Models.{IsInstance, model_at, no_element, element_at}
 use Rattle.library_faults.proofs.GraphLaws.{number_within}
 use Rattle.wrapper_chains.specs.Bare.{AreBare, filled}
 use Rattle.wrapper_chains.specs.Private.Placed.{placed_element}
-use Rattle.wrapper_chains.proofs.BareLaws.{nothing_placed}
-use Rattle.hierarchy.proofs.BareTexts.{nothing_to}
+use Rattle.wrapper_chains.proofs.BareLaws.{nothing_placed, nothing_to}
 
 -- ---- paths that begin alike
 
@@ -97,7 +95,7 @@ placed_name (Table pins out cover) = []
 placed_name (Register pin out control init) = []
 placed_name (Instance model bindings) = model
 
-pub instance_first : (inner : List Level → List ℕ → List NetElement) (levels : List Level) (number : ℕ) (e : PlainElement) (rest : List PlainElement) → IsInstance e → elements_with inner levels number (e ∷ rest) ≡ inner (record { path = path_of levels ++ step number; bindings = bindings_of e } ∷ levels) (placed_name e) ++ elements_with inner levels (number + 1) rest
+pub instance_first : (inner : List Level → List ℕ → List NetElement) (levels : List Level) (number : ℕ) (e : PlainElement) (rest : List PlainElement) → IsInstance e → elements_with inner levels number (e ∷ rest) ≡ inner (record { path = path_of levels ++ number ∷ []; bindings = bindings_of e } ∷ levels) (placed_name e) ++ elements_with inner levels (number + 1) rest
 unfolding elements_with placed_name
 instance_first inner levels number (Table pins out cover) rest i = absurd i
 instance_first inner levels number (Register pin out control init) rest i = absurd i
@@ -110,9 +108,9 @@ instance_moves inner (Register pin out control init) rest i = absurd i
 instance_moves inner (Instance model bindings) rest i = refl
 
 -- the statement comes first, and then the rest
-pub placing_step : (library : List PlainModel) (path : List ℕ) (f g : Frame) (fs : List Frame) → f.next < length (model_at library f.model).elements → IsInstance (element_at library f.model f.next) → g ≡ record f { next = f.next + 1; number = f.number + 1 } → coming_from library path (f ∷ fs) ≡ elements_to library (length library - length fs) (record { path = take f.path_end path ++ step f.number; bindings = bindings_of (element_at library f.model f.next) } ∷ map (level_of library path) (f ∷ fs)) (placed_name (element_at library f.model f.next)) ++ coming_from library path (g ∷ fs)
+pub placing_step : (library : List PlainModel) (path : List ℕ) (f g : Frame) (fs : List Frame) → f.next < length (model_at library f.model).elements → IsInstance (element_at library f.model f.next) → g ≡ record f { next = f.next + 1; number = f.number + 1 } → coming_from library path (f ∷ fs) ≡ elements_to library (length library - length fs) (record { path = take f.path_end path ++ f.number ∷ []; bindings = bindings_of (element_at library f.model f.next) } ∷ map (level_of library path) (f ∷ fs)) (placed_name (element_at library f.model f.next)) ++ coming_from library path (g ∷ fs)
 unfolding coming_from
-placing_step library path f g fs below i is = rw is (rw (cut library f below, instance_first _ _ f.number (element_at library f.model f.next) (drop (f.next + 1) (model_at library f.model).elements) i) (append_assoc (elements_to library (length library - length fs) (record { path = take f.path_end path ++ step f.number; bindings = bindings_of (element_at library f.model f.next) } ∷ map (level_of library path) (f ∷ fs)) (placed_name (element_at library f.model f.next))) _ _))
+placing_step library path f g fs below i is = rw is (rw (cut library f below, instance_first _ _ f.number (element_at library f.model f.next) (drop (f.next + 1) (model_at library f.model).elements) i) (append_assoc (elements_to library (length library - length fs) (record { path = take f.path_end path ++ f.number ∷ []; bindings = bindings_of (element_at library f.model f.next) } ∷ map (level_of library path) (f ∷ fs)) (placed_name (element_at library f.model f.next))) _ _))
 
 module _ (library : List PlainModel) (holds : List Bool) (bare : AreBare library holds) where
   -- what has no target has no elements
@@ -168,13 +166,13 @@ pair : {X : Type 0} (a b : X) (c d : List X) → a ≡ b → c ≡ d → a ∷ c
 pair a b c d e f = cc
 
 -- the placed model comes before the rest
-pub entered : (library : List PlainModel) (path other : List ℕ) (f g h : Frame) (fs : List Frame) (y : ℕ) → AreFrames library (length path) (f ∷ fs) → f.next < length (model_at library f.model).elements → IsInstance (element_at library f.model f.next) → length fs < length library → model_named library (placed_name (element_at library f.model f.next)) ≡ Some (model_at library y) → g ≡ record f { next = f.next + 1; number = f.number + 1 } → h ≡ record { model = y; next = 0; number = 0; placing = Some (f.model, f.next); path_end = length other } → other ≡ take f.path_end path ++ step f.number → coming_from library path (f ∷ fs) ≡ coming_from library other (h ∷ g ∷ fs)
+pub entered : (library : List PlainModel) (path other : List ℕ) (f g h : Frame) (fs : List Frame) (y : ℕ) → AreFrames library (length path) (f ∷ fs) → f.next < length (model_at library f.model).elements → IsInstance (element_at library f.model f.next) → length fs < length library → model_named library (placed_name (element_at library f.model f.next)) ≡ Some (model_at library y) → g ≡ record f { next = f.next + 1; number = f.number + 1 } → h ≡ record { model = y; next = 0; number = 0; placing = Some (f.model, f.next); path_end = length other } → other ≡ take f.path_end path ++ f.number ∷ [] → coming_from library path (f ∷ fs) ≡ coming_from library other (h ∷ g ∷ fs)
 entered library path other f g h fs y a below i deep named is_g is_h is_other =
     placing_step library path f g fs below i is_g
     ∙ (join _ _ _ _ first come ∙ sym (one_more library other h (g ∷ fs)))
   where
     same : (e : ℕ) → e ≤ f.path_end → take e path ≡ take e other
-    same e l = rw is_other (cut_same path (step f.number) f.path_end e l a.0)
+    same e l = rw is_other (cut_same path (f.number ∷ []) f.path_end e l a.0)
 
     frames_g : AreFrames library f.path_end (g ∷ fs)
     frames_g = rw is_g ((omega arith, (let n = a.1 in omega arith), a.2, a.3, a.4))
@@ -185,24 +183,24 @@ entered library path other f g h fs y a below i deep named is_g is_h is_other =
     come : coming_from library path (g ∷ fs) ≡ coming_from library other (g ∷ fs)
     come = come_same library path other f.path_end (g ∷ fs) frames_g same
 
-    whole : take (length other) other ≡ take f.path_end path ++ step f.number
+    whole : take (length other) other ≡ take f.path_end path ++ f.number ∷ []
     whole = take_all (length other) other (omega arith) ∙ is_other
 
-    head : record { path = take f.path_end path ++ step f.number; bindings = bindings_of (element_at library f.model f.next) } ≡ level_of library other h
+    head : record { path = take f.path_end path ++ f.number ∷ []; bindings = bindings_of (element_at library f.model f.next) } ≡ level_of library other h
     head = rw is_h (ap (λ p. record { path = p; bindings = bindings_of (element_at library f.model f.next) }) (sym whole))
 
-    first : elements_to library (length library - length fs) (record { path = take f.path_end path ++ step f.number; bindings = bindings_of (element_at library f.model f.next) } ∷ map (level_of library path) (f ∷ fs)) (placed_name (element_at library f.model f.next)) ≡ rest_of library (length library - length (g ∷ fs)) (map (level_of library other) (h ∷ g ∷ fs)) h
+    first : elements_to library (length library - length fs) (record { path = take f.path_end path ++ f.number ∷ []; bindings = bindings_of (element_at library f.model f.next) } ∷ map (level_of library path) (f ∷ fs)) (placed_name (element_at library f.model f.next)) ≡ rest_of library (length library - length (g ∷ fs)) (map (level_of library other) (h ∷ g ∷ fs)) h
     first =
-        ap (λ d. elements_to library d (record { path = take f.path_end path ++ step f.number; bindings = bindings_of (element_at library f.model f.next) } ∷ map (level_of library path) (f ∷ fs)) (placed_name (element_at library f.model f.next))) (depth_more (length library) (length fs) deep)
+        ap (λ d. elements_to library d (record { path = take f.path_end path ++ f.number ∷ []; bindings = bindings_of (element_at library f.model f.next) } ∷ map (level_of library path) (f ∷ fs)) (placed_name (element_at library f.model f.next))) (depth_more (length library) (length fs) deep)
         ∙ (ap (λ ls. elements_to library (suc (length library - suc (length fs))) ls (placed_name (element_at library f.model f.next))) (pair _ _ _ _ head tail)
         ∙ (into library (length library - suc (length fs)) y (map (level_of library other) (h ∷ g ∷ fs)) (placed_name (element_at library f.model f.next)) named
         ∙ sym (rest_new library (length library - suc (length fs)) (map (level_of library other) (h ∷ g ∷ fs)) h y (Some (f.model, f.next)) (length other) is_h)))
 
-pub entered_frames : (library : List PlainModel) (path other : List ℕ) (f g h : Frame) (fs : List Frame) (y : ℕ) → AreFrames library (length path) (f ∷ fs) → f.next < length (model_at library f.model).elements → y < length library → g ≡ record f { next = f.next + 1; number = f.number + 1 } → h ≡ record { model = y; next = 0; number = 0; placing = Some (f.model, f.next); path_end = length other } → other ≡ take f.path_end path ++ step f.number → AreFrames library (length other) (h ∷ g ∷ fs)
+pub entered_frames : (library : List PlainModel) (path other : List ℕ) (f g h : Frame) (fs : List Frame) (y : ℕ) → AreFrames library (length path) (f ∷ fs) → f.next < length (model_at library f.model).elements → y < length library → g ≡ record f { next = f.next + 1; number = f.number + 1 } → h ≡ record { model = y; next = 0; number = 0; placing = Some (f.model, f.next); path_end = length other } → other ≡ take f.path_end path ++ f.number ∷ [] → AreFrames library (length other) (h ∷ g ∷ fs)
 entered_frames library path other f g h fs y a below known is_g is_h is_other = rw (is_h, is_g) ((omega arith, omega arith, known, (a.2, below), (longer, (let n = a.1 in omega arith), a.2, a.3, a.4)))
   where
     longer : f.path_end ≤ length other
-    longer = rw is_other (let h = a.0 in omega (arith, length-append (take f.path_end path) (step f.number), length-take f.path_end path))
+    longer = rw is_other (let h = a.0 in omega (arith, length-append (take f.path_end path) (f.number ∷ []), length-take f.path_end path))
 
 -- what was known of outer placed models stays right, since their paths stay
 known_same : (library : List PlainModel) (path other : List ℕ) (bound : ℕ) (fs : List Frame) (known later : ℕ → List ℕ → Option (ℕ × List ℕ)) → AreFrames library bound fs → ((e : ℕ) → e ≤ bound → take e path ≡ take e other) → ((k : ℕ) → k < length fs → later k ≡ known k) → AreKnown library path known fs → AreKnown library other later fs
@@ -215,7 +213,7 @@ known_same library path other bound (f ∷ fs) known later a same kept right = (
     go : (name : List ℕ) (end : ℕ) (net : List ℕ) → (end ≤ f.path_end) × (resolve (map (level_of library path) (f ∷ fs)) name ≡ record { path = take end path; name = net }) → (end ≤ f.path_end) × (resolve (map (level_of library other) (f ∷ fs)) name ≡ record { path = take end other; name = net })
     go name end net (low, is) = (low, ap (λ ls. resolve ls name) (sym (views library path other bound (f ∷ fs) a same)) ∙ (is ∙ ap (λ p. record { path = p; name = net }) (same end (let h = a.0 in omega arith))))
 
-pub entered_known : (library : List PlainModel) (path other : List ℕ) (f g h : Frame) (fs : List Frame) (y : ℕ) (old w : Walk) (nets : List ℕ → Option (ℕ × List ℕ)) → AreFrames library (length path) (f ∷ fs) → AreKnown library path (known_net old) (f ∷ fs) → ((k : ℕ) → k < suc (length fs) → known_net w k ≡ known_net old k) → ((name : List ℕ) (end : ℕ) (net : List ℕ) → known_net w (suc (length fs)) name ≡ Some (end, net) → nets name ≡ Some (end, net)) → other ≡ take f.path_end path ++ step f.number → g ≡ record f { next = f.next + 1; number = f.number + 1 } → h ≡ record { model = y; next = 0; number = 0; placing = Some (f.model, f.next); path_end = length other } → ((name : List ℕ) (end : ℕ) (net : List ℕ) → nets name ≡ Some (end, net) → (actual : List ℕ) × (actual_of (bound_by library (Some (f.model, f.next))) name ≡ Some actual) × (end ≤ f.path_end) × (resolve (map (level_of library path) (f ∷ fs)) actual ≡ record { path = take end path; name = net })) → AreKnown library other (known_net w) (h ∷ g ∷ fs)
+pub entered_known : (library : List PlainModel) (path other : List ℕ) (f g h : Frame) (fs : List Frame) (y : ℕ) (old w : Walk) (nets : List ℕ → Option (ℕ × List ℕ)) → AreFrames library (length path) (f ∷ fs) → AreKnown library path (known_net old) (f ∷ fs) → ((k : ℕ) → k < suc (length fs) → known_net w k ≡ known_net old k) → ((name : List ℕ) (end : ℕ) (net : List ℕ) → known_net w (suc (length fs)) name ≡ Some (end, net) → nets name ≡ Some (end, net)) → other ≡ take f.path_end path ++ f.number ∷ [] → g ≡ record f { next = f.next + 1; number = f.number + 1 } → h ≡ record { model = y; next = 0; number = 0; placing = Some (f.model, f.next); path_end = length other } → ((name : List ℕ) (end : ℕ) (net : List ℕ) → nets name ≡ Some (end, net) → (actual : List ℕ) × (actual_of (bound_by library (Some (f.model, f.next))) name ≡ Some actual) × (end ≤ f.path_end) × (resolve (map (level_of library path) (f ∷ fs)) actual ≡ record { path = take end path; name = net })) → AreKnown library other (known_net w) (h ∷ g ∷ fs)
 unfolding resolve
 entered_known library path other f g h fs y old w nets a known kept grown is_other is_g is_h right = rw (is_h, is_g) (
   (λ name end net e. go name end net (right name end net (grown name end net e))),
@@ -226,11 +224,11 @@ entered_known library path other f g h fs y old w nets a known kept grown is_oth
     own = (omega arith, a.1, a.2, a.3, a.4)
 
     same : (e : ℕ) → e ≤ f.path_end → take e path ≡ take e other
-    same e l = cut_same path (step f.number) f.path_end e l a.0 ∙ ap (take e) (sym is_other)
+    same e l = cut_same path (f.number ∷ []) f.path_end e l a.0 ∙ ap (take e) (sym is_other)
 
     go : (name : List ℕ) (end : ℕ) (net : List ℕ) → (actual : List ℕ) × (actual_of (bound_by library (Some (f.model, f.next))) name ≡ Some actual) × (end ≤ f.path_end) × (resolve (map (level_of library path) (f ∷ fs)) actual ≡ record { path = take end path; name = net }) → (end ≤ length other) × (resolve (record { path = take (length other) other; bindings = bound_by library (Some (f.model, f.next)) } ∷ map (level_of library other) (f ∷ fs)) name ≡ record { path = take end other; name = net })
     go name end net (actual, bound, low, is) = (
-      (let h = a.0 in omega (arith, ap length is_other, length-append (take f.path_end path) (step f.number), length-take f.path_end path)),
+      (let h = a.0 in omega (arith, ap length is_other, length-append (take f.path_end path) (f.number ∷ []), length-take f.path_end path)),
       ap (λ o. option_map_or (resolve (map (level_of library other) (f ∷ fs))) o (record { path = take (length other) other; name = name })) bound
           ∙ (ap (λ ls. resolve ls actual) (sym (views library path other f.path_end (f ∷ fs) own same)) ∙ (is ∙ ap (λ p. record { path = p; name = net }) (same end low))),
     )

@@ -6,14 +6,13 @@ use Rattle.blif_text.specs.Models.{PlainElement, PlainModel}
 use Rattle.blif_text.specs.declared.library.BlifModel.{BlifModel}
 use Rattle.blif_text.specs.declared.library.Element.{Element}
 use Rattle.blif_text.specs.Views.{plain_model, plain_element}
-use Rattle.library_faults.specs.Flat.{Level, step, resolve, actual_of}
+use Rattle.library_faults.specs.Flat.{Level, resolve, actual_of, elements_to}
 use Rattle.library_faults.specs.Private.Models.{no_element, IsInstance, model_at, element_at}
 use Rattle.hierarchy.specs.declared.walking.walk.Frame.{Frame}
 use Rattle.hierarchy.specs.declared.walking.walk.Walk.{Walk}
 use Rattle.hierarchy.specs.declared.walking.bindings.Row.{Row}
 use Rattle.hierarchy.specs.declared.walking.bindings.Link.{Link}
 use Rattle.library_faults.specs.Graph.{names_of, model_named}
-use Rattle.hierarchy.specs.Private.Texts.{elements_to}
 use Rattle.hierarchy.specs.Private.Bindings.{target_of, bindings_of, Binds}
 use Rattle.wrapper_chains.specs.Bare.{AreBare}
 use Rattle.wrapper_chains.specs.Private.Placed.{placed_element}
@@ -21,7 +20,8 @@ use Rattle.indexmap.specs.IndexMap.{get}
 use mathlib.Core.Path.{fun_ext}
 use Rattle.std.specs.Prelude.{option_and_then}
 use Rattle.std.specs.Str.{bytes_eq}
-use Rattle.hierarchy.specs.Private.Walk.{innermost_first, AreWalked, AreReady, IsMoved, IsNext, IsPathText, IsWalking, IsNetWithin, AreKnown, known_net, bound_by, coming, coming_from, levels_of, level_of, moves}
+use Rattle.hierarchy.specs.Private.Naming.{AreSmall}
+use Rattle.hierarchy.specs.Private.Walk.{innermost_first, AreWalked, AreReady, IsMoved, IsNext, IsWalking, IsNetWithin, AreKnown, known_net, bound_by, coming, coming_from, levels_of, level_of, moves}
 use Rattle.library_faults.proofs.Models.{at_model}
 use Rattle.hierarchy.proofs.Coming.{placed_name, no_target, target_is, skipped, skipped_frames, passed_fewer, left, left_fewer, frames_weaken, passed, entered, entered_frames, entered_known, entered_fewer}
 use Rattle.hierarchy.proofs.PathTexts.{path_more}
@@ -55,7 +55,7 @@ pub passed_walking : (library : List PlainModel) (path : List ℕ) (f : Frame) (
 passed_walking library path f fs old w known_same a frames kept = walks library w path (record f { next = f.next + 1; number = f.number + 1 } ∷ fs) kept frames (record {
   frames_are = skipped_frames library (length path) f (record f { next = f.next + 1; number = f.number + 1 }) fs a.frames_are refl;
   known_are = subst (λ k. AreKnown library path k (f ∷ fs)) (sym (known_by old w known_same)) a.known_are;
-  text = a.text;
+  small = a.small;
 })
 
 pub moved_past : (library : List PlainModel) (path : List ℕ) (f : Frame) (fs : List Frame) (old w : Walk) → w.known.items ≡ old.known.items → AreWalked library path (known_net old) (f ∷ fs) → f.next < length (model_at library f.model).elements → IsInstance (element_at library f.model f.next) → innermost_first w ≡ record { model = f.model; next = f.next + 1; number = f.number + 1; placing = f.placing; path_end = f.path_end } ∷ fs → w.path.items ≡ path → ((levels : List Level) → elements_to library (length library - length fs) levels (placed_name (element_at library f.model f.next)) ≡ []) → IsMoved library path (f ∷ fs) w
@@ -65,13 +65,13 @@ moved_past library path f fs old w known_same a below i frames kept none = recor
   fewer = rw frames (passed_fewer library f (record f { next = f.next + 1; number = f.number + 1 }) fs below refl refl);
 }
 
-pub moved_into : (library : List PlainModel) (path : List ℕ) (f : Frame) (fs : List Frame) (middle : List Frame) (old w : Walk) (nets : List ℕ → Option (ℕ × List ℕ)) (y : ℕ) → ((k : ℕ) → k < suc (length fs) → known_net w k ≡ known_net old k) → ((name : List ℕ) (end : ℕ) (net : List ℕ) → known_net w (suc (length fs)) name ≡ Some (end, net) → nets name ≡ Some (end, net)) → ((name : List ℕ) (end : ℕ) (net : List ℕ) → nets name ≡ Some (end, net) → (actual : List ℕ) × (actual_of (bound_by library (Some (f.model, f.next))) name ≡ Some actual) × (end ≤ f.path_end) × (resolve (map (level_of library path) (f ∷ fs)) actual ≡ record { path = take end path; name = net })) → AreWalked library path (known_net old) (f ∷ fs) → f.next < length (model_at library f.model).elements → IsInstance (element_at library f.model f.next) → length fs < length library → (holds : List Bool) → AreBare library holds → target_of (names_of library) holds (element_at library f.model f.next) ≡ Some y → middle ≡ record { model = f.model; next = f.next + 1; number = f.number + 1; placing = f.placing; path_end = f.path_end } ∷ fs → innermost_first w ≡ record { model = y; next = 0; number = 0; placing = Some (f.model, f.next); path_end = length w.path.items } ∷ middle → w.path.items ≡ take f.path_end path ++ step f.number → f.number < 2 ^ 64 → IsMoved library path (f ∷ fs) w
+pub moved_into : (library : List PlainModel) (path : List ℕ) (f : Frame) (fs : List Frame) (middle : List Frame) (old w : Walk) (nets : List ℕ → Option (ℕ × List ℕ)) (y : ℕ) → ((k : ℕ) → k < suc (length fs) → known_net w k ≡ known_net old k) → ((name : List ℕ) (end : ℕ) (net : List ℕ) → known_net w (suc (length fs)) name ≡ Some (end, net) → nets name ≡ Some (end, net)) → ((name : List ℕ) (end : ℕ) (net : List ℕ) → nets name ≡ Some (end, net) → (actual : List ℕ) × (actual_of (bound_by library (Some (f.model, f.next))) name ≡ Some actual) × (end ≤ f.path_end) × (resolve (map (level_of library path) (f ∷ fs)) actual ≡ record { path = take end path; name = net })) → AreWalked library path (known_net old) (f ∷ fs) → f.next < length (model_at library f.model).elements → IsInstance (element_at library f.model f.next) → length fs < length library → (holds : List Bool) → AreBare library holds → target_of (names_of library) holds (element_at library f.model f.next) ≡ Some y → middle ≡ record { model = f.model; next = f.next + 1; number = f.number + 1; placing = f.placing; path_end = f.path_end } ∷ fs → innermost_first w ≡ record { model = y; next = 0; number = 0; placing = Some (f.model, f.next); path_end = length w.path.items } ∷ middle → w.path.items ≡ take f.path_end path ++ f.number ∷ [] → f.number < 2 ^ 64 → IsMoved library path (f ∷ fs) w
 moved_into library path f fs middle old w nets y deep_known grown nets_right a below i deep holds bare target mid frames longer small = record {
   same = rw (frames, mid) (sym (entered library path w.path.items f g h fs y a.frames_are below i deep found.1 refl refl longer));
   walking = walks library w w.path.items (h ∷ g ∷ fs) refl (frames ∙ ap (λ m. h ∷ m) mid) (record {
     frames_are = entered_frames library path w.path.items f g h fs y a.frames_are below found.0 refl refl longer;
     known_are = entered_known library path w.path.items f g h fs y old w nets a.frames_are a.known_are deep_known grown longer refl refl nets_right;
-    text = subst IsPathText (sym longer) (path_more path f.path_end f.number small a.text);
+    small = subst AreSmall (sym longer) (path_more path f.path_end f.number small a.small);
   });
   fewer = rw (frames, mid) (entered_fewer library f g h fs y (length w.path.items) below i deep found.1 refl refl);
 }
@@ -110,7 +110,7 @@ next_left library path f fs old w a kept frames left_frames same known_same all 
   walks library w path fs same left_frames (record {
     frames_are = frames_weaken library f.path_end (length path) fs walked.frames_are.0 walked.frames_are.4;
     known_are = subst (λ k. AreKnown library path k fs) (sym (known_by old w known_same)) walked.known_are.1;
-    text = walked.text;
+    small = walked.small;
   }),
   rw (left_frames, frames) (left_fewer library f fs all),
 )
@@ -135,7 +135,7 @@ next_found library path f fs old w a kept frames new_frames same known_same belo
   walking = walks library w path (record f { next = f.next + 1 } ∷ fs) same new_frames (record {
     frames_are = (walked.frames_are.0, (let n = walked.frames_are.1 in omega arith), walked.frames_are.2, walked.frames_are.3, walked.frames_are.4);
     known_are = subst (λ k. AreKnown library path k (f ∷ fs)) (sym (known_by old w known_same)) walked.known_are;
-    text = walked.text;
+    small = walked.small;
   });
   comes = come library old path (f ∷ fs) kept frames ∙ (passed library path f (record f { next = f.next + 1 }) fs below plain refl
       ∙ sym (join (ap (λ ls. placed_element ls (element_at library f.model f.next)) (levels library w path (record f { next = f.next + 1 } ∷ fs) same new_frames)) (come library w path (record f { next = f.next + 1 } ∷ fs) same new_frames)));

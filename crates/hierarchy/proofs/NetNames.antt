@@ -1,23 +1,22 @@
 -- Texts given to nets, one more.
-use Rattle.std.proofs.Common.{◌≡◌, ◌≢◌, ℕ, ◌+◌, ◌<◌, ◌≤◌, Bool, true, false, cond, not, List, [], ◌∷◌, ◌++◌, length, map, get_or, take, drop, refl, sym, ap, ◌∙◌, subst, arith, Option, Some, None, nat_eq}
+use Rattle.std.proofs.Common.{◌≡◌, ◌≢◌, ℕ, ◌+◌, ◌<◌, ◌≤◌, ◌⊎◌, inl, inr, Bool, true, false, cond, not, List, [], ◌∷◌, ◌++◌, length, map, get_or, take, drop, refl, sym, ap, ◌∙◌, subst, arith, Option, Some, None, nat_eq}
 use Rattle.std.specs.Prelude.{find, option_map, flat_map}
 use Rattle.std.specs.Option.{option_or}
 use Rattle.std.specs.Str.{bytes_eq}
 use Rattle.std.proofs.lemmas.Bool.{eqb-true, eq-eqb, false_from_ne_true}
-use Rattle.std.proofs.lemmas.List.{take-append-le, take_all, length-take, append-nil, append_assoc, take_more, map-append, take-append-drop}
+use Rattle.std.proofs.lemmas.List.{length-take, append-nil, append_assoc, take_more, map-append, take-append-drop}
 use Rattle.std.proofs.lemmas.List.Folds.{find-append}
 use Rattle.std.proofs.lemmas.Slice.Eq.{bytes_eq-Decides}
 use Rattle.tmr_base.specs.declared.ids.Edge.{Edge}
 use Rattle.table_cover.specs.Cover.{PlainCover}
 use Rattle.blif_text.specs.declared.library.Init.{Init}
-use Rattle.library_faults.specs.Flat.{PlacedNet, NetElement, NetTable, NetRegister}
-use Rattle.hierarchy.specs.Private.Texts.{net_text}
-use Rattle.hierarchy.specs.Clash.{same_net, nets_of, control_nets}
-use Rattle.hierarchy.specs.Private.Texts.{has_text, is_taken}
-use Rattle.hierarchy.specs.Private.Naming.{path_length, IsNamed, AreNamed, Clashes, IsNamingFault}
+use Rattle.library_faults.specs.Flat.{PlacedNet, NetElement, NetTable, NetRegister, net_text}
+use Rattle.hierarchy.specs.Clash.{same_net, nets_of, control_nets, is_taken, clash_after}
+use Rattle.hierarchy.proofs.OneText.{among_split, found_among, taken_apart, free_text, still_clear}
+use Rattle.hierarchy.proofs.PathsApart.{same_paths}
+use Rattle.hierarchy.specs.Private.Naming.{AreSmall, Among, has_text, path_length, IsNamed, AreNamed, Clashes, IsNamingFault}
 use Rattle.hierarchy.specs.declared.walking.naming.NamingFault.{NamingFault}
 use Rattle.hierarchy.specs.declared.walking.naming.NamingFault.TheVariants.{Clash, Memory}
-use Rattle.hierarchy.specs.Private.Texts.{clash_after}
 
 pub taken_long : (path : List ℕ) (end : ℕ) → end ≤ length path → length (take end path) ≡ end
 taken_long path end l = omega (arith, length-take end path)
@@ -28,54 +27,46 @@ bytes_same a b e = (bytes_eq-Decides a b).1 e
 bytes_apart : (a b : List ℕ) → a ≢ b → bytes_eq a b ≡ false
 bytes_apart a b ne = false_from_ne_true (bytes_eq a b) (λ e. ne ((bytes_eq-Decides a b).0 e))
 
-front : (xs ys : List ℕ) → take (length xs) (xs ++ ys) ≡ xs
-front xs ys = take-append-le (length xs) xs ys (omega arith) ∙ take_all (length xs) xs (omega arith)
-
-back : (xs ys : List ℕ) → drop (length xs) (xs ++ ys) ≡ ys
-back [] ys = refl
-back (x ∷ xs) ys = back xs ys
-
 -- nets of one text are the same where their paths are equally long
-pub same_by_length : (a b : PlacedNet) → net_text a ≡ net_text b → same_net a b ≡ nat_eq (length a.path) (length b.path)
-same_by_length a b e = go (nat_eq (length a.path) (length b.path)) refl
+same_by_length : (a b : PlacedNet) → AreSmall a.path → AreSmall b.path → net_text a ≡ net_text b → same_net a b ≡ nat_eq (length a.path) (length b.path)
+same_by_length a b small_a small_b e = go (nat_eq (length a.path) (length b.path)) refl
   where
     go : (v : Bool) → nat_eq (length a.path) (length b.path) ≡ v → same_net a b ≡ v
     go true f =
-        let l : length a.path ≡ length b.path = eqb-true _ _ f in
-        let p : a.path ≡ b.path = sym (front a.path a.name) ∙ (ap (take (length a.path)) e ∙ (ap (λ n. take n (net_text b)) l ∙ front b.path b.name)) in
-        let n : a.name ≡ b.name = sym (back a.path a.name) ∙ (ap (drop (length a.path)) e ∙ (ap (λ n. drop n (net_text b)) l ∙ back b.path b.name)) in
-        rw (bytes_same a.path b.path p, bytes_same a.name b.name n) refl
+        let both = same_paths a.path b.path a.name b.name small_a small_b (eqb-true _ _ f) e in
+        rw (bytes_same a.path b.path both.0, bytes_same a.name b.name both.1) refl
     go false f = rw (bytes_apart a.path b.path (λ p. (let g : nat_eq (length a.path) (length b.path) ≡ true = eq-eqb _ _ (ap length p) in cc))) refl
 
-first_has : (text : List ℕ) (x other : PlacedNet) (rest : Option PlacedNet) (v : Bool) → has_text text x ≡ v → (rest ≡ Some other → net_text other ≡ text) → cond v (Some x) rest ≡ Some other → net_text other ≡ text
-first_has text x other rest true h later f = let same : x ≡ other = cc in subst (λ n. net_text n ≡ text) same ((bytes_eq-Decides (net_text x) text).0 h)
-first_has text x other rest false h later f = later f
-
-pub found_has : (text : List ℕ) (seen : List PlacedNet) (other : PlacedNet) → find (has_text text) seen ≡ Some other → net_text other ≡ text
-found_has text [] other e = absurd cc
-found_has text (x ∷ seen) other e = first_has text x other (find (has_text text) seen) (has_text text x) refl (λ f. found_has text seen other f) e
-
-module _ (look : List ℕ → Option ℕ) (seen : List PlacedNet) (named : IsNamed look seen) (net : PlacedNet) where
+module _ (look : List ℕ → Option ℕ) (seen : List PlacedNet) (named : IsNamed look seen) (net : PlacedNet) (small : AreSmall net.path) where
   -- the text has a net, whose path is so long
   pub taken_some : (before : ℕ) → look (net_text net) ≡ Some before → not (nat_eq before (length net.path)) ≡ is_taken seen net
-  taken_some before e = go (find (has_text (net_text net)) seen) refl (sym (named (net_text net)) ∙ e)
+  taken_some before e = go (find (has_text (net_text net)) seen) refl (sym (named.first (net_text net)) ∙ e)
     where
       go : (o : Option PlacedNet) → find (has_text (net_text net)) seen ≡ o → option_map path_length o ≡ Some before → not (nat_eq before (length net.path)) ≡ is_taken seen net
       go None f g = absurd cc
       go (Some other) f g =
           let l : length other.path ≡ before = cc in
-          let same : same_net other net ≡ nat_eq (length other.path) (length net.path) = same_by_length other net (found_has (net_text net) seen other f) in
-          rw f (rw same (ap (λ n. not (nat_eq n (length net.path))) (sym l)))
+          let there = found_among (net_text net) seen other f in
+          let same : same_net other net ≡ nat_eq (length other.path) (length net.path) = same_by_length other net (named.small other there.0) small ((bytes_eq-Decides (net_text other) (net_text net)).0 there.1) in
+          ap (λ n. not (nat_eq n (length net.path))) (sym l) ∙ (ap not (sym same) ∙ taken_apart seen net named.apart other (same_net other net) there.0 there.1 refl)
 
   pub taken_none : look (net_text net) ≡ None → false ≡ is_taken seen net
-  taken_none e = go (find (has_text (net_text net)) seen) refl (sym (named (net_text net)) ∙ e)
+  taken_none e = go (find (has_text (net_text net)) seen) refl (sym (named.first (net_text net)) ∙ e)
     where
       go : (o : Option PlacedNet) → find (has_text (net_text net)) seen ≡ o → option_map path_length o ≡ None → false ≡ is_taken seen net
-      go None f g = rw f refl
+      go None f g = free_text seen net f
       go (Some other) f g = absurd cc
 
+  all_small : (other : PlacedNet) → Among other (seen ++ net ∷ []) → AreSmall other.path
+  all_small other a = go (among_split other seen (net ∷ []) a)
+    where
+      go : Among other seen ⊎ Among other (net ∷ []) → AreSmall other.path
+      go (inl b) = named.small other b
+      go (inr (inl e)) = subst (λ (n : PlacedNet). AreSmall n.path) e small
+      go (inr (inr b)) = absurd b
+
   one_more : (text : List ℕ) → option_map path_length (find (has_text text) (seen ++ net ∷ [])) ≡ option_or (look text) (cond (has_text text net) (Some (length net.path)) None)
-  one_more text = rw (find-append (has_text text) seen (net ∷ []), named text) (go (find (has_text text) seen) (has_text text net))
+  one_more text = rw (find-append (has_text text) seen (net ∷ []), named.first text) (go (find (has_text text) seen) (has_text text net))
     where
       go : (o : Option PlacedNet) (v : Bool) → option_map path_length (option_or o (cond v (Some net) None)) ≡ option_or (option_map path_length o) (cond v (Some (length net.path)) None)
       go None true = refl
@@ -83,28 +74,28 @@ module _ (look : List ℕ → Option ℕ) (seen : List PlacedNet) (named : IsNam
       go (Some other) v = refl
 
   -- the text has this net already
-  pub named_before : (before : ℕ) → look (net_text net) ≡ Some before → IsNamed look (seen ++ net ∷ [])
-  named_before before e text = sym (one_more text ∙ go (has_text text net) refl)
+  pub named_before : (before : ℕ) → look (net_text net) ≡ Some before → is_taken seen net ≡ false → IsNamed look (seen ++ net ∷ [])
+  named_before before e free = record { small = all_small; apart = still_clear seen net named.apart free; first = λ text. sym (one_more text ∙ go text (has_text text net) refl) }
     where
-      go : (v : Bool) → has_text text net ≡ v → option_or (look text) (cond v (Some (length net.path)) None) ≡ look text
-      go true h = let is : net_text net ≡ text = (bytes_eq-Decides (net_text net) text).0 h in let f : look text ≡ Some before = subst (λ t. look t ≡ Some before) is e in rw f refl
-      go false h = plain (look text)
-        where
-          plain : (o : Option ℕ) → option_or o None ≡ o
-          plain None = refl
-          plain (Some x) = refl
+      plain : (o : Option ℕ) → option_or o None ≡ o
+      plain None = refl
+      plain (Some x) = refl
+
+      go : (text : List ℕ) (v : Bool) → has_text text net ≡ v → option_or (look text) (cond v (Some (length net.path)) None) ≡ look text
+      go text true h = let is : net_text net ≡ text = (bytes_eq-Decides (net_text net) text).0 h in let f : look text ≡ Some before = subst (λ t. look t ≡ Some before) is e in rw f refl
+      go text false h = plain (look text)
 
   -- the text is given to this net
   pub named_now : (after : List ℕ → Option ℕ) → look (net_text net) ≡ None → ((text : List ℕ) → after text ≡ cond (bytes_eq (net_text net) text) (Some (length net.path)) (look text)) → IsNamed after (seen ++ net ∷ [])
-  named_now after e new text = new text ∙ sym (one_more text ∙ go (has_text text net) refl)
+  named_now after e new = record { small = all_small; apart = still_clear seen net named.apart (sym (taken_none e)); first = λ text. new text ∙ sym (one_more text ∙ go text (has_text text net) refl) }
     where
-      go : (v : Bool) → has_text text net ≡ v → option_or (look text) (cond v (Some (length net.path)) None) ≡ cond (bytes_eq (net_text net) text) (Some (length net.path)) (look text)
-      go true h = let is : net_text net ≡ text = (bytes_eq-Decides (net_text net) text).0 h in let f : look text ≡ None = subst (λ t. look t ≡ None) is e in rw (h, f) refl
-      go false h = rw h (plain (look text))
-        where
-          plain : (o : Option ℕ) → option_or o None ≡ o
-          plain None = refl
-          plain (Some x) = refl
+      plain : (o : Option ℕ) → option_or o None ≡ o
+      plain None = refl
+      plain (Some x) = refl
+
+      go : (text : List ℕ) (v : Bool) → has_text text net ≡ v → option_or (look text) (cond v (Some (length net.path)) None) ≡ cond (bytes_eq (net_text net) text) (Some (length net.path)) (look text)
+      go text true h = let is : net_text net ≡ text = (bytes_eq-Decides (net_text net) text).0 h in let f : look text ≡ None = subst (λ t. look t ≡ None) is e in rw (h, f) refl
+      go text false h = rw h (plain (look text))
 
 -- ---- nets named one behind another
 

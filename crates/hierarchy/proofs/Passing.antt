@@ -7,8 +7,7 @@ use Rattle.blif_text.specs.declared.library.Element.{Element}
 use Rattle.blif_text.specs.Views.{plain_element}
 use Rattle.hierarchy.specs.declared.walking.naming.NamingFault.{NamingFault}
 use Rattle.hierarchy.specs.declared.walking.naming.NamingFault.TheVariants.{Clash, Memory}
-use Rattle.library_faults.specs.Flat.{NetElement}
-use Rattle.hierarchy.specs.Private.Texts.{named}
+use Rattle.library_faults.specs.Flat.{NetElement, named}
 use Rattle.hierarchy.specs.Clash.{nets_of}
 use Rattle.hierarchy.specs.Private.Naming.{AreNamed, Clashes, IsNamingFault}
 use Rattle.hierarchy.proofs.NetNames.{named_join, clash_join, clash_more}

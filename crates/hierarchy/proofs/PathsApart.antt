@@ -1,5 +1,5 @@
 -- Different paths have different texts.
-use Rattle.std.proofs.Common.{◌≡◌, ◌≢◌, ℕ, ◌^◌, ◌<◌, List, [], ◌∷◌, ◌++◌, refl, sym, ap, ◌∙◌, subst, arith}
+use Rattle.std.proofs.Common.{◌≡◌, ◌≢◌, ℕ, ◌^◌, ◌<◌, List, [], ◌∷◌, ◌++◌, length, refl, sym, ap, ◌∙◌, subst, arith}
 use Rattle.std.specs.Prelude.{All}
 use Rattle.std.specs.Fmt.{decimal}
 use Rattle.std.specs.Char.{digit_value}
@@ -8,6 +8,7 @@ use Rattle.std.proofs.lemmas.Fmt.{decimal_is_IsNumeral, decimal_injective}
 use Rattle.std.proofs.lemmas.List.{append_assoc}
 use Rattle.std.proofs.lemmas.List.Elements.{All-head, All-tail}
 use Rattle.library_faults.specs.Flat.{step, path_text}
+use Rattle.hierarchy.specs.Private.Naming.{AreSmall}
 
 -- no byte of the text is `/`
 abbrev HasNoSlash : List ℕ → Type 0
@@ -52,3 +53,22 @@ paths_apart (x ∷ xs) (y ∷ ys) small_a small_b e =
     let number : x ≡ y = decimal_injective x y small_x small_y both.0 in
     let rest : xs ≡ ys = paths_apart xs ys (All-tail (λ number. number < 2 ^ 64) x xs small_a) (All-tail (λ number. number < 2 ^ 64) y ys small_b) both.1 in
     cc
+
+first_text : (number : ℕ) (path name : List ℕ) → path_text (number ∷ path) ++ name ≡ 117 ∷ (decimal number ++ 47 ∷ (path_text path ++ name))
+first_text number path name = append_assoc (step number) (path_text path) name ∙ first_step number (path_text path ++ name)
+
+-- paths of as many numbers, behind which texts are the same
+pub same_paths : (a b n m : List ℕ) → AreSmall a → AreSmall b → length a ≡ length b → path_text a ++ n ≡ path_text b ++ m → (a ≡ b) × (n ≡ m)
+same_paths [] [] n m small_a small_b long e = (refl, e)
+same_paths [] (y ∷ ys) n m small_a small_b long e = absurd (omega arith)
+same_paths (x ∷ xs) [] n m small_a small_b long e = absurd (omega arith)
+same_paths (x ∷ xs) (y ∷ ys) n m small_a small_b long e =
+    let whole : 117 ∷ (decimal x ++ 47 ∷ (path_text xs ++ n)) ≡ 117 ∷ (decimal y ++ 47 ∷ (path_text ys ++ m)) = sym (first_text x xs n) ∙ (e ∙ first_text y ys m) in
+    let behind : decimal x ++ 47 ∷ (path_text xs ++ n) ≡ decimal y ++ 47 ∷ (path_text ys ++ m) = cc in
+    let small_x : x < 2 ^ 64 = All-head (λ number. number < 2 ^ 64) x xs small_a in
+    let small_y : y < 2 ^ 64 = All-head (λ number. number < 2 ^ 64) y ys small_b in
+    let both = up_to_slash (decimal x) (decimal y) (path_text xs ++ n) (path_text ys ++ m) (no_slash x small_x) (no_slash y small_y) behind in
+    let number : x ≡ y = decimal_injective x y small_x small_y both.0 in
+    let rest = same_paths xs ys n m (All-tail (λ number. number < 2 ^ 64) x xs small_a) (All-tail (λ number. number < 2 ^ 64) y ys small_b) (let l : length xs ≡ length ys = omega arith in l) both.1 in
+    let paths : xs ≡ ys = rest.0 in
+    (cc, rest.1)

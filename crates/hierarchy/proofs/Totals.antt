@@ -3,8 +3,7 @@ use Rattle.std.proofs.Common.{◌≡◌, ◌-◌, List, [], ◌∷◌, length, a
 use Rattle.blif_text.specs.Models.{PlainModel}
 use Rattle.hierarchy.specs.declared.walking.walk.Walk.{Walk}
 use Rattle.hierarchy.specs.declared.walking.walk.Frame.{Frame}
-use Rattle.library_faults.specs.Flat.{main_of, main_level}
-use Rattle.hierarchy.specs.Private.Texts.{elements_with, elements_to, flat_elements}
+use Rattle.library_faults.specs.Flat.{main_of, main_level, elements_with, elements_to, flat_elements}
 use Rattle.library_faults.proofs.Models.{first_model}
 use Rattle.hierarchy.specs.Private.Walk.{coming, coming_from, innermost_first}
 

@@ -7,10 +7,8 @@ use Rattle.blif_text.specs.Models.{PlainElement, PlainModel}
 use Rattle.hierarchy.specs.declared.walking.naming.NamingFault.{NamingFault}
 use Rattle.hierarchy.specs.declared.walking.naming.NamingFault.TheVariants.{Clash, Memory}
 use Rattle.hierarchy.specs.declared.walking.walk.Walk.{Walk}
-use Rattle.library_faults.specs.Flat.{Level, resolve, actual_of, main_level, main_of}
-use Rattle.hierarchy.specs.Private.Texts.{named, net_text, flat_elements, flat_model}
-use Rattle.hierarchy.specs.Clash.{nets_of, main_net}
-use Rattle.hierarchy.specs.Private.Texts.{walked, clash_after, name_clash}
+use Rattle.library_faults.specs.Flat.{Level, resolve, actual_of, main_level, main_of, named, net_text, flat_elements, flat_model}
+use Rattle.hierarchy.specs.Clash.{nets_of, main_net, walked, clash_after, name_clash}
 use Rattle.hierarchy.specs.Private.Naming.{AreNamed, IsNamingFault, IsNamed, IsClash}
 use Rattle.hierarchy.specs.Private.Walk.{levels_of, level_of, innermost_first}
 use Rattle.hierarchy.proofs.NetNames.{named_join, clash_join}
@@ -36,9 +34,6 @@ texts_same (name ∷ names) = ap (λ ns. name ∷ ns) (texts_same names)
 
 pub main_texts : (levels : List Level) (names : List (List ℕ)) → levels ≡ main_level ∷ [] → map net_text (map (resolve levels) names) ≡ names
 main_texts levels names e = ap (map net_text) (main_nets levels names e) ∙ texts_same names
-
-pub none_named : IsNamed (λ text. None) []
-none_named text = refl
 
 -- all nets are named
 pub all_named : (library : List PlainModel) (a b c d : List ℕ → Option ℕ) → IsNamed a [] → AreNamed a b (map main_net (main_of library).inputs) → AreNamed b c (flat_map nets_of (flat_elements library)) → AreNamed c d (map main_net (main_of library).outputs) → name_clash library ≡ None
@@ -80,4 +75,4 @@ ports_texts library w names found e n = n ∙ main_texts (levels_of library w) n
 pub ruleset port_laws = (ports_named, ports_fault, ports_texts)
 
 pub none_at_first : (entries : List (List ℕ × ℕ)) → entries ≡ [] → IsNamed (λ text. lookup (bytes_eq text) entries) []
-none_at_first entries e text = ap (λ es. lookup (bytes_eq text) es) e
+none_at_first entries e = record { small = λ net a. absurd a; apart = λ a b x y s. absurd x; first = λ text. ap (λ es. lookup (bytes_eq text) es) e }

@@ -1,6 +1,4 @@
 -- Definitions that private functions and their proofs alone cite: no public call speaks of them.
-pub mod Texts
-pub mod Room
 pub mod Alone
 pub mod Bindings
 pub mod Walk

@@ -1,19 +1,17 @@
 -- What a walk has still to come.
-use Rattle.std.specs.Prelude.{◌≡◌, ℕ, Bool, true, zero, suc, ◌+◌, ◌-◌, ◌<◌, ◌≤◌, List, [], ◌∷◌, ◌++◌, length, map, take, drop, reverse, Option, Some, None, slice_get, option_and_then}
+use Rattle.std.specs.Prelude.{◌≡◌, ℕ, Bool, zero, suc, ◌+◌, ◌-◌, ◌<◌, ◌≤◌, List, [], ◌∷◌, ◌++◌, length, map, take, drop, reverse, Option, Some, None, slice_get, option_and_then}
 use Rattle.std.specs.Option.{option_map_or}
-use Rattle.std.specs.List.{list_all}
 use Rattle.std.specs.Str.{bytes_eq}
 use Rattle.indexmap.specs.IndexMap.{get}
-use Rattle.tmr_base.specs.Names.{is_name_byte}
 use Rattle.blif_text.specs.Views.{plain_model}
 use Rattle.blif_text.specs.Models.{PlainElement, Table, Register, Instance, PlainModel}
 use Rattle.hierarchy.specs.declared.walking.walk.Frame.{Frame}
 use Rattle.hierarchy.specs.declared.walking.walk.Walk.{Walk}
 use Rattle.hierarchy.specs.declared.walking.walk.Place.{Place}
 use Rattle.library_faults.specs.Graph.{names_of, model_named}
-use Rattle.library_faults.specs.Flat.{Level, PlacedNet, actual_of, NetElement, resolve}
+use Rattle.library_faults.specs.Flat.{Level, PlacedNet, actual_of, NetElement, resolve, elements_with, elements_to}
 use Rattle.library_faults.specs.Private.Models.{model_at, element_at, IsInstance}
-use Rattle.hierarchy.specs.Private.Texts.{elements_with, elements_to}
+use Rattle.hierarchy.specs.Private.Naming.{AreSmall}
 use Rattle.hierarchy.specs.declared.walking.bindings.Row.{Row}
 use Rattle.hierarchy.specs.declared.walking.bindings.Ready.{Ready}
 use Rattle.hierarchy.specs.Private.Bindings.{bindings_of, AreRows}
@@ -71,15 +69,11 @@ AreKnown library path known (f ∷ frames) =
     → (end ≤ f.path_end) × (resolve (map (level_of library path) (f ∷ frames)) name ≡ record { path = take end path; name = net }))
     × AreKnown library path known frames
 
--- the bytes of a path's text may stand in a name
-abbrev pub IsPathText : List ℕ → Type 0
-IsPathText path = list_all is_name_byte path ≡ true
-
 -- these placed models may stand in a walk with this path, which knows this of names
 pub record AreWalked (library : List PlainModel) (path : List ℕ) (known : ℕ → List ℕ → Option (ℕ × List ℕ)) (frames : List Frame) : Type 0 where
   pub frames_are : AreFrames library (length path) frames
   pub known_are : AreKnown library path known frames
-  pub text : IsPathText path
+  pub small : AreSmall path
 
 -- what a walk keeps
 abbrev pub IsWalking : List PlainModel → Walk → Type 0

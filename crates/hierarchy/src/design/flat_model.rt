@@ -8,8 +8,6 @@ ghost use Rattle.library_faults.specs.Sound.{IsSound, Fits};
 ghost use Rattle.library_faults.specs.Private.Looked.{IsLooked};
 ghost use Rattle.hierarchy.specs.Clash.{name_clash};
 ghost use Rattle.hierarchy.specs.Flatten.{IsFlatFault};
-ghost use Rattle.hierarchy.specs.Private.Texts.{flat_model as texted_model, name_clash as texted_clash};
-ghost use Rattle.hierarchy.specs.Private.Room.{HasRoom};
 ghost use Rattle.hierarchy.specs.Private.Alone.{places_nothing};
 ghost use Rattle.hierarchy.specs.Private.Walk.{AreReady};
 ghost use Rattle.hierarchy.specs.Private.Naming.{IsClash};
@@ -45,8 +43,8 @@ fn walked_model(
 ) -> Result<BlifModel, NamingFault>
     requires names { looked.names.keys ≡ names_of (map plain_model models.now) }
     requires some { 0 < length models.now }
-    ensures model { IfOk result (λ flat. plain_model flat ≡ texted_model (map plain_model models.now)) }
-    ensures clear { OnOk result (texted_clash (map plain_model models.now) ≡ None) }
+    ensures model { IfOk result (λ flat. plain_model flat ≡ flat_model (map plain_model models.now)) }
+    ensures clear { OnOk result (name_clash (map plain_model models.now) ≡ None) }
     ensures fault { IfErr result (λ fault. IsClash (map plain_model models.now) fault) }
 {
     let rows = ready_rows(alloc, models, looked)?;
@@ -58,7 +56,7 @@ fn walked_model(
 }
 
 /// The same, where long chains of wrappers are cut short before.
-#[tactic(auto, using(crate::proofs::SameTexts::short_laws))]
+#[tactic(auto, using(crate::proofs::Shortened::short_laws))]
 fn named_flat(
     alloc: Global,
     models: Vec<BlifModel>,
@@ -66,25 +64,16 @@ fn named_flat(
 ) -> Result<BlifModel, NamingFault>
     requires library { IsLibrary (map plain_model models.items) }
     requires looked { IsLooked (map plain_model models.items) looked }
-    ensures model { IfOk result (λ flat. plain_model flat ≡ texted_model (map plain_model models.items)) }
-    ensures clear { OnOk result (texted_clash (map plain_model models.items) ≡ None) }
+    ensures model { IfOk result (λ flat. plain_model flat ≡ flat_model (map plain_model models.items)) }
+    ensures clear { OnOk result (name_clash (map plain_model models.items) ≡ None) }
     ensures fault { IfErr result (λ fault. IsClash (map plain_model models.items) fault) }
 {
     let short = cut_short(alloc, models, &looked)?;
     walked_model(alloc, &short, looked)
 }
 
-/// No model has more elements than can be counted.
-fn have_room(models: &[BlifModel])
-    ensures { All HasRoom (map plain_model models.now) }
-{
-    for model in models {
-        let _count = model.elements.len();
-    }
-}
-
 /// The flat model of a library without faults of its own, whose flat elements are walked.
-#[tactic(auto, using(crate::proofs::SameClash::same_flats, crate::proofs::FlatModels::flat_models))]
+#[tactic(auto, using(crate::proofs::FlatModels::flat_models))]
 fn walked_flat(
     alloc: Global,
     models: Vec<BlifModel>,
@@ -98,7 +87,6 @@ fn walked_flat(
     ensures model { IfOk result (λ flat. IsFlatModel (map plain_model models.items) limit (plain_model flat)) }
     ensures fault { IfErr result (λ fault. IsFlatFault (map plain_model models.items) limit fault) }
 {
-    have_room(&models);
     match named_flat(alloc, models, looked) {
         Ok(flat) => Ok(flat),
         Err(NamingFault::Clash(text)) => Err(FlatFault::NameClash(text)),

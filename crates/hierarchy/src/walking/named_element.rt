@@ -4,7 +4,7 @@ ghost use Rattle.std.specs.Str.{bytes_eq};
 ghost use Rattle.indexmap.specs.IndexMap.{get};
 ghost use Rattle.blif_text.specs.Views.{plain_element};
 ghost use Rattle.blif_text.specs.Models.{Table, Register};
-ghost use Rattle.hierarchy.specs.Private.Texts.{named};
+ghost use Rattle.library_faults.specs.Flat.{named};
 ghost use Rattle.hierarchy.specs.Clash.{nets_of};
 ghost use Rattle.hierarchy.specs.Private.Naming.{AreNamed, IsNamingFault};
 ghost use Rattle.hierarchy.specs.Private.Walk.{library_of, IsPlace, IsReady, IsWalking, coming, levels_at};

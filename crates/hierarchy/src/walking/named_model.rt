@@ -3,9 +3,8 @@ ghost use Rattle.std.specs.Prelude.{◌≡◌, ◌<◌, map, flat_map, length, I
 ghost use Rattle.std.specs.Str.{bytes_eq};
 ghost use Rattle.indexmap.specs.IndexMap.{get};
 ghost use Rattle.blif_text.specs.Views.{plain_model, plain_element};
-ghost use Rattle.hierarchy.specs.Private.Texts.{flat_model, flat_elements, named};
-ghost use Rattle.hierarchy.specs.Clash.{main_net, nets_of};
-ghost use Rattle.hierarchy.specs.Private.Texts.{name_clash};
+ghost use Rattle.library_faults.specs.Flat.{flat_model, flat_elements, named};
+ghost use Rattle.hierarchy.specs.Clash.{main_net, nets_of, name_clash};
 ghost use Rattle.hierarchy.specs.Private.Naming.{IsClash, AreNamed, IsNamingFault};
 ghost use Rattle.hierarchy.specs.Private.Walk.{library_of, IsReady};
 

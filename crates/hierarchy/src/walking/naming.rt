@@ -2,17 +2,16 @@
 ghost use Rattle.std.specs.Prelude.{◌≡◌, ◌≤◌, ◌++◌, ◌∷◌, [], List, false, length, map, take, IfOk, OnOk, IfErr};
 ghost use Rattle.std.specs.Str.{bytes_eq};
 ghost use Rattle.indexmap.specs.IndexMap.{get};
-ghost use Rattle.library_faults.specs.Flat.{PlacedNet, resolved_control};
-ghost use Rattle.hierarchy.specs.Private.Texts.{net_text, named_control};
-ghost use Rattle.hierarchy.specs.Clash.{control_nets};
-ghost use Rattle.hierarchy.specs.Private.Texts.{is_taken};
-ghost use Rattle.hierarchy.specs.Private.Naming.{IsNamed, AreNamed, IsNamingFault};
-ghost use Rattle.hierarchy.specs.Private.Walk.{IsPathText, IsPlace, levels_at, net_at};
+ghost use Rattle.library_faults.specs.Flat.{PlacedNet, step, path_text, net_text, named_control, resolved_control};
+ghost use Rattle.hierarchy.specs.Clash.{control_nets, is_taken};
+ghost use Rattle.hierarchy.specs.Private.Naming.{AreSmall, IsNamed, AreNamed, IsNamingFault};
+ghost use Rattle.hierarchy.specs.Private.Walk.{IsPlace, levels_at, net_at};
 ghost use Rattle.hierarchy.specs.declared.walking.naming.NamingFault.TheVariants.{Memory};
 
 use crate::walking::resolve::resolve;
 use crate::walking::walk::Place;
 use indexmap::IndexMap;
+use itoa::Buffer;
 use std::alloc::{AllocError, AllocFailed, Global};
 use tmr_base::{Edge, Name, NameFault, OutOfMemory};
 
@@ -49,16 +48,38 @@ impl<T: Drop> From<AllocFailed<T>> for NamingFault {
     }
 }
 
+/// Puts the text of a number on a path.
+#[tactic(auto, unfolding(library_faults::specs::Flat::step))]
+fn put_step(out: &mut Vec<u8>, number: usize) -> Result<(), AllocError>
+    ensures { OnOk result (out.new.items ≡ out.old.items ++ step number) }
+{
+    let mut digits = Buffer::new();
+    out.push(b'u')?;
+    out.extend_from_slice(digits.format(number).as_bytes())?;
+    out.push(b'/')?;
+    Ok(())
+}
+
+/// Puts the text of a path.
+fn put_path(out: &mut Vec<u8>, path: &[usize]) -> Result<(), AllocError>
+    ensures { OnOk result (out.new.items ≡ out.old.items ++ path_text path.now) }
+{
+    for number in path {
+        put_step(out, *number)?;
+    }
+    Ok(())
+}
+
 /// The text of a net whose path ends there.
 #[tactic(auto, using(crate::proofs::PathTexts::text_laws))]
-fn net_name(alloc: Global, path: &[u8], end: usize, name: &Name) -> Result<Name, OutOfMemory>
+fn net_name(alloc: Global, path: &[usize], end: usize, name: &Name) -> Result<Name, OutOfMemory>
     requires end { end ≤ length path.now }
-    requires text { IsPathText path.now }
-    ensures { IfOk result (λ text. text ≡ take end path.now ++ name.now) }
+    requires small { AreSmall path.now }
+    ensures { IfOk result (λ text. text ≡ path_text (take end path.now) ++ name.now) }
 {
     let bytes = name.bytes();
     let mut text = Vec::new(alloc);
-    text.extend_from_slice(&path[..end])?;
+    put_path(&mut text, &path[..end])?;
     text.extend_from_slice(bytes)?;
     match Name::read(alloc, &text) {
         Ok(name) => Ok(name),
@@ -71,13 +92,13 @@ fn net_name(alloc: Global, path: &[u8], end: usize, name: &Name) -> Result<Name,
 fn add_net(
     alloc: Global,
     texts: &mut IndexMap<Name, usize>,
-    path: &[u8],
+    path: &[usize],
     end: usize,
     name: &Name,
 ) -> Result<(Name, bool), OutOfMemory>
     requires end { end ≤ length path.now }
-    requires text { IsPathText path.now }
-    ensures text { IfOk result (λ found. found.0 ≡ take end path.now ++ name.now) }
+    requires small { AreSmall path.now }
+    ensures text { IfOk result (λ found. found.0 ≡ path_text (take end path.now) ++ name.now) }
     ensures taken { IfOk result (λ found. (seen : List PlacedNet) → IsNamed (get bytes_eq texts.old) seen → found.1 ≡ is_taken seen (record { path = take end path.now; name = name.now })) }
     ensures named { IfOk result (λ found. (seen : List PlacedNet) → IsNamed (get bytes_eq texts.old) seen → found.1 ≡ false → IsNamed (get bytes_eq texts.new) (seen ++ record { path = take end path.now; name = name.now } ∷ [])) }
 {

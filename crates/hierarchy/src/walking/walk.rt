@@ -2,7 +2,6 @@
 ghost use Rattle.std.specs.Str.{bytes_eq};
 ghost use Rattle.indexmap.specs.IndexMap.{get};
 ghost use Rattle.std.specs.Prelude.{ℕ, List, option_and_then, ◌≡◌, ◌<◌, ◌≤◌, ◌∷◌, ◌++◌, [], map, length, take, IfOk, OnOk, IfSome, IsNone, Some, None, true, false, slice_get};
-ghost use Rattle.library_faults.specs.Flat.{step};
 ghost use Rattle.hierarchy.specs.Private.Alone.{is_placing};
 ghost use Rattle.hierarchy.specs.declared.walking.bindings.Row.{Row};
 ghost use Rattle.hierarchy.specs.Private.Walk.{library_of, innermost_first, known_net, AreWalked, IsReady, IsMoved, IsNext, IsWalking};
@@ -13,7 +12,6 @@ use crate::walking::bindings::{Link, Ready, Row};
 use crate::walking::resolve::nets_within;
 use blif_text::{BlifModel, Element};
 use indexmap::IndexMap;
-use library_faults::step_text;
 use std::alloc::{AllocError, Global};
 use tmr_base::{Name, OutOfMemory};
 
@@ -29,13 +27,13 @@ pub struct Frame {
     pub(crate) path_end: usize,
 }
 
-/// The placed models from the main model inwards, the text of the innermost path that was walked, and for
+/// The placed models from the main model inwards, the innermost path that was walked, by numbers of statements, and for
 /// the placed models of each depth some names whose nets were followed outwards when the model was entered:
 /// where the net's path ends, and its name.
 #[derive(Drop)]
 pub struct Walk {
     pub(crate) frames: Vec<Frame>,
-    pub(crate) path: Vec<u8>,
+    pub(crate) path: Vec<usize>,
     pub(crate) known: Vec<IndexMap<Name, (usize, Name)>>,
 }
 
@@ -88,22 +86,20 @@ fn keep_known(
 /// Goes into the model that the statement places which comes next in `top`. The nets of these names are
 /// known there.
 fn enter(
-    alloc: Global,
     walk: &mut Walk,
     top: Frame,
     target: usize,
     known: IndexMap<Name, (usize, Name)>,
 ) -> Result<(), OutOfMemory>
     ensures frames { OnOk result (innermost_first walk.new ≡ record { model = target; next = 0; number = 0; placing = Some (top.model, top.next); path_end = length walk.new.path.items } ∷ innermost_first walk.old) }
-    ensures path { OnOk result (walk.new.path.items ≡ take top.path_end walk.old.path.items ++ step top.number) }
+    ensures path { OnOk result (walk.new.path.items ≡ take top.path_end walk.old.path.items ++ top.number ∷ []) }
     ensures outer { OnOk result ((k : ℕ) → k < length walk.old.frames.items → slice_get walk.new.known.items k ≡ slice_get walk.old.known.items k) }
     ensures own { OnOk result ((name : List ℕ) (end : ℕ) (net : List ℕ) → known_net walk.new (length walk.old.frames.items) name ≡ Some (end, net) → get bytes_eq known name ≡ Some (end, net)) }
 {
-    let text = step_text(alloc, top.number)?;
     let depth = walk.frames.len();
     keep_known(&mut walk.known, depth, known)?;
     walk.path.truncate(top.path_end);
-    walk.path.extend_from_slice(text.as_bytes())?;
+    walk.path.push(top.number)?;
     let path_end = walk.path.len();
     push_frame(
         walk,
@@ -168,7 +164,7 @@ fn pass_statement(
                 walk: &*walk,
             };
             let known = nets_within(alloc, &place, link, element)?;
-            enter(alloc, walk, top, target, known)?;
+            enter(walk, top, target, known)?;
         }
     }
     Ok(())

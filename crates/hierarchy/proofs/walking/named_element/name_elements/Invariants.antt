@@ -3,8 +3,7 @@ use Rattle.std.specs.Prelude.{flat_map}
 use Rattle.std.specs.Str.{bytes_eq}
 use Rattle.indexmap.specs.IndexMap.{get}
 use Rattle.blif_text.specs.Views.{plain_element}
-use Rattle.library_faults.specs.Flat.{NetElement}
-use Rattle.hierarchy.specs.Private.Texts.{named}
+use Rattle.library_faults.specs.Flat.{NetElement, named}
 use Rattle.hierarchy.specs.Clash.{nets_of}
 use Rattle.hierarchy.specs.Private.Naming.{AreNamed}
 use Rattle.hierarchy.specs.Private.Walk.{coming, IsWalking, library_of}

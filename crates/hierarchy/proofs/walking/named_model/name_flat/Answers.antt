@@ -3,7 +3,7 @@ use Rattle.std.specs.Prelude.{flat_map, IfOk, OnOk, IfErr}
 use Rattle.std.specs.Str.{bytes_eq}
 use Rattle.indexmap.specs.IndexMap.{get}
 use Rattle.blif_text.specs.Views.{plain_element}
-use Rattle.hierarchy.specs.Private.Texts.{named}
+use Rattle.library_faults.specs.Flat.{named}
 use Rattle.hierarchy.specs.Clash.{nets_of}
 use Rattle.hierarchy.specs.Private.Naming.{AreNamed, IsNamingFault}
 use Rattle.hierarchy.proofs.Totals.{all_to_come}

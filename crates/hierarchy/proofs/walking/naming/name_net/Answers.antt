@@ -1,8 +1,8 @@
 use Rattle.std.proofs.Common.{◌≡◌, ◌∙◌, sym, ap, subst, take, [], ◌∷◌, ◌++◌}
 use Rattle.std.specs.Str.{bytes_eq}
 use Rattle.indexmap.specs.IndexMap.{get}
-use Rattle.hierarchy.specs.Private.Texts.{net_text}
-use Rattle.hierarchy.specs.Private.Texts.{is_taken}
+use Rattle.library_faults.specs.Flat.{net_text}
+use Rattle.hierarchy.specs.Clash.{is_taken}
 use Rattle.hierarchy.specs.Private.Naming.{IsNamed, Clashes}
 use Rattle.hierarchy.proofs.NetNames.{named_one, clash_one}
 use Rattle.hierarchy.specs.Private.Walk.{net_at}

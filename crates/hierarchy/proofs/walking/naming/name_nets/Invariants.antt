@@ -1,7 +1,7 @@
 use Rattle.std.proofs.Common.{◌≡◌, map, take}
 use Rattle.std.specs.Str.{bytes_eq}
 use Rattle.indexmap.specs.IndexMap.{get}
-use Rattle.hierarchy.specs.Private.Texts.{net_text}
+use Rattle.library_faults.specs.Flat.{net_text}
 use Rattle.hierarchy.specs.Private.Naming.{AreNamed}
 use Rattle.hierarchy.specs.Private.Walk.{net_at}
 use Rattle.hierarchy.proofs.walking.naming.name_nets.Given as goal

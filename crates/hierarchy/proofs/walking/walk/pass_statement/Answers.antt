@@ -1,11 +1,11 @@
 use Rattle.std.proofs.Common.{◌∙◌, sym, arith, map, length}
-use Rattle.std.proofs.Common.{◌≡◌, ◌≤◌, ap, subst, suc, ℕ, List, ◌∷◌, take, ◌++◌, Some}
+use Rattle.std.proofs.Common.{◌≡◌, ◌≤◌, ap, subst, suc, ℕ, List, [], ◌∷◌, take, ◌++◌, Some}
 use Rattle.std.specs.Prelude.{slice_get, option_and_then}
 use mathlib.Core.Path.{fun_ext}
 use Rattle.std.specs.Str.{bytes_eq}
 use Rattle.indexmap.specs.IndexMap.{get}
 use Rattle.hierarchy.specs.Private.Bindings.{bindings_of, Binds}
-use Rattle.library_faults.specs.Flat.{step, actual_of, resolve}
+use Rattle.library_faults.specs.Flat.{actual_of, resolve}
 use Rattle.hierarchy.specs.Private.Walk.{innermost_first, known_net, bound_by, level_of, IsNetWithin, library_of}
 use Rattle.hierarchy.proofs.Coming.{too_deep}
 use Rattle.hierarchy.proofs.Moved.{binds_at, moved_past, moved_into, target_at, nothing_there, within_at, passed_walking}
@@ -26,7 +26,7 @@ returns-in_ok-enter c =
     (let many = ap length c.in_ok-push_frame.ensures.frames in omega (arith, length-map c.args.ready.now.models.now plain_model, length-reverse c.push_frame.new.walk.frames.items))
     c.requires.ready.holds c.requires.ready.bare
     (sym (target_at (library_of c.args.ready.now) c.args.ready.now.rows.now c.requires.ready c.args.top.model c.args.top.next c.link_at-link.result.now c.requires.walking.frames_are.2 c.link_at-link.ensures) ∙ c.in-Some.is)
-    c.in_ok-push_frame.ensures.frames c.in_ok-enter.ensures.frames (c.in_ok-enter.ensures.path ∙ ap (λ p. take c.args.top.path_end p ++ step c.args.top.number) c.in_ok-push_frame.ensures.path) (let n = c.requires.walking.frames_are.1 in let r = c.requires.room in omega arith)
+    c.in_ok-push_frame.ensures.frames c.in_ok-enter.ensures.frames (c.in_ok-enter.ensures.path ∙ ap (λ p. take c.args.top.path_end p ++ c.args.top.number ∷ []) c.in_ok-push_frame.ensures.path) (let n = c.requires.walking.frames_are.1 in let r = c.requires.room in omega arith)
   where
     long : suc (length (innermost_first c.args.walk.now)) ≡ length c.push_frame.new.walk.frames.items
     long = let many = ap length c.in_ok-push_frame.ensures.frames in omega (arith, length-reverse c.push_frame.new.walk.frames.items)
