@@ -24,43 +24,50 @@ use schedules::Schedule;
 use std::alloc::Global;
 use tmr_base::OutOfMemory;
 
+/// A design, its hardened form, and the certificate that tells how they stand to each other.
+#[derive(Drop)]
+struct Pair<'a> {
+    original: &'a FlatNet,
+    hardened: &'a FlatNet,
+    certificate: &'a Certificate,
+}
+
 /// Runs cycle t, and counts.
 fn count_cycle_wide(
-    n: &FlatNet,
-    h: &FlatNet,
-    c: &Certificate,
+    pair: &Pair,
     list: &[Schedule],
     t: u32,
     runs: &mut Vec<Progress>,
     r: &mut WideRunning,
     o: &mut Vec<Outcome>,
 ) -> Result<(), OutOfMemory>
-    requires fits { Fits n.now.net h.now.net c.now }
-    requires inputs { length h.now.net.inputs ≡ 3 * length n.now.net.inputs }
-    requires outputs { length h.now.net.outputs ≡ 3 * length n.now.net.outputs }
+    requires fits { Fits pair.now.original.now.net pair.now.hardened.now.net pair.now.certificate.now }
+    requires inputs { length pair.now.hardened.now.net.inputs ≡ 3 * length pair.now.original.now.net.inputs }
+    requires outputs { length pair.now.hardened.now.net.outputs ≡ 3 * length pair.now.original.now.net.outputs }
     requires few { length list.now ≤ 64 }
     requires plain { All (λ s. IsPlainSchedule s) list.now }
-    requires rows { All (λ s. s.inputs ≡ length n.now.net.inputs) list.now }
-    requires nets { All (λ s. All (λ u. u.net.0 < net_count h.now.net) s.upsets) list.now }
+    requires rows { All (λ s. s.inputs ≡ length pair.now.original.now.net.inputs) list.now }
+    requires nets { All (λ s. All (λ u. u.net.0 < net_count pair.now.hardened.now.net) s.upsets) list.now }
     requires t { All (λ s. t < length s.rows) list.now }
     requires limit { t < 1048576 }
-    requires ready { IsWideReady n.now.net h.now.net c.now r.old }
-    requires taken { HaveTaken c.now list.now t runs.old.items }
+    requires ready { IsWideReady pair.now.original.now.net pair.now.hardened.now.net pair.now.certificate.now r.old }
+    requires taken { HaveTaken pair.now.certificate.now list.now t runs.old.items }
     requires long { length o.old.items ≡ length list.now }
     requires bounded { All (λ a. CountsFit t a) o.old.items }
-    ensures ready { OnOk result (IsWideReady n.now.net h.now.net c.now r.new) }
-    ensures taken { OnOk result (HaveTaken c.now list.now (t + 1) runs.new.items) }
+    ensures ready { OnOk result (IsWideReady pair.now.original.now.net pair.now.hardened.now.net pair.now.certificate.now r.new) }
+    ensures taken { OnOk result (HaveTaken pair.now.certificate.now list.now (t + 1) runs.new.items) }
     ensures long { OnOk result (length o.new.items ≡ length list.now) }
     ensures bounded { OnOk result (All (λ a. CountsFit (t + 1) a) o.new.items) }
-    ensures counted { OnOk result ((j : ℕ) (s : PlainSchedule) (a b : AnOutcome) (v : Traces) → slice_get list.now j ≡ Some s → slice_get o.old.items j ≡ Some a → slice_get o.new.items j ≡ Some b → AreTracesOf n.now.net h.now.net s v →
-        HasRunWide n.now.net h.now.net v t j r.old → HasCounted n.now.net h.now.net c.now s.upsets v.original v.hardened t a →
-        HasRunWide n.now.net h.now.net v (t + 1) j r.new × HasCounted n.now.net h.now.net c.now s.upsets v.original v.hardened (t + 1) b) }
+    ensures counted { OnOk result ((j : ℕ) (s : PlainSchedule) (a b : AnOutcome) (v : Traces) → slice_get list.now j ≡ Some s → slice_get o.old.items j ≡ Some a → slice_get o.new.items j ≡ Some b → AreTracesOf pair.now.original.now.net pair.now.hardened.now.net s v →
+        HasRunWide pair.now.original.now.net pair.now.hardened.now.net v t j r.old → HasCounted pair.now.original.now.net pair.now.hardened.now.net pair.now.certificate.now s.upsets v.original v.hardened t a →
+        HasRunWide pair.now.original.now.net pair.now.hardened.now.net v (t + 1) j r.new × HasCounted pair.now.original.now.net pair.now.hardened.now.net pair.now.certificate.now s.upsets v.original v.hardened (t + 1) b) }
     ensures allowed { OnOk result ((j : ℕ) (a b : AnOutcome) → slice_get o.old.items j ≡ Some a → slice_get o.new.items j ≡ Some b → b.allowed ≡ a.allowed) }
 {
+    let (n, h, c) = (pair.original, pair.hardened, pair.certificate);
     let _known = n.input_count();
     advance_runs(n, h, c, list, t, runs, r)?;
     compare_outputs_wide(n, h, t, &r.original, &r.hardened, o)?;
-    compare_nodes_wide(n, h, c, t, &r.original, &r.hardened, runs, o);
+    compare_nodes_wide(n, h, c, t, r, runs, o);
     Ok(())
 }
 
@@ -131,8 +138,13 @@ pub fn replay_runs(
     let mut outcomes = start_outcomes(alloc, c, list)?;
     let mut runs = start_progress(alloc, c, list)?;
     let mut running = start_runs(alloc, n, h, c, starts)?;
+    let pair = Pair {
+        original: n,
+        hardened: h,
+        certificate: c,
+    };
     for t in 0..list[0].cycles() {
-        count_cycle_wide(n, h, c, list, t, &mut runs, &mut running, &mut outcomes)?;
+        count_cycle_wide(&pair, list, t, &mut runs, &mut running, &mut outcomes)?;
     }
     Ok(outcomes)
 }

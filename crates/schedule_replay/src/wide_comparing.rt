@@ -17,6 +17,7 @@ use crate::Difference;
 use crate::outcome::{Outcome, note};
 use crate::striking::is_quiet;
 use crate::wide_rows::Progress;
+use crate::wide_running::WideRunning;
 use crate::words::bit_of_run;
 use certificate::Certificate;
 use flat_net::FlatNet;
@@ -216,18 +217,17 @@ pub fn compare_nodes_wide(
     h: &FlatNet,
     c: &Certificate,
     t: u32,
-    original: &WideSim,
-    hardened: &TwinSim,
+    r: &WideRunning,
     runs: &[Progress],
     o: &mut Vec<Outcome>,
 )
     requires fits { Fits n.now.net h.now.net c.now }
-    requires original_net { original.now.net ≡ n.now.net }
-    requires hardened_net { hardened.now.net ≡ h.now.net }
-    requires original { IsSome original.now.last }
-    requires hardened { IsSome hardened.now.last }
-    requires beside { RunsBeside n.now.net h.now.net c.now hardened.now }
-    requires compared { IsCompared original.now hardened.now }
+    requires original_net { r.now.original.net ≡ n.now.net }
+    requires hardened_net { r.now.hardened.net ≡ h.now.net }
+    requires original { IsSome r.now.original.last }
+    requires hardened { IsSome r.now.hardened.last }
+    requires beside { RunsBeside n.now.net h.now.net c.now r.now.hardened }
+    requires compared { IsCompared r.now.original r.now.hardened }
     requires few { length o.old.items ≤ 64 }
     requires long { length runs.now ≡ length o.old.items }
     requires lasts { All (λ q. length q.lasts.items ≡ length c.now.depth) runs.now }
@@ -236,14 +236,14 @@ pub fn compare_nodes_wide(
     ensures same { (j : ℕ) (a b : AnOutcome) → slice_get o.old.items j ≡ Some a → slice_get o.new.items j ≡ Some b → b ≡ record a { late = b.late } }
     ensures bound { (j : ℕ) (a b : AnOutcome) → slice_get o.old.items j ≡ Some a → slice_get o.new.items j ≡ Some b → b.late ≤ a.late + 3 * length n.now.net.nodes }
     ensures late { (j : ℕ) (a b : AnOutcome) (q : AProgress) (tr ft : List (List Bool)) (s : List Upset) → slice_get o.old.items j ≡ Some a → slice_get o.new.items j ≡ Some b → slice_get runs.now j ≡ Some q →
-        option_map (bits_of j) original.now.last ≡ Some (row_at tr t) → option_map (bits_of j) hardened.now.last ≡ Some (row_at ft t) → TellQuiet c.now s t q.lasts.items →
+        option_map (bits_of j) r.now.original.last ≡ Some (row_at tr t) → option_map (bits_of j) r.now.hardened.last ≡ Some (row_at ft t) → TellQuiet c.now s t q.lasts.items →
         b ≡ record a { late = a.late + late_in n.now.net c.now s tr ft t (length n.now.net.nodes) } }
 {
     let inputs = n.input_count();
     for i in 0..n.node_count() {
         let x = NetId(inputs + i);
         let p = c.part(x);
-        let words = node_words(n, h, c, x, original, hardened);
+        let words = node_words(n, h, c, x, &r.original, &r.hardened);
         late_runs(o, &words, runs, p, c.depth(p), t);
     }
 }

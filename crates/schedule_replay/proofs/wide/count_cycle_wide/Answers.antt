@@ -18,7 +18,7 @@ compare_outputs_wide-requires-clause-wrong c = λ j d l. let limit = c.requires.
 
 pub compare_nodes_wide-requires-clause-lasts : goal.compare_nodes_wide-requires-clause-lasts
 compare_nodes_wide-requires-clause-lasts c =
-    let depths = c.args.c.now.depth in
+    let depths = c.args.pair.now.certificate.now.depth in
     subst (λ (ps : List Progress). All (λ q. length q.lasts.items ≡ length depths) ps) (sym c.deref.ensures.value)
     (λ j d l.
     let runs = c.in_ok-advance_runs.ensures.taken in
@@ -43,8 +43,8 @@ returns-clause-bounded c = λ j d l.
     let at_b : slice_get c.compare_nodes_wide.new.o.items j ≡ Some b = slice_get-get_or c.compare_nodes_wide.new.o.items j d l in
     let (m, at_m) = slice_get_there c.compare_outputs_wide.new.o.items j (let long = c.compare_nodes_wide.ensures.long in omega arith) in
     let (a, at_a) = slice_get_there c.args.o.now.items j (let long = c.compare_nodes_wide.ensures.long in let more = c.in_ok-compare_outputs_wide.ensures.long in omega arith) in
-    let few : length c.args.n.now.net.nodes ≤ 4294967295 = omega arith in
-    cycle_bounded c.args.t (length c.args.n.now.net.nodes) a m b few (at_place (λ a. CountsFit c.args.t a) c.args.o.now.items j a c.requires.bounded at_a)
+    let few : length c.args.pair.now.original.now.net.nodes ≤ 4294967295 = omega arith in
+    cycle_bounded c.args.t (length c.args.pair.now.original.now.net.nodes) a m b few (at_place (λ a. CountsFit c.args.t a) c.args.o.now.items j a c.requires.bounded at_a)
     (c.in_ok-compare_outputs_wide.ensures.bounded j a m at_a at_m) (c.compare_nodes_wide.ensures.same j m b at_m at_b) (c.compare_nodes_wide.ensures.bound j m b at_m at_b)
 
 pub returns-clause-allowed : goal.returns-clause-allowed
@@ -55,8 +55,8 @@ returns-clause-allowed c = λ j a b at_a at_b.
 
 pub returns-clause-counted : goal.returns-clause-counted
 returns-clause-counted c = λ j s a b v at_s at_a at_b is before counted.
-    let n = c.args.n.now.net in
-    let h = c.args.h.now.net in
+    let n = c.args.pair.now.original.now.net in
+    let h = c.args.pair.now.hardened.now.net in
     let t : ℕ = c.args.t in
     let next : t + 1 ≡ suc t = omega arith in
     let l : j < length c.args.o.now.items = slice_get_within c.args.o.now.items j a at_a in
@@ -69,6 +69,6 @@ returns-clause-counted c = λ j s a b v at_s at_a at_b is before counted.
     let hardened = ran.hardened ∙ ap (before_cycle ft) next in
     let there : slice_get c.deref.result.now j ≡ Some q = ap (λ (ps : List Progress). slice_get ps j) c.deref.ensures.value ∙ at_q in (
       ran,
-      cycle_counted n h c.args.c.now s.upsets tr ft t a m b counted (c.in_ok-compare_outputs_wide.ensures.counts j a m tr ft at_a at_m original hardened) (c.in_ok-compare_outputs_wide.ensures.bounded j a m at_a at_m).late
+      cycle_counted n h c.args.pair.now.certificate.now s.upsets tr ft t a m b counted (c.in_ok-compare_outputs_wide.ensures.counts j a m tr ft at_a at_m original hardened) (c.in_ok-compare_outputs_wide.ensures.bounded j a m at_a at_m).late
           (c.compare_nodes_wide.ensures.late j m b q tr ft s.upsets at_m at_b there original hardened (c.in_ok-advance_runs.ensures.quiet j s q at_s at_q)),
     )

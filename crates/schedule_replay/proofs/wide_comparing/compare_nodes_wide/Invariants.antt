@@ -15,6 +15,6 @@ invariant-loop-i l = record {
   same : (j : ℕ) (a b : Outcome) → slice_get l.fn.o.items j ≡ Some a → slice_get l.o.items j ≡ Some b → b ≡ record a { late = b.late };
   bound : (j : ℕ) (a b : Outcome) → slice_get l.fn.o.items j ≡ Some a → slice_get l.o.items j ≡ Some b → b.late ≤ a.late + 3 * l.i;
   late : (j : ℕ) (a b : Outcome) (q : Progress) (tr ft : List (List Bool)) (s : List Upset) → slice_get l.fn.o.items j ≡ Some a → slice_get l.o.items j ≡ Some b → slice_get l.runs j ≡ Some q →
-      option_map (bits_of j) l.original.last ≡ Some (row_at tr l.t) → option_map (bits_of j) l.hardened.last ≡ Some (row_at ft l.t) → TellQuiet l.c s l.t q.lasts.items →
+      option_map (bits_of j) l.r.original.last ≡ Some (row_at tr l.t) → option_map (bits_of j) l.r.hardened.last ≡ Some (row_at ft l.t) → TellQuiet l.c s l.t q.lasts.items →
       b ≡ record a { late = a.late + late_in l.n.net l.c s tr ft l.t l.i };
 }
