@@ -16,7 +16,7 @@ ghost use Rattle.net_simulator.specs.Truth.{AreTruths, short_value};
 ghost use Rattle.net_simulator.specs.Twins.{AreTablesMet};
 
 use crate::changes::{Changes, put};
-use crate::cycle::{register_word, table_word};
+use crate::cycle::{Given, register_word, table_word};
 use crate::marks::Marks;
 use crate::registers::{Held, held_at};
 use crate::tables::{Entry, Literal, Tables, entry_at, word_at};
@@ -66,8 +66,7 @@ pub fn set_inputs_beside(
 pub fn set_registers_beside(
     net: &FlatNet,
     registers: &[Held],
-    started: bool,
-    before: &[u64],
+    given: &Given,
     marks: &Marks,
     twins: &Twins,
     changes: &mut Changes,
@@ -81,8 +80,8 @@ pub fn set_registers_beside(
     ensures sized { length changes.new.differing.items ≡ length changes.old.differing.items }
     ensures long { length now.new ≡ length now.old }
     ensures settled { (j : ℕ) (ins : List Bool) → j < 64 →
-        IsSettled net.now.net (number_of_cycle started) ins (bits_of j before.now) (marked marks.now j) (IsInput net.now.net) (bits_of j now.old) →
-        IsSettled net.now.net (number_of_cycle started) ins (bits_of j before.now) (marked marks.now j) (IsNoTable net.now.net) (bits_of j now.new) }
+        IsSettled net.now.net (number_of_cycle given.now.started) ins (bits_of j given.now.before.now) (marked marks.now j) (IsInput net.now.net) (bits_of j now.old) →
+        IsSettled net.now.net (number_of_cycle given.now.started) ins (bits_of j given.now.before.now) (marked marks.now j) (IsNoTable net.now.net) (bits_of j now.new) }
     ensures tables { (x : ℕ) → IsTable (node_of net.now.net x) → slice_index now.new x ≡ slice_index now.old x }
     ensures beside { (own : List ℕ) → AreReadersOf net.now.net twins.now.readers →
         IsBeside net.now.net twins.now marks.now own now.old changes.old → IsBeside net.now.net twins.now marks.now own now.new changes.new }
@@ -90,7 +89,7 @@ pub fn set_registers_beside(
     let _inputs = net.input_count();
     for i in 0..registers.len() {
         let register = held_at(net, registers, i);
-        let own = register_word(register, started, before);
+        let own = register_word(register, given.started, given.before);
         put(
             twins,
             register.net,
@@ -101,33 +100,40 @@ pub fn set_registers_beside(
     }
 }
 
-/// Gives a table its value, if it is due.
-fn visit_table(
+/// A table, the word that tells it if it is short, its pins if so, and its literals if not.
+#[derive(Drop)]
+struct TableReads<'a> {
     entry: Entry,
     word: u64,
-    pins: &[NetId],
-    literals: &[Literal],
+    pins: &'a [NetId],
+    literals: &'a [Literal],
+}
+
+/// Gives a table its value, if it is due.
+fn visit_table(
+    table: &TableReads,
     marks: &Marks,
     twins: &Twins,
     changes: &mut Changes,
     now: &mut [u64],
 )
-    requires short { length pins.now ≤ 6 }
+    requires short { length table.now.pins.now ≤ 6 }
     requires marks { AreMarks (length now.old) marks.now }
-    requires net { entry.net.0 < length now.old }
+    requires net { table.now.entry.net.0 < length now.old }
     requires room { IsRoom (length now.old) twins.now changes.old }
     ensures room { IsRoom (length now.new) twins.now changes.new }
     ensures sized { length changes.new.differing.items ≡ length changes.old.differing.items }
     ensures long { length now.new ≡ length now.old }
-    ensures written { bit changes.old.due.items entry.net.0 ≡ true → now.new ≡ slice_set now.old entry.net.0 (slice_index now.new entry.net.0) }
-    ensures value { bit changes.old.due.items entry.net.0 ≡ true → (j : ℕ) → j < 64 →
-        word_bit j (slice_index now.new entry.net.0) ≡ unwrap_or (marked marks.now j entry.net.0) (short_value entry word pins.now literals.now (bit (bits_of j now.old))) }
-    ensures left { bit changes.old.due.items entry.net.0 ≡ false → now.new ≡ now.old }
+    ensures written { bit changes.old.due.items table.now.entry.net.0 ≡ true → now.new ≡ slice_set now.old table.now.entry.net.0 (slice_index now.new table.now.entry.net.0) }
+    ensures value { bit changes.old.due.items table.now.entry.net.0 ≡ true → (j : ℕ) → j < 64 →
+        word_bit j (slice_index now.new table.now.entry.net.0) ≡ unwrap_or (marked marks.now j table.now.entry.net.0) (short_value table.now.entry table.now.word table.now.pins.now table.now.literals.now (bit (bits_of j now.old))) }
+    ensures left { bit changes.old.due.items table.now.entry.net.0 ≡ false → now.new ≡ now.old }
     ensures beside { (h : Net) (own : List ℕ) → AreReadersOf h twins.now.readers →
         IsBeside h twins.now marks.now own now.old changes.old → IsBeside h twins.now marks.now own now.new changes.new }
 {
+    let entry = table.entry;
     if changes.due[entry.net.0 as usize] {
-        let own = table_word(entry, word, pins, literals, now);
+        let own = table_word(entry, table.word, table.pins, table.literals, now);
         put(twins, entry.net, marks.word(own, entry.net), changes, now);
     }
 }
@@ -166,7 +172,13 @@ pub fn set_tables_beside(
         let (literals, others) = rest.split_at(entry.count);
         let (pins, other_pins) = rest_pins.split_at(entry.pins as usize);
         let word = word_at_place(&truths.words, i);
-        visit_table(entry, word, pins, literals, marks, twins, changes, now);
+        let table = TableReads {
+            entry,
+            word,
+            pins,
+            literals,
+        };
+        visit_table(&table, marks, twins, changes, now);
         rest = others;
         rest_pins = other_pins;
     }

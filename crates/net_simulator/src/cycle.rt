@@ -18,6 +18,17 @@ use crate::truth::{Truths, word_at_place};
 use flat_net::FlatNet;
 use tmr_base::NetId;
 
+/// What is given in a cycle.
+#[derive(Drop)]
+pub struct Given<'a> {
+    /// Whether there was a cycle before it.
+    pub started: bool,
+    /// The words of all nets in that.
+    pub before: &'a [u64],
+    /// The words of the inputs.
+    pub ins: &'a [u64],
+}
+
 /// What its own equation gives a register.
 pub fn register_word(register: Held, started: bool, before: &[u64]) -> u64
     ensures { (j : ℕ) → j < 64 → word_bit j result ≡ (if started then word_bit j (slice_index before.now register.pin.0) else register.init) }
@@ -115,21 +126,26 @@ pub fn run_cycle(
     net: &FlatNet,
     tables: &Tables,
     truths: &Truths,
-    started: bool,
-    ins: &[u64],
-    before: &[u64],
+    given: &Given,
     marks: &Marks,
     now: &mut [u64],
 )
-    requires ins { length ins.now ≡ length net.now.net.inputs }
+    requires ins { length given.now.ins.now ≡ length net.now.net.inputs }
     requires marks { AreMarks (net_count net.now.net) marks.now }
     requires now { length now.old ≡ net_count net.now.net }
     requires tables { AreTables net.now.net tables.now }
     requires truths { AreTruths net.now.net (entry_nets tables.now.entries.items) truths.now }
-    ensures { (j : ℕ) → j < 64 → IsCycle net.now.net (last_of started (bits_of j before.now)) (bits_of j ins.now) (marked marks.now j) (bits_of j now.new) }
+    ensures { (j : ℕ) → j < 64 → IsCycle net.now.net (last_of given.now.started (bits_of j given.now.before.now)) (bits_of j given.now.ins.now) (marked marks.now j) (bits_of j now.new) }
 {
     let _inputs = net.input_count();
-    set_inputs(ins, marks, now);
-    set_registers(net, &tables.registers, started, before, marks, now);
-    set_tables(net, tables, truths, started, before, marks, now);
+    set_inputs(given.ins, marks, now);
+    set_registers(
+        net,
+        &tables.registers,
+        given.started,
+        given.before,
+        marks,
+        now,
+    );
+    set_tables(net, tables, truths, given.started, given.before, marks, now);
 }

@@ -12,6 +12,7 @@ ghost use Rattle.net_simulator.specs.Twins.{AreTablesMet, AreWordsBut};
 
 use crate::beside::{follow, set_inputs_beside, set_registers_beside, set_tables_beside};
 use crate::changes::{Changes, begin, no_changes};
+use crate::cycle::Given;
 use crate::marks::{Marks, no_marks};
 use crate::tables::{Tables, tables_of};
 use crate::truth::{Truths, truths_of};
@@ -86,17 +87,9 @@ fn start_beside(
 }
 
 /// Gives all nets their values.
-fn run_beside(
-    layout: &Layout,
-    started: bool,
-    ins: &[u64],
-    before: &[u64],
-    marks: &Marks,
-    changes: &mut Changes,
-    now: &mut [u64],
-)
+fn run_beside(layout: &Layout, given: &Given, marks: &Marks, changes: &mut Changes, now: &mut [u64])
     requires layout { IsLayout layout.now }
-    requires ins { length ins.now ≡ length layout.now.net.now.net.inputs }
+    requires ins { length given.now.ins.now ≡ length layout.now.net.now.net.inputs }
     requires marks { AreMarks (net_count layout.now.net.now.net) marks.now }
     requires now { length now.old ≡ net_count layout.now.net.now.net }
     requires room { IsRoom (length now.old) layout.now.twins changes.old }
@@ -105,17 +98,16 @@ fn run_beside(
     ensures long { length now.new ≡ length now.old }
     ensures cycle { (j : ℕ) (n : Net) (own : List ℕ) (forced : ℕ → Option Bool) → j < 64 → AreTwins n layout.now.net.now.net layout.now.twins → AreTablesMet n (bits_of j own) →
         AreOwn layout.now.twins own now.old → IsBeside layout.now.net.now.net layout.now.twins marks.now own now.old changes.old → ((x : ℕ) → marked marks.now j x ≡ forced x) →
-        IsCycle layout.now.net.now.net (last_of started (bits_of j before.now)) (bits_of j ins.now) forced (bits_of j now.new) }
+        IsCycle layout.now.net.now.net (last_of given.now.started (bits_of j given.now.before.now)) (bits_of j given.now.ins.now) forced (bits_of j now.new) }
     ensures beside { (own : List ℕ) → AreReadersOf layout.now.net.now.net layout.now.twins.readers →
         IsBeside layout.now.net.now.net layout.now.twins marks.now own now.old changes.old → IsBeside layout.now.net.now.net layout.now.twins marks.now own now.new changes.new }
 {
     let _inputs = layout.net.input_count();
-    set_inputs_beside(ins, marks, &layout.twins, changes, now);
+    set_inputs_beside(given.ins, marks, &layout.twins, changes, now);
     set_registers_beside(
         layout.net,
         &layout.tables.registers,
-        started,
-        before,
+        given,
         marks,
         &layout.twins,
         changes,
@@ -135,17 +127,15 @@ fn run_beside(
 /// Gives all nets their values, where what the triples say is forced, and `own` are the words of the other design.
 fn cycle_beside(
     layout: &Layout,
-    started: bool,
+    given: &Given,
     own: &[u64],
-    ins: &[u64],
     forced: &[(NetId, u64, u64)],
-    before: &[u64],
     marks: &mut Marks,
     changes: &mut Changes,
     now: &mut [u64],
 )
     requires layout { IsLayout layout.now }
-    requires ins { length ins.now ≡ length layout.now.net.now.net.inputs }
+    requires ins { length given.now.ins.now ≡ length layout.now.net.now.net.inputs }
     requires forced { All (λ f. f.0.0 < net_count layout.now.net.now.net) forced.now }
     requires marks { AreMarks (net_count layout.now.net.now.net) marks.old }
     requires now { length now.old ≡ net_count layout.now.net.now.net }
@@ -156,11 +146,11 @@ fn cycle_beside(
     ensures sized { length changes.new.differing.items ≡ length changes.old.differing.items }
     ensures long { length now.new ≡ length now.old }
     ensures cycle { (j : ℕ) (n : Net) → j < 64 → AreTwins n layout.now.net.now.net layout.now.twins → AreTablesMet n (bits_of j own.now) →
-        IsCycle layout.now.net.now.net (last_of started (bits_of j before.now)) (bits_of j ins.now) (forced_in j forced.now) (bits_of j now.new) }
+        IsCycle layout.now.net.now.net (last_of given.now.started (bits_of j given.now.before.now)) (bits_of j given.now.ins.now) (forced_in j forced.now) (bits_of j now.new) }
     ensures alike { AreReadersOf layout.now.net.now.net layout.now.twins.readers → AreWordsBut changes.new.differing.items (map number_of layout.now.twins.origins.items) own.now now.new }
 {
     start_beside(&layout.twins, own, forced, marks, changes, now);
-    run_beside(layout, started, ins, before, marks, changes, now);
+    run_beside(layout, given, marks, changes, now);
 }
 
 /// What a simulator keeps of its design.
@@ -244,13 +234,16 @@ impl<'a> TwinSim<'a> {
         ensures alike { IsSomeAnd original.now.last (λ own. IsSomeAnd self.new.last (λ words. AreWordsBut self.new.differing self.new.origins own words)) }
     {
         mem::swap(&mut self.words, &mut self.before);
+        let given = Given {
+            started: self.started,
+            before: &self.before,
+            ins,
+        };
         cycle_beside(
             &self.layout,
-            self.started,
+            &given,
             original.words(),
-            ins,
             forced,
-            &self.before,
             &mut self.marks,
             &mut self.changes,
             &mut self.words,

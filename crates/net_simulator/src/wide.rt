@@ -5,7 +5,7 @@ ghost use Rattle.flat_net.specs.Net.{net_count};
 ghost use Rattle.net_simulator.specs.Cycle.{IsCycle, forced_in};
 ghost use Rattle.net_simulator.specs.Settled.{marked, AreMarks};
 
-use crate::cycle::run_cycle;
+use crate::cycle::{Given, run_cycle};
 use crate::marks::{Marks, no_marks};
 use crate::tables::{Tables, tables_of};
 use crate::truth::{Truths, truths_of};
@@ -90,13 +90,16 @@ impl<'a> WideSim<'a> {
     {
         force(&mut self.marks, forced);
         mem::swap(&mut self.words, &mut self.before);
+        let given = Given {
+            started: self.started,
+            before: &self.before,
+            ins,
+        };
         run_cycle(
             self.net,
             &self.tables,
             &self.truths,
-            self.started,
-            ins,
-            &self.before,
+            &given,
             &self.marks,
             &mut self.words,
         );

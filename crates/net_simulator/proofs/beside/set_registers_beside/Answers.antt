@@ -17,7 +17,7 @@ loop-i-init c = record {
   sized = refl;
   long = refl;
   settled = λ j ins l first.
-      settled_anyway c.args.net.now.net (number_of_cycle c.args.started) ins (bits_of j c.args.before.now) (marked c.args.marks.now j) (IsInput c.args.net.now.net) (IsHeldAmong c.args.net.now.net (held_nets c.args.registers.now) 0) (bits_of j c.args.now.now) 0 true
+      settled_anyway c.args.net.now.net (number_of_cycle c.args.given.now.started) ins (bits_of j c.args.given.now.before.now) (marked c.args.marks.now j) (IsInput c.args.net.now.net) (IsHeldAmong c.args.net.now.net (held_nets c.args.registers.now) 0) (bits_of j c.args.now.now) 0 true
       first (λ y h q. no_held c.args.net.now.net (held_nets c.args.registers.now) y q);
   tables = λ x t. refl;
   beside = λ own readers is. is;
@@ -32,11 +32,11 @@ loop-i-preserved c =
       sized = c.put.ensures.sized ∙ c.loop-i.invariant.sized;
       long = ap (λ (ws : List ℕ). length ws) c.put.ensures.now ∙ (length-set c.loop-i.now r.net.0 c.word.result ∙ c.loop-i.invariant.long);
       settled = λ j ins l first.
-          let own : word_bit j c.register_word-own.result ≡ cond c.args.started (bit (bits_of j c.args.before.now) r.pin.0) r.init =
-          c.register_word-own.ensures j l ∙ ap (λ (b : Bool). cond c.args.started b r.init) (sym (bit_of_words j c.args.before.now r.pin.0)) in
-          subst (λ (ws : List ℕ). IsSettled n (number_of_cycle c.args.started) ins (bits_of j c.args.before.now) (marked c.args.marks.now j) (IsHeldAmong n (held_nets c.args.registers.now) (c.loop-i.i + 1)) (bits_of j ws)) (sym c.put.ensures.now)
-          (settled_words n (number_of_cycle c.args.started) ins (bits_of j c.args.before.now) (marked c.args.marks.now j) (IsHeldAmong n (held_nets c.args.registers.now) (c.loop-i.i + 1)) c.loop-i.now j r.net.0 c.word.result
-          (register_settles n c.args.registers.now c.loop-i.i r c.args.started ins (bits_of j c.args.before.now) (marked c.args.marks.now j) (bits_of j c.loop-i.now) (word_bit j c.register_word-own.result) (word_bit j c.word.result)
+          let own : word_bit j c.register_word-own.result ≡ cond c.args.given.now.started (bit (bits_of j c.args.given.now.before.now) r.pin.0) r.init =
+          c.register_word-own.ensures j l ∙ ap (λ (b : Bool). cond c.args.given.now.started b r.init) (sym (bit_of_words j c.args.given.now.before.now r.pin.0)) in
+          subst (λ (ws : List ℕ). IsSettled n (number_of_cycle c.args.given.now.started) ins (bits_of j c.args.given.now.before.now) (marked c.args.marks.now j) (IsHeldAmong n (held_nets c.args.registers.now) (c.loop-i.i + 1)) (bits_of j ws)) (sym c.put.ensures.now)
+          (settled_words n (number_of_cycle c.args.given.now.started) ins (bits_of j c.args.given.now.before.now) (marked c.args.marks.now j) (IsHeldAmong n (held_nets c.args.registers.now) (c.loop-i.i + 1)) c.loop-i.now j r.net.0 c.word.result
+          (register_settles n c.args.registers.now c.loop-i.i r c.args.given.now.started ins (bits_of j c.args.given.now.before.now) (marked c.args.marks.now j) (bits_of j c.loop-i.now) (word_bit j c.register_word-own.result) (word_bit j c.word.result)
           c.held_at-register.ensures.there c.held_at-register.ensures.holds own (c.word.ensures j l) (c.loop-i.invariant.settled j ins l first)));
       tables = λ x t.
           ap (λ (ws : List ℕ). slice_index ws x) c.put.ensures.now
@@ -47,5 +47,5 @@ loop-i-preserved c =
 
 pub returns-clause-settled : goal.returns-clause-settled
 returns-clause-settled c = λ j ins l first.
-    settled_anyway c.args.net.now.net (number_of_cycle c.args.started) ins (bits_of j c.args.before.now) (marked c.args.marks.now j) (IsHeldAmong c.args.net.now.net (held_nets c.args.registers.now) c.loop-i.i) (IsNoTable c.args.net.now.net) (bits_of j c.loop-i.now) 0 true
+    settled_anyway c.args.net.now.net (number_of_cycle c.args.given.now.started) ins (bits_of j c.args.given.now.before.now) (marked c.args.marks.now j) (IsHeldAmong c.args.net.now.net (held_nets c.args.registers.now) c.loop-i.i) (IsNoTable c.args.net.now.net) (bits_of j c.loop-i.now) 0 true
     (c.loop-i.invariant.settled j ins l first) (λ y h q. all_held c.args.net.now.net c.args.registers.now c.loop-i.i c.requires.registers (omega arith) y q)

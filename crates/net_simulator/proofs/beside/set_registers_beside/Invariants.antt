@@ -11,8 +11,8 @@ invariant-loop-i l = record {
   room : IsRoom (length l.now) l.twins l.changes;
   sized : length l.changes.differing.items ≡ length l.fn.changes.differing.items;
   long : length l.now ≡ length l.fn.now;
-  settled : (j : ℕ) (ins : List Bool) → j < 64 → IsSettled l.net.net (number_of_cycle l.started) ins (bits_of j l.before) (marked l.marks j) (IsInput l.net.net) (bits_of j l.fn.now)
-      → IsSettled l.net.net (number_of_cycle l.started) ins (bits_of j l.before) (marked l.marks j) (IsHeldAmong l.net.net (held_nets l.registers) l.i) (bits_of j l.now);
+  settled : (j : ℕ) (ins : List Bool) → j < 64 → IsSettled l.net.net (number_of_cycle l.given.started) ins (bits_of j l.given.before.now) (marked l.marks j) (IsInput l.net.net) (bits_of j l.fn.now)
+      → IsSettled l.net.net (number_of_cycle l.given.started) ins (bits_of j l.given.before.now) (marked l.marks j) (IsHeldAmong l.net.net (held_nets l.registers) l.i) (bits_of j l.now);
   tables : (x : ℕ) → IsTable (node_of l.net.net x) → slice_index l.now x ≡ slice_index l.fn.now x;
   beside : (own : List ℕ) → AreReadersOf l.net.net l.twins.readers → IsBeside l.net.net l.twins l.marks own l.fn.now l.fn.changes → IsBeside l.net.net l.twins l.marks own l.now l.changes;
 }
