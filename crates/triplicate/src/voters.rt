@@ -47,7 +47,14 @@ pub struct Voters {
     pub taps: Taps,
 }
 
-/// Notes the partition of node y for what it reads at pin j, where that is voted, and at which place of the net's row it stands.
+/// One pin of a node: the node's number among the nodes, and which of its pins.
+#[derive(Clone, Copy, Drop)]
+struct NodePin {
+    node: u32,
+    pin: u32,
+}
+
+/// Notes the partition of a node for what it reads at a pin, where that is voted, and at which place of the net's row it stands.
 /// That place is written at `at`.
 fn note_pin(
     n: &FlatNet,
@@ -56,27 +63,26 @@ fn note_pin(
     rows: &mut Notes,
     places: &mut Vec<u32>,
     at: usize,
-    y: u32,
-    j: u32,
+    reader: NodePin,
 ) -> Result<(), OutOfMemory>
     requires votes { AreVotesOf n.now.net parts.now votes.now }
-    requires node { y < length n.now.net.nodes }
-    requires pin { j < length (node_pins n.now.net y) }
+    requires node { reader.node < length n.now.net.nodes }
+    requires pin { reader.pin < length (node_pins n.now.net reader.node) }
     requires at { at < length places.old.items }
-    requires noting { IsNoting n.now.net parts.now (pin_is_voted n.now.net parts.now votes.now) (slice_index parts.now.of y) rows.old }
-    ensures rows { OnOk result (rows.new ≡ pin_noted n.now.net parts.now (pin_is_voted n.now.net parts.now votes.now) y j rows.old) }
-    ensures places { OnOk result (places.new.items ≡ slice_set places.old.items at (tap_of n.now.net parts.now (pin_is_voted n.now.net parts.now votes.now) y j)) }
-    ensures noting { OnOk result (IsNoting n.now.net parts.now (pin_is_voted n.now.net parts.now votes.now) (slice_index parts.now.of y) rows.new) }
+    requires noting { IsNoting n.now.net parts.now (pin_is_voted n.now.net parts.now votes.now) (slice_index parts.now.of reader.node) rows.old }
+    ensures rows { OnOk result (rows.new ≡ pin_noted n.now.net parts.now (pin_is_voted n.now.net parts.now votes.now) reader.node reader.pin rows.old) }
+    ensures places { OnOk result (places.new.items ≡ slice_set places.old.items at (tap_of n.now.net parts.now (pin_is_voted n.now.net parts.now votes.now) reader.node reader.pin)) }
+    ensures noting { OnOk result (IsNoting n.now.net parts.now (pin_is_voted n.now.net parts.now votes.now) (slice_index parts.now.of reader.node) rows.new) }
 {
     let _nodes = nodes_of(n);
     let _count = parts.count();
-    if !is_voted(n, parts, votes, y, j) {
+    if !is_voted(n, parts, votes, reader.node, reader.pin) {
         places[at] = 0;
         return Ok(());
     }
     let inputs = n.input_count();
-    let pin = n.pin(NetId(inputs + y), j);
-    let part = parts.of(y);
+    let pin = n.pin(NetId(inputs + reader.node), reader.pin);
+    let part = parts.of(reader.node);
     rows.note(pin.0, part)?;
     places[at] = rows.count(pin.0) as u32;
     Ok(())
@@ -105,16 +111,9 @@ fn note_pins(
     let _nodes = nodes_of(n);
     let node = NetId(n.input_count() + y);
     for j in 0..n.pin_count(node) {
-        note_pin(
-            n,
-            parts,
-            votes,
-            rows,
-            places,
-            first as usize + j as usize,
-            y,
-            j,
-        )?;
+        let reader = NodePin { node: y, pin: j };
+        let at = first as usize + j as usize;
+        note_pin(n, parts, votes, rows, places, at, reader)?;
     }
     Ok(())
 }

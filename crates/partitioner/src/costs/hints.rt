@@ -13,7 +13,7 @@ ghost use Rattle.partitioner.specs.Private.Tracking.{Tracks, held_parts};
 use crate::costs::gains::{Gains, begin, count_once, missed_in, near_in, no_gains};
 use crate::counts::partitioning::Partitioning;
 use crate::counts::spots::Spots;
-use crate::refinement::placing::part_of;
+use crate::refinement::placing::{Mover, part_of};
 use flat_net::{FlatNet, nodes_of};
 use node_reads::is_wide;
 use std::alloc::Global;
@@ -75,25 +75,18 @@ pub fn no_hints(n: &FlatNet, p: &Partitioning, gains: &Gains, hints: &mut Gains,
     begin(hints, p.count);
 }
 
-/// Counts the nodes that node i reads from the first that is not counted yet to one that is not wide, or that is read in over `most`
+/// Counts the nodes that the node reads from the first that is not counted yet to one that is not wide, or that is read in over `most`
 /// partitions with room, or until turns run out.
-pub fn count_hints(
-    n: &FlatNet,
-    p: &Partitioning,
-    spots: &Spots,
-    gains: &Gains,
-    hints: &mut Gains,
-    size: u32,
-    i: u32,
-    most: usize,
-)
-    requires counted { IsCounted n.now.net p.now i gains.now }
-    requires spots { AreSpots n.now.net size (held_parts p.now) spots.now }
-    requires kept { AreKept p.now.count hints.old }
-    ensures { AreHints n.now.net size p.now i gains.now hints.new }
+pub fn count_hints(mover: &Mover, hints: &mut Gains, most: usize)
+    requires counted { IsCounted mover.now.net.now.net mover.now.parts.now mover.now.node mover.now.gains.now }
+    requires spots { AreSpots mover.now.net.now.net mover.now.size (held_parts mover.now.parts.now) mover.now.spots.now }
+    requires kept { AreKept mover.now.parts.now.count hints.old }
+    ensures { AreHints mover.now.net.now.net mover.now.size mover.now.parts.now mover.now.node mover.now.gains.now hints.new }
 {
+    let (n, p, i) = (mover.net, mover.parts, mover.node);
+    let (spots, gains) = (mover.spots, mover.gains);
     let _nodes = nodes_of(n);
-    no_hints(n, p, gains, hints, size, i);
+    no_hints(n, p, gains, hints, mover.size, i);
     let row = p.sources.row(i);
     for j in gains.counted as usize..row.len() {
         let x = row[j];
@@ -101,7 +94,7 @@ pub fn count_hints(
             return;
         }
         hints.turn += 1;
-        hint_source(n, p, spots, hints, size, x);
+        hint_source(n, p, spots, hints, mover.size, x);
         hints.counted += 1;
     }
 }

@@ -21,6 +21,18 @@ use crate::refinement::scanning::{consider_blocks, is_scanned};
 use flat_net::FlatNet;
 use node_reads::is_wide;
 
+/// A node that may move, and what tells where it goes: the design, where its nodes stand, in which partitions wide nodes are read, what the
+/// node gains in each partition, and the size of partitions.
+#[derive(Drop)]
+pub struct Mover<'a> {
+    pub net: &'a FlatNet,
+    pub parts: &'a Partitioning,
+    pub spots: &'a Spots,
+    pub gains: &'a Gains,
+    pub size: u32,
+    pub node: u32,
+}
+
 /// The best partition so far for a node, and the node's loss there.
 #[derive(Clone, Copy, Drop)]
 pub struct Lead {
@@ -68,28 +80,21 @@ fn is_settled(lead: Lead, start: u32, tried: u64) -> bool
     lead.loss < tried || (lead.loss == tried && lead.place == start)
 }
 
-/// The lead after partition q is tried for node i.
-pub fn consider(
-    n: &FlatNet,
-    p: &Partitioning,
-    gains: &Gains,
-    size: u32,
-    i: u32,
-    lead: Lead,
-    q: u32,
-) -> Lead
-    requires counted { IsCounted n.now.net p.now i gains.now }
-    requires partition { q < p.now.count }
-    requires lead { IsLead n.now.net size p.now i lead }
-    ensures lead { IsLead n.now.net size p.now i result }
-    ensures kept { (c : ℕ) → Leads n.now.net p.now i lead.place c → Leads n.now.net p.now i result.place c }
-    ensures tried { LeadsOpen n.now.net size p.now i result.place q }
+/// The lead after partition q is tried.
+pub fn consider(mover: &Mover, lead: Lead, q: u32) -> Lead
+    requires counted { IsCounted mover.now.net.now.net mover.now.parts.now mover.now.node mover.now.gains.now }
+    requires partition { q < mover.now.parts.now.count }
+    requires lead { IsLead mover.now.net.now.net mover.now.size mover.now.parts.now mover.now.node lead }
+    ensures lead { IsLead mover.now.net.now.net mover.now.size mover.now.parts.now mover.now.node result }
+    ensures kept { (c : ℕ) → Leads mover.now.net.now.net mover.now.parts.now mover.now.node lead.place c → Leads mover.now.net.now.net mover.now.parts.now mover.now.node result.place c }
+    ensures tried { LeadsOpen mover.now.net.now.net mover.now.size mover.now.parts.now mover.now.node result.place q }
 {
+    let (n, p, i) = (mover.net, mover.parts, mover.node);
     let start = p.of[i as usize];
-    if q == start || q == lead.place || !has_room(n, p, size, q) {
+    if q == start || q == lead.place || !has_room(n, p, mover.size, q) {
         return lead;
     }
-    let found = loss_up_to(n, p, gains, i, q, lead.loss);
+    let found = loss_up_to(n, p, mover.gains, i, q, lead.loss);
     if is_better(lead, start, found, q) {
         Lead {
             place: q,
@@ -100,26 +105,19 @@ pub fn consider(
     }
 }
 
-/// The lead after the partitions of all other readers of node x are tried for node i.
-fn consider_readers(
-    n: &FlatNet,
-    p: &Partitioning,
-    gains: &Gains,
-    size: u32,
-    i: u32,
-    lead: Lead,
-    x: u32,
-) -> Lead
-    requires counted { IsCounted n.now.net p.now i gains.now }
-    requires read { x < length n.now.net.nodes }
-    requires lead { IsLead n.now.net size p.now i lead }
-    ensures lead { IsLead n.now.net size p.now i result }
-    ensures kept { (c : ℕ) → Leads n.now.net p.now i lead.place c → Leads n.now.net p.now i result.place c }
-    ensures tried { LeadsReaders n.now.net size p.now i result.place x }
+/// The lead after the partitions of all other readers of node x are tried.
+fn consider_readers(mover: &Mover, lead: Lead, x: u32) -> Lead
+    requires counted { IsCounted mover.now.net.now.net mover.now.parts.now mover.now.node mover.now.gains.now }
+    requires read { x < length mover.now.net.now.net.nodes }
+    requires lead { IsLead mover.now.net.now.net mover.now.size mover.now.parts.now mover.now.node lead }
+    ensures lead { IsLead mover.now.net.now.net mover.now.size mover.now.parts.now mover.now.node result }
+    ensures kept { (c : ℕ) → Leads mover.now.net.now.net mover.now.parts.now mover.now.node lead.place c → Leads mover.now.net.now.net mover.now.parts.now mover.now.node result.place c }
+    ensures tried { LeadsReaders mover.now.net.now.net mover.now.size mover.now.parts.now mover.now.node result.place x }
 {
+    let (n, p) = (mover.net, mover.parts);
     let mut lead = lead;
     for y in p.readers.row(x) {
-        lead = consider(n, p, gains, size, i, lead, part_of(n, p, *y));
+        lead = consider(mover, lead, part_of(n, p, *y));
     }
     lead
 }
@@ -153,93 +151,65 @@ pub fn may_move(n: &FlatNet, p: &Placed, size: u32) -> bool
     1 < p.count && any_room(p.held.as_slice(), size)
 }
 
-/// The lead after partition q is tried for node i, unless it loses too many by what is counted.
-fn consider_hinted(
-    n: &FlatNet,
-    p: &Partitioning,
-    gains: &Gains,
-    hints: &Gains,
-    size: u32,
-    i: u32,
-    lead: Lead,
-    q: u32,
-) -> Lead
-    requires counted { IsCounted n.now.net p.now i gains.now }
-    requires hints { AreHints n.now.net size p.now i gains.now hints.now }
-    requires partition { q < p.now.count }
-    requires lead { IsLead n.now.net size p.now i lead }
-    ensures lead { IsLead n.now.net size p.now i result }
-    ensures kept { (c : ℕ) → Leads n.now.net p.now i lead.place c → Leads n.now.net p.now i result.place c }
-    ensures tried { LeadsOpen n.now.net size p.now i result.place q }
+/// The lead after partition q is tried, unless it loses too many by what is counted.
+fn consider_hinted(mover: &Mover, hints: &Gains, lead: Lead, q: u32) -> Lead
+    requires counted { IsCounted mover.now.net.now.net mover.now.parts.now mover.now.node mover.now.gains.now }
+    requires hints { AreHints mover.now.net.now.net mover.now.size mover.now.parts.now mover.now.node mover.now.gains.now hints.now }
+    requires partition { q < mover.now.parts.now.count }
+    requires lead { IsLead mover.now.net.now.net mover.now.size mover.now.parts.now mover.now.node lead }
+    ensures lead { IsLead mover.now.net.now.net mover.now.size mover.now.parts.now mover.now.node result }
+    ensures kept { (c : ℕ) → Leads mover.now.net.now.net mover.now.parts.now mover.now.node lead.place c → Leads mover.now.net.now.net mover.now.parts.now mover.now.node result.place c }
+    ensures tried { LeadsOpen mover.now.net.now.net mover.now.size mover.now.parts.now mover.now.node result.place q }
 {
-    let least = least_in(n, p, gains, hints, size, i, q);
+    let (n, p, i) = (mover.net, mover.parts, mover.node);
+    let least = least_in(n, p, mover.gains, hints, mover.size, i, q);
     if is_better(lead, part_of(n, p, i), least, q) {
-        consider(n, p, gains, size, i, lead, q)
+        consider(mover, lead, q)
     } else {
         lead
     }
 }
 
-/// Counts hints for node i where they are wanted and there are none.
-fn hint_late(
-    n: &FlatNet,
-    p: &Partitioning,
-    spots: &Spots,
-    gains: &Gains,
-    hints: &mut Gains,
-    size: u32,
-    i: u32,
-    wanted: bool,
-    most: usize,
-)
-    requires counted { IsCounted n.now.net p.now i gains.now }
-    requires spots { AreSpots n.now.net size (held_parts p.now) spots.now }
-    requires hints { AreHints n.now.net size p.now i gains.now hints.old }
-    ensures { AreHints n.now.net size p.now i gains.now hints.new }
+/// Counts hints where they are wanted and there are none.
+fn hint_late(mover: &Mover, hints: &mut Gains, wanted: bool, most: usize)
+    requires counted { IsCounted mover.now.net.now.net mover.now.parts.now mover.now.node mover.now.gains.now }
+    requires spots { AreSpots mover.now.net.now.net mover.now.size (held_parts mover.now.parts.now) mover.now.spots.now }
+    requires hints { AreHints mover.now.net.now.net mover.now.size mover.now.parts.now mover.now.node mover.now.gains.now hints.old }
+    ensures { AreHints mover.now.net.now.net mover.now.size mover.now.parts.now mover.now.node mover.now.gains.now hints.new }
 {
     if wanted && hints.counted == 0 {
-        count_hints(n, p, spots, gains, hints, size, i, most);
+        count_hints(mover, hints, most);
     }
 }
 
-/// The lead after the partitions with room in which wide node x is read are tried for node i, in
+/// The lead after the partitions with room in which wide node x is read are tried, in
 /// ascending order, until none that is left can take the lead: those not met yet lose at least `tried`.
 ///
-/// Once an eighth of them are tried, to count where all that node i reads is read takes less time than to look it up in each.
-fn consider_spots(
-    n: &FlatNet,
-    p: &Partitioning,
-    spots: &Spots,
-    gains: &Gains,
-    hints: &mut Gains,
-    size: u32,
-    i: u32,
-    lead: Lead,
-    x: u32,
-    tried: u64,
-) -> Lead
-    requires counted { IsCounted n.now.net p.now i gains.now }
-    requires spots { AreSpots n.now.net size (held_parts p.now) spots.now }
-    requires hints { AreHints n.now.net size p.now i gains.now hints.old }
-    requires read { x < length n.now.net.nodes }
-    requires wide { is_wide n.now.net x ≡ true }
-    requires lead { IsLead n.now.net size p.now i lead }
-    requires least { (c : ℕ) → c < p.now.count → has_room size (held_parts p.now) c ≡ true → LeadsOrLoses n.now.net p.now i lead.place tried c }
-    ensures lead { IsLead n.now.net size p.now i result }
-    ensures kept { (c : ℕ) → Leads n.now.net p.now i lead.place c → Leads n.now.net p.now i result.place c }
-    ensures tried { LeadsReaders n.now.net size p.now i result.place x }
-    ensures hints { AreHints n.now.net size p.now i gains.now hints.new }
+/// Once an eighth of them are tried, to count where all that the node reads is read takes less time than to look it up in each.
+fn consider_spots(mover: &Mover, hints: &mut Gains, lead: Lead, x: u32, tried: u64) -> Lead
+    requires counted { IsCounted mover.now.net.now.net mover.now.parts.now mover.now.node mover.now.gains.now }
+    requires spots { AreSpots mover.now.net.now.net mover.now.size (held_parts mover.now.parts.now) mover.now.spots.now }
+    requires hints { AreHints mover.now.net.now.net mover.now.size mover.now.parts.now mover.now.node mover.now.gains.now hints.old }
+    requires read { x < length mover.now.net.now.net.nodes }
+    requires wide { is_wide mover.now.net.now.net x ≡ true }
+    requires lead { IsLead mover.now.net.now.net mover.now.size mover.now.parts.now mover.now.node lead }
+    requires least { (c : ℕ) → c < mover.now.parts.now.count → has_room mover.now.size (held_parts mover.now.parts.now) c ≡ true → LeadsOrLoses mover.now.net.now.net mover.now.parts.now mover.now.node lead.place tried c }
+    ensures lead { IsLead mover.now.net.now.net mover.now.size mover.now.parts.now mover.now.node result }
+    ensures kept { (c : ℕ) → Leads mover.now.net.now.net mover.now.parts.now mover.now.node lead.place c → Leads mover.now.net.now.net mover.now.parts.now mover.now.node result.place c }
+    ensures tried { LeadsReaders mover.now.net.now.net mover.now.size mover.now.parts.now mover.now.node result.place x }
+    ensures hints { AreHints mover.now.net.now.net mover.now.size mover.now.parts.now mover.now.node mover.now.gains.now hints.new }
 {
+    let p = mover.parts;
     let mut lead = lead;
-    let free = spots.free.set(x);
+    let free = mover.spots.free.set(x);
     let most = free.len().saturating_mul(8);
     let enough = (free.len() / 8).max(8);
     let mut tries: usize = 0;
     for q in free.iter() {
         if *q < p.count {
             tries = tries.wrapping_add(1);
-            hint_late(n, p, spots, gains, hints, size, i, tries == enough, most);
-            lead = consider_hinted(n, p, gains, hints, size, i, lead, *q);
+            hint_late(mover, hints, tries == enough, most);
+            lead = consider_hinted(mover, hints, lead, *q);
             if lead.loss <= tried && lead.place <= *q {
                 return lead;
             }
@@ -248,72 +218,54 @@ fn consider_spots(
     lead
 }
 
-/// The lead after the partitions of node x and of its other readers are tried for node i. Those not met
+/// The lead after the partitions of node x and of its other readers are tried. Those not met
 /// yet lose at least `tried`.
-fn consider_source(
-    n: &FlatNet,
-    p: &Partitioning,
-    spots: &Spots,
-    gains: &Gains,
-    hints: &mut Gains,
-    size: u32,
-    i: u32,
-    lead: Lead,
-    x: u32,
-    tried: u64,
-) -> Lead
-    requires counted { IsCounted n.now.net p.now i gains.now }
-    requires spots { AreSpots n.now.net size (held_parts p.now) spots.now }
-    requires hints { AreHints n.now.net size p.now i gains.now hints.old }
-    requires read { x < length n.now.net.nodes }
-    requires lead { IsLead n.now.net size p.now i lead }
-    requires least { (c : ℕ) → c < p.now.count → has_room size (held_parts p.now) c ≡ true → LeadsOrLoses n.now.net p.now i lead.place tried c }
-    ensures lead { IsLead n.now.net size p.now i result }
-    ensures kept { (c : ℕ) → Leads n.now.net p.now i lead.place c → Leads n.now.net p.now i result.place c }
-    ensures own { LeadsOpen n.now.net size p.now i result.place (start_of p.now x) }
-    ensures tried { LeadsReaders n.now.net size p.now i result.place x }
-    ensures hints { AreHints n.now.net size p.now i gains.now hints.new }
+fn consider_source(mover: &Mover, hints: &mut Gains, lead: Lead, x: u32, tried: u64) -> Lead
+    requires counted { IsCounted mover.now.net.now.net mover.now.parts.now mover.now.node mover.now.gains.now }
+    requires spots { AreSpots mover.now.net.now.net mover.now.size (held_parts mover.now.parts.now) mover.now.spots.now }
+    requires hints { AreHints mover.now.net.now.net mover.now.size mover.now.parts.now mover.now.node mover.now.gains.now hints.old }
+    requires read { x < length mover.now.net.now.net.nodes }
+    requires lead { IsLead mover.now.net.now.net mover.now.size mover.now.parts.now mover.now.node lead }
+    requires least { (c : ℕ) → c < mover.now.parts.now.count → has_room mover.now.size (held_parts mover.now.parts.now) c ≡ true → LeadsOrLoses mover.now.net.now.net mover.now.parts.now mover.now.node lead.place tried c }
+    ensures lead { IsLead mover.now.net.now.net mover.now.size mover.now.parts.now mover.now.node result }
+    ensures kept { (c : ℕ) → Leads mover.now.net.now.net mover.now.parts.now mover.now.node lead.place c → Leads mover.now.net.now.net mover.now.parts.now mover.now.node result.place c }
+    ensures own { LeadsOpen mover.now.net.now.net mover.now.size mover.now.parts.now mover.now.node result.place (start_of mover.now.parts.now x) }
+    ensures tried { LeadsReaders mover.now.net.now.net mover.now.size mover.now.parts.now mover.now.node result.place x }
+    ensures hints { AreHints mover.now.net.now.net mover.now.size mover.now.parts.now mover.now.node mover.now.gains.now hints.new }
 {
-    let lead = consider(n, p, gains, size, i, lead, part_of(n, p, x));
+    let (n, p) = (mover.net, mover.parts);
+    let lead = consider(mover, lead, part_of(n, p, x));
     if is_wide(n, &p.readers, x) {
-        consider_spots(n, p, spots, gains, hints, size, i, lead, x, tried)
+        consider_spots(mover, hints, lead, x, tried)
     } else {
-        consider_readers(n, p, gains, size, i, lead, x)
+        consider_readers(mover, lead, x)
     }
 }
 
-/// The partition that node i goes to, where this one leads at first.
+/// The partition that the node goes to, where this one leads at first.
 ///
-/// A partition that was met by none of so many nodes that i reads loses at least as many pairs, so few
+/// A partition that was met by none of so many nodes that it reads loses at least as many pairs, so few
 /// of them need be tried.
-fn best_place(
-    n: &FlatNet,
-    p: &Partitioning,
-    spots: &Spots,
-    gains: &Gains,
-    hints: &mut Gains,
-    size: u32,
-    i: u32,
-    lead: Lead,
-) -> u32
-    requires counted { IsCounted n.now.net p.now i gains.now }
-    requires spots { AreSpots n.now.net size (held_parts p.now) spots.now }
-    requires hints { AreHints n.now.net size p.now i gains.now hints.old }
-    requires lead { IsLead n.now.net size p.now i lead }
-    ensures place { result ≡ place n.now.net size (held_parts p.now) i }
-    ensures hints { AreHints n.now.net size p.now i gains.now hints.new }
+fn best_place(mover: &Mover, hints: &mut Gains, lead: Lead) -> u32
+    requires counted { IsCounted mover.now.net.now.net mover.now.parts.now mover.now.node mover.now.gains.now }
+    requires spots { AreSpots mover.now.net.now.net mover.now.size (held_parts mover.now.parts.now) mover.now.spots.now }
+    requires hints { AreHints mover.now.net.now.net mover.now.size mover.now.parts.now mover.now.node mover.now.gains.now hints.old }
+    requires lead { IsLead mover.now.net.now.net mover.now.size mover.now.parts.now mover.now.node lead }
+    ensures place { result ≡ place mover.now.net.now.net mover.now.size (held_parts mover.now.parts.now) mover.now.node }
+    ensures hints { AreHints mover.now.net.now.net mover.now.size mover.now.parts.now mover.now.node mover.now.gains.now hints.new }
 {
+    let (n, p, i) = (mover.net, mover.parts, mover.node);
     let start = part_of(n, p, i);
-    let mut lead = consider_readers(n, p, gains, size, i, lead, i);
+    let mut lead = consider_readers(mover, lead, i);
     let mut tried = 1;
     for x in p.sources.row(i) {
         if is_settled(lead, start, tried) {
             return lead.place;
         }
-        if tried > u64::from(gains.counted) && is_scanned(n, p, gains, i) {
-            return consider_blocks(n, p, gains, size, i, lead).place;
+        if tried > u64::from(mover.gains.counted) && is_scanned(n, p, mover.gains, i) {
+            return consider_blocks(mover, lead).place;
         }
-        lead = consider_source(n, p, spots, gains, hints, size, i, lead, *x, tried);
+        lead = consider_source(mover, hints, lead, *x, tried);
         tried += 1;
     }
     lead.place
@@ -351,17 +303,16 @@ pub fn place_of(
         };
     }
     no_hints(n, p, &tallies.gains, &mut tallies.hints, size, i);
+    let mover = Mover {
+        net: n,
+        parts: p,
+        spots,
+        gains: &tallies.gains,
+        size,
+        node: i,
+    };
     Found {
-        place: best_place(
-            n,
-            p,
-            spots,
-            &tallies.gains,
-            &mut tallies.hints,
-            size,
-            i,
-            lead,
-        ),
+        place: best_place(&mover, &mut tallies.hints, lead),
         content: false,
     }
 }

@@ -10,7 +10,7 @@ ghost use Rattle.partitioner.specs.Private.Scanning.{AreCounted, IsNeeded};
 use crate::costs::gains::Gains;
 use crate::costs::lanes::{Lanes, add, all_lanes};
 use crate::counts::partitioning::Partitioning;
-use crate::refinement::placing::{Lead, consider, part_of};
+use crate::refinement::placing::{Lead, Mover, consider, part_of};
 use flat_net::{FlatNet, nodes_of};
 
 /// To count all partitions, 64 at once, takes less time for node i than to try them one by one: what is not counted yet are two nodes or
@@ -86,76 +86,53 @@ fn is_set(word: u64, c: u32) -> bool
     (word >> c) & 1 == 1
 }
 
-/// The lead after the partitions of block w whose bits are set in `chosen` are tried for node i.
-fn consider_lanes(
-    n: &FlatNet,
-    p: &Partitioning,
-    gains: &Gains,
-    size: u32,
-    i: u32,
-    lead: Lead,
-    first: u32,
-    chosen: u64,
-) -> Lead
-    requires counted { IsCounted n.now.net p.now i gains.now }
-    requires block { first < p.now.count }
-    requires lead { IsLead n.now.net size p.now i lead }
-    requires shut { (c : ℕ) → c < 64 → first + c < p.now.count → word_bit c chosen ≡ false → Leads n.now.net p.now i lead.place (first + c) }
-    ensures lead { IsLead n.now.net size p.now i result }
-    ensures kept { (c : ℕ) → Leads n.now.net p.now i lead.place c → Leads n.now.net p.now i result.place c }
-    ensures tried { (c : ℕ) → c < 64 → first + c < p.now.count → LeadsOpen n.now.net size p.now i result.place (first + c) }
+/// The lead after the partitions of block w whose bits are set in `chosen` are tried.
+fn consider_lanes(mover: &Mover, lead: Lead, first: u32, chosen: u64) -> Lead
+    requires counted { IsCounted mover.now.net.now.net mover.now.parts.now mover.now.node mover.now.gains.now }
+    requires block { first < mover.now.parts.now.count }
+    requires lead { IsLead mover.now.net.now.net mover.now.size mover.now.parts.now mover.now.node lead }
+    requires shut { (c : ℕ) → c < 64 → first + c < mover.now.parts.now.count → word_bit c chosen ≡ false → Leads mover.now.net.now.net mover.now.parts.now mover.now.node lead.place (first + c) }
+    ensures lead { IsLead mover.now.net.now.net mover.now.size mover.now.parts.now mover.now.node result }
+    ensures kept { (c : ℕ) → Leads mover.now.net.now.net mover.now.parts.now mover.now.node lead.place c → Leads mover.now.net.now.net mover.now.parts.now mover.now.node result.place c }
+    ensures tried { (c : ℕ) → c < 64 → first + c < mover.now.parts.now.count → LeadsOpen mover.now.net.now.net mover.now.size mover.now.parts.now mover.now.node result.place (first + c) }
 {
     let mut lead = lead;
-    let within = p.count - first;
+    let within = mover.parts.count - first;
     for c in 0..64u32 {
         if c < within && is_set(chosen, c) {
-            lead = consider(n, p, gains, size, i, lead, first + c);
+            lead = consider(mover, lead, first + c);
         }
     }
     lead
 }
 
-/// The lead after the partitions of the block of 64 that begins with `first` are tried for node i.
-fn consider_block(
-    n: &FlatNet,
-    p: &Partitioning,
-    gains: &Gains,
-    size: u32,
-    i: u32,
-    lead: Lead,
-    w: u32,
-) -> Lead
-    requires counted { IsCounted n.now.net p.now i gains.now }
-    requires block { w * 64 < p.now.count }
-    requires lead { IsLead n.now.net size p.now i lead }
-    ensures lead { IsLead n.now.net size p.now i result }
-    ensures kept { (c : ℕ) → Leads n.now.net p.now i lead.place c → Leads n.now.net p.now i result.place c }
-    ensures tried { (c : ℕ) → c < 64 → w * 64 + c < p.now.count → LeadsOpen n.now.net size p.now i result.place (w * 64 + c) }
+/// The lead after the partitions of the block of 64 that begins with `first` are tried.
+fn consider_block(mover: &Mover, lead: Lead, w: u32) -> Lead
+    requires counted { IsCounted mover.now.net.now.net mover.now.parts.now mover.now.node mover.now.gains.now }
+    requires block { w * 64 < mover.now.parts.now.count }
+    requires lead { IsLead mover.now.net.now.net mover.now.size mover.now.parts.now mover.now.node lead }
+    ensures lead { IsLead mover.now.net.now.net mover.now.size mover.now.parts.now mover.now.node result }
+    ensures kept { (c : ℕ) → Leads mover.now.net.now.net mover.now.parts.now mover.now.node lead.place c → Leads mover.now.net.now.net mover.now.parts.now mover.now.node result.place c }
+    ensures tried { (c : ℕ) → c < 64 → w * 64 + c < mover.now.parts.now.count → LeadsOpen mover.now.net.now.net mover.now.size mover.now.parts.now mover.now.node result.place (w * 64 + c) }
 {
-    let chosen = candidates(n, p, gains, i, lead, w);
+    let _count = mover.parts.count;
+    let chosen = candidates(mover.net, mover.parts, mover.gains, mover.node, lead, w);
     if chosen == 0 {
         return lead;
     }
-    consider_lanes(n, p, gains, size, i, lead, w * 64, chosen)
+    consider_lanes(mover, lead, w * 64, chosen)
 }
 
-/// The lead after all partitions are tried for node i.
-pub fn consider_blocks(
-    n: &FlatNet,
-    p: &Partitioning,
-    gains: &Gains,
-    size: u32,
-    i: u32,
-    lead: Lead,
-) -> Lead
-    requires counted { IsCounted n.now.net p.now i gains.now }
-    requires lead { IsLead n.now.net size p.now i lead }
-    ensures lead { IsLead n.now.net size p.now i result }
-    ensures tried { (q : ℕ) → q < p.now.count → LeadsOpen n.now.net size p.now i result.place q }
+/// The lead after all partitions are tried.
+pub fn consider_blocks(mover: &Mover, lead: Lead) -> Lead
+    requires counted { IsCounted mover.now.net.now.net mover.now.parts.now mover.now.node mover.now.gains.now }
+    requires lead { IsLead mover.now.net.now.net mover.now.size mover.now.parts.now mover.now.node lead }
+    ensures lead { IsLead mover.now.net.now.net mover.now.size mover.now.parts.now mover.now.node result }
+    ensures tried { (q : ℕ) → q < mover.now.parts.now.count → LeadsOpen mover.now.net.now.net mover.now.size mover.now.parts.now mover.now.node result.place q }
 {
     let mut lead = lead;
-    for w in 0..p.count.div_ceil(64) {
-        lead = consider_block(n, p, gains, size, i, lead, w);
+    for w in 0..mover.parts.count.div_ceil(64) {
+        lead = consider_block(mover, lead, w);
     }
     lead
 }

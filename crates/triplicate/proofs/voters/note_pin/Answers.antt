@@ -11,14 +11,14 @@ use Rattle.triplicate.proofs.voters.note_pin.Goals as goal
 
 pub returns-then-not-is_voted-clause-rows : goal.returns-then-not-is_voted-clause-rows
 returns-then-not-is_voted-clause-rows c =
-    let v : pin_is_voted c.args.n.now.net c.args.parts.now c.args.votes.now c.args.y c.args.j ≡ false = search rules in
-    pin_passed c.args.n.now.net c.args.parts.now (pin_is_voted c.args.n.now.net c.args.parts.now c.args.votes.now) c.args.y c.args.j c.args.rows.now v
+    let v : pin_is_voted c.args.n.now.net c.args.parts.now c.args.votes.now c.args.reader.node c.args.reader.pin ≡ false = search rules in
+    pin_passed c.args.n.now.net c.args.parts.now (pin_is_voted c.args.n.now.net c.args.parts.now c.args.votes.now) c.args.reader.node c.args.reader.pin c.args.rows.now v
 
 pub returns-clause-rows : goal.returns-clause-rows
 returns-clause-rows c =
-    let v : pin_is_voted c.args.n.now.net c.args.parts.now c.args.votes.now c.args.y c.args.j ≡ true = search rules in
-    let pin : c.pin-pin.result.0 ≡ slice_index (node_pins c.args.n.now.net c.args.y) c.args.j = subst (λ (a : ℕ). c.pin-pin.result.0 ≡ slice_index (pins_at (node_of c.args.n.now.net (a + c.args.y))) c.args.j) c.input_count-inputs.ensures.count c.pin-pin.ensures.value in
-    c.in_ok-note.ensures.rows ∙ pin_is_noted c.args.n.now.net c.args.parts.now (pin_is_voted c.args.n.now.net c.args.parts.now c.args.votes.now) c.args.y c.args.j _ _ c.args.rows.now v pin c.of-part.ensures.value
+    let v : pin_is_voted c.args.n.now.net c.args.parts.now c.args.votes.now c.args.reader.node c.args.reader.pin ≡ true = search rules in
+    let pin : c.pin-pin.result.0 ≡ slice_index (node_pins c.args.n.now.net c.args.reader.node) c.args.reader.pin = subst (λ (a : ℕ). c.pin-pin.result.0 ≡ slice_index (pins_at (node_of c.args.n.now.net (a + c.args.reader.node))) c.args.reader.pin) c.input_count-inputs.ensures.count c.pin-pin.ensures.value in
+    c.in_ok-note.ensures.rows ∙ pin_is_noted c.args.n.now.net c.args.parts.now (pin_is_voted c.args.n.now.net c.args.parts.now c.args.votes.now) c.args.reader.node c.args.reader.pin _ _ c.args.rows.now v pin c.of-part.ensures.value
 
 pub overflow_cast-count : goal.overflow_cast-count
 overflow_cast-count c =
@@ -30,12 +30,12 @@ overflow_cast-count c =
 
 pub returns-clause-places : goal.returns-clause-places
 returns-clause-places c =
-    let v : pin_is_voted c.args.n.now.net c.args.parts.now c.args.votes.now c.args.y c.args.j ≡ true = search rules in
-    let pin : c.pin-pin.result.0 ≡ slice_index (node_pins c.args.n.now.net c.args.y) c.args.j = subst (λ (a : ℕ). c.pin-pin.result.0 ≡ slice_index (pins_at (node_of c.args.n.now.net (a + c.args.y))) c.args.j) c.input_count-inputs.ensures.count c.pin-pin.ensures.value in
+    let v : pin_is_voted c.args.n.now.net c.args.parts.now c.args.votes.now c.args.reader.node c.args.reader.pin ≡ true = search rules in
+    let pin : c.pin-pin.result.0 ≡ slice_index (node_pins c.args.n.now.net c.args.reader.node) c.args.reader.pin = subst (λ (a : ℕ). c.pin-pin.result.0 ≡ slice_index (pins_at (node_of c.args.n.now.net (a + c.args.reader.node))) c.args.reader.pin) c.input_count-inputs.ensures.count c.pin-pin.ensures.value in
     let noting : IsNoting c.args.n.now.net c.args.parts.now (pin_is_voted c.args.n.now.net c.args.parts.now c.args.votes.now) c.of-part.result c.args.rows.now = subst (λ (p : ℕ). IsNoting c.args.n.now.net c.args.parts.now (pin_is_voted c.args.n.now.net c.args.parts.now c.args.votes.now) p c.args.rows.now) (sym c.of-part.ensures.value) c.requires.noting in
     let place : c.count.result ≡ suc (voter_rank c.args.n.now.net c.args.parts.now (pin_is_voted c.args.n.now.net c.args.parts.now c.args.votes.now) c.pin-pin.result.0 c.of-part.result) = c.count.ensures
     ∙ (ap (λ (rs : List (List ℕ)). length (get_or rs c.pin-pin.result.0 [])) c.in_ok-note.ensures.rows ∙ noted_place c.args.n.now.net c.args.parts.now (pin_is_voted c.args.n.now.net c.args.parts.now c.args.votes.now) c.of-part.result c.pin-pin.result.0 c.args.rows.now noting c.pin-pin.ensures.range) in
-    ap (λ (k : ℕ). set c.args.places.now.items c.args.at k) (place ∙ tap_is c.args.n.now.net c.args.parts.now (pin_is_voted c.args.n.now.net c.args.parts.now c.args.votes.now) c.args.y c.args.j c.pin-pin.result.0 c.of-part.result v pin c.of-part.ensures.value)
+    ap (λ (k : ℕ). set c.args.places.now.items c.args.at k) (place ∙ tap_is c.args.n.now.net c.args.parts.now (pin_is_voted c.args.n.now.net c.args.parts.now c.args.votes.now) c.args.reader.node c.args.reader.pin c.pin-pin.result.0 c.of-part.result v pin c.of-part.ensures.value)
 
 pub returns-clause-noting : goal.returns-clause-noting
 returns-clause-noting c =

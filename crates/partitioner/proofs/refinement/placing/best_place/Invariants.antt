@@ -6,4 +6,4 @@ use Rattle.partitioner.proofs.refinement.placing.best_place.Given as goal
 
 abbrev pub invariant-loop-x : goal.invariant-loop-x
 invariant-loop-x l =
-    IsLead l.n.net l.size l.p l.i l.lead × LeadsOrMissed l.n.net l.size l.p l.i l.lead.place l.x-items l.x-index × (l.tried ≡ l.x-index + 1) × AreHints l.n.net l.size l.p l.i l.gains l.hints
+    IsLead l.mover.net.now.net l.mover.size l.mover.parts.now l.mover.node l.lead × LeadsOrMissed l.mover.net.now.net l.mover.size l.mover.parts.now l.mover.node l.lead.place l.x-items l.x-index × (l.tried ≡ l.x-index + 1) × AreHints l.mover.net.now.net l.mover.size l.mover.parts.now l.mover.node l.mover.gains.now l.hints

@@ -12,4 +12,4 @@ pub record Tried (n : Net) (size : ℕ) (p : Partitioning) (i before : ℕ) (now
   pub tried : (k : ℕ) → k < j → LeadsOpen n size p i now.place (start_of p (get_or row k 0))
 
 abbrev pub invariant-loop-y : goal.invariant-loop-y
-invariant-loop-y l = Tried l.n.net l.size l.p l.i l.initial.lead.place l.lead l.y-items l.y-index
+invariant-loop-y l = Tried l.mover.net.now.net l.mover.size l.mover.parts.now l.mover.node l.initial.lead.place l.lead l.y-items l.y-index

@@ -29,11 +29,11 @@ loop-q-preserved c =
       hinted = c.loop-q.invariant.hinted;
     }
   where
-    step : (q : ℕ) → q < c.args.p.now.count → (q ≡ c.in-Some.q.now) ⊎ (list_any (λ k. is_eq (nat_cmp q k)) c.next.new.self ≡ true) → (LeadsOpen c.args.n.now.net c.args.size c.args.p.now c.args.i c.loop-q.lead.place q) ⊎ (list_any (λ k. is_eq (nat_cmp q k)) c.next.new.self ≡ true)
+    step : (q : ℕ) → q < c.args.mover.now.parts.now.count → (q ≡ c.in-Some.q.now) ⊎ (list_any (λ k. is_eq (nat_cmp q k)) c.next.new.self ≡ true) → (LeadsOpen c.args.mover.now.net.now.net c.args.mover.now.size c.args.mover.now.parts.now c.args.mover.now.node c.loop-q.lead.place q) ⊎ (list_any (λ k. is_eq (nat_cmp q k)) c.next.new.self ≡ true)
     step q l (inl e) = absurd (omega (arith, l, e, c.if-q-p.false))
     step q l (inr h) = inr h
 
-    at : (q : ℕ) → q < c.args.p.now.count → (LeadsOpen c.args.n.now.net c.args.size c.args.p.now c.args.i c.loop-q.lead.place q) ⊎ (list_any (λ k. is_eq (nat_cmp q k)) c.loop-q.q-iterator ≡ true) → (LeadsOpen c.args.n.now.net c.args.size c.args.p.now c.args.i c.loop-q.lead.place q) ⊎ (list_any (λ k. is_eq (nat_cmp q k)) c.next.new.self ≡ true)
+    at : (q : ℕ) → q < c.args.mover.now.parts.now.count → (LeadsOpen c.args.mover.now.net.now.net c.args.mover.now.size c.args.mover.now.parts.now c.args.mover.now.node c.loop-q.lead.place q) ⊎ (list_any (λ k. is_eq (nat_cmp q k)) c.loop-q.q-iterator ≡ true) → (LeadsOpen c.args.mover.now.net.now.net c.args.mover.now.size c.args.mover.now.parts.now c.args.mover.now.node c.loop-q.lead.place q) ⊎ (list_any (λ k. is_eq (nat_cmp q k)) c.next.new.self ≡ true)
     at q l (inl h) = inl h
     at q l (inr h) = step q l (rest_step q c.in-Some.q.now c.loop-q.q-iterator c.next.new.self c.in-Some.ensures.steps h)
 
@@ -47,11 +47,11 @@ loop-q-preserved-else-lead-tried c =
       hinted = c.hint_late.ensures;
     }
   where
-    step : (q : ℕ) → (q ≡ c.in-Some.q.now) ⊎ (list_any (λ k. is_eq (nat_cmp q k)) c.next.new.self ≡ true) → (LeadsOpen c.args.n.now.net c.args.size c.args.p.now c.args.i c.consider_hinted-lead.result.place q) ⊎ (list_any (λ k. is_eq (nat_cmp q k)) c.next.new.self ≡ true)
-    step q (inl e) = inl (subst (λ (k : ℕ). LeadsOpen c.args.n.now.net c.args.size c.args.p.now c.args.i c.consider_hinted-lead.result.place k) (sym e) c.consider_hinted-lead.ensures.tried)
+    step : (q : ℕ) → (q ≡ c.in-Some.q.now) ⊎ (list_any (λ k. is_eq (nat_cmp q k)) c.next.new.self ≡ true) → (LeadsOpen c.args.mover.now.net.now.net c.args.mover.now.size c.args.mover.now.parts.now c.args.mover.now.node c.consider_hinted-lead.result.place q) ⊎ (list_any (λ k. is_eq (nat_cmp q k)) c.next.new.self ≡ true)
+    step q (inl e) = inl (subst (λ (k : ℕ). LeadsOpen c.args.mover.now.net.now.net c.args.mover.now.size c.args.mover.now.parts.now c.args.mover.now.node c.consider_hinted-lead.result.place k) (sym e) c.consider_hinted-lead.ensures.tried)
     step q (inr h) = inr h
 
-    at : (q : ℕ) → (LeadsOpen c.args.n.now.net c.args.size c.args.p.now c.args.i c.loop-q.lead.place q) ⊎ (list_any (λ k. is_eq (nat_cmp q k)) c.loop-q.q-iterator ≡ true) → (LeadsOpen c.args.n.now.net c.args.size c.args.p.now c.args.i c.consider_hinted-lead.result.place q) ⊎ (list_any (λ k. is_eq (nat_cmp q k)) c.next.new.self ≡ true)
+    at : (q : ℕ) → (LeadsOpen c.args.mover.now.net.now.net c.args.mover.now.size c.args.mover.now.parts.now c.args.mover.now.node c.loop-q.lead.place q) ⊎ (list_any (λ k. is_eq (nat_cmp q k)) c.loop-q.q-iterator ≡ true) → (LeadsOpen c.args.mover.now.net.now.net c.args.mover.now.size c.args.mover.now.parts.now c.args.mover.now.node c.consider_hinted-lead.result.place q) ⊎ (list_any (λ k. is_eq (nat_cmp q k)) c.next.new.self ≡ true)
     at q (inl h) = inl (λ room. c.consider_hinted-lead.ensures.kept q (h room))
     at q (inr h) = step q (rest_step q c.in-Some.q.now c.loop-q.q-iterator c.next.new.self c.in-Some.ensures.steps h)
 
@@ -60,25 +60,25 @@ returns-then-lead-q-clause-kept c = λ q h. c.consider_hinted-lead.ensures.kept 
 
 pub returns-then-lead-q-clause-tried : goal.returns-then-lead-q-clause-tried
 returns-then-lead-q-clause-tried c =
-    spots_lead c.args.n.now.net c.args.size c.args.p.now c.args.spots.now c.args.i c.args.x c.consider_hinted-lead.result.place c.requires.counted.tracks c.requires.spots c.requires.read c.requires.wide
+    spots_lead c.args.mover.now.net.now.net c.args.mover.now.size c.args.mover.now.parts.now c.args.mover.now.spots.now c.args.mover.now.node c.args.x c.consider_hinted-lead.result.place c.requires.counted.tracks c.requires.spots c.requires.read c.requires.wide
     (λ q l h. at q l (c.loop-q.invariant.tried q l h))
   where
-    step : (q : ℕ) → q < c.args.p.now.count → (q ≡ c.in-Some.q.now) ⊎ (list_any (λ k. is_eq (nat_cmp q k)) c.next.new.self ≡ true) → LeadsOpen c.args.n.now.net c.args.size c.args.p.now c.args.i c.consider_hinted-lead.result.place q
-    step q l (inl e) = subst (λ (k : ℕ). LeadsOpen c.args.n.now.net c.args.size c.args.p.now c.args.i c.consider_hinted-lead.result.place k) (sym e) c.consider_hinted-lead.ensures.tried
+    step : (q : ℕ) → q < c.args.mover.now.parts.now.count → (q ≡ c.in-Some.q.now) ⊎ (list_any (λ k. is_eq (nat_cmp q k)) c.next.new.self ≡ true) → LeadsOpen c.args.mover.now.net.now.net c.args.mover.now.size c.args.mover.now.parts.now c.args.mover.now.node c.consider_hinted-lead.result.place q
+    step q l (inl e) = subst (λ (k : ℕ). LeadsOpen c.args.mover.now.net.now.net c.args.mover.now.size c.args.mover.now.parts.now c.args.mover.now.node c.consider_hinted-lead.result.place k) (sym e) c.consider_hinted-lead.ensures.tried
     step q l (inr h) = λ room.
-        later_leads c.args.n.now.net c.args.size c.args.p.now c.args.i c.args.tried c.in-Some.q.now q c.consider_hinted-lead.result c.consider_hinted-lead.ensures.lead c.if-lead-tried.true c.if-lead-q.true
+        later_leads c.args.mover.now.net.now.net c.args.mover.now.size c.args.mover.now.parts.now c.args.mover.now.node c.args.tried c.in-Some.q.now q c.consider_hinted-lead.result c.consider_hinted-lead.ensures.lead c.if-lead-tried.true c.if-lead-q.true
         (left_later c.in-Some.q.now q c.loop-q.q-iterator c.next.new.self c.in-Some.ensures.steps c.loop-q.invariant.sorted h)
-        (kept_loses c.args.n.now.net c.args.p.now c.args.i c.args.lead.place c.consider_hinted-lead.result.place c.args.tried q (λ k g. c.consider_hinted-lead.ensures.kept k (c.loop-q.invariant.kept k g)) (c.requires.least q l room))
+        (kept_loses c.args.mover.now.net.now.net c.args.mover.now.parts.now c.args.mover.now.node c.args.lead.place c.consider_hinted-lead.result.place c.args.tried q (λ k g. c.consider_hinted-lead.ensures.kept k (c.loop-q.invariant.kept k g)) (c.requires.least q l room))
 
-    at : (q : ℕ) → q < c.args.p.now.count → (LeadsOpen c.args.n.now.net c.args.size c.args.p.now c.args.i c.loop-q.lead.place q) ⊎ (list_any (λ k. is_eq (nat_cmp q k)) c.loop-q.q-iterator ≡ true) → LeadsOpen c.args.n.now.net c.args.size c.args.p.now c.args.i c.consider_hinted-lead.result.place q
+    at : (q : ℕ) → q < c.args.mover.now.parts.now.count → (LeadsOpen c.args.mover.now.net.now.net c.args.mover.now.size c.args.mover.now.parts.now c.args.mover.now.node c.loop-q.lead.place q) ⊎ (list_any (λ k. is_eq (nat_cmp q k)) c.loop-q.q-iterator ≡ true) → LeadsOpen c.args.mover.now.net.now.net c.args.mover.now.size c.args.mover.now.parts.now c.args.mover.now.node c.consider_hinted-lead.result.place q
     at q l (inl h) = λ room. c.consider_hinted-lead.ensures.kept q (h room)
     at q l (inr h) = step q l (rest_step q c.in-Some.q.now c.loop-q.q-iterator c.next.new.self c.in-Some.ensures.steps h)
 
 pub returns-clause-tried : goal.returns-clause-tried
 returns-clause-tried c =
-    spots_lead c.args.n.now.net c.args.size c.args.p.now c.args.spots.now c.args.i c.args.x c.loop-q.lead.place c.requires.counted.tracks c.requires.spots c.requires.read c.requires.wide
+    spots_lead c.args.mover.now.net.now.net c.args.mover.now.size c.args.mover.now.parts.now c.args.mover.now.spots.now c.args.mover.now.node c.args.x c.loop-q.lead.place c.requires.counted.tracks c.requires.spots c.requires.read c.requires.wide
     (λ q l h. at q (c.loop-q.invariant.tried q l h))
   where
-    at : (q : ℕ) → (LeadsOpen c.args.n.now.net c.args.size c.args.p.now c.args.i c.loop-q.lead.place q) ⊎ (list_any (λ k. is_eq (nat_cmp q k)) c.loop-q.q-iterator ≡ true) → LeadsOpen c.args.n.now.net c.args.size c.args.p.now c.args.i c.loop-q.lead.place q
+    at : (q : ℕ) → (LeadsOpen c.args.mover.now.net.now.net c.args.mover.now.size c.args.mover.now.parts.now c.args.mover.now.node c.loop-q.lead.place q) ⊎ (list_any (λ k. is_eq (nat_cmp q k)) c.loop-q.q-iterator ≡ true) → LeadsOpen c.args.mover.now.net.now.net c.args.mover.now.size c.args.mover.now.parts.now c.args.mover.now.node c.loop-q.lead.place q
     at q (inl h) = h
     at q (inr h) = absurd (none_left q c.loop-q.q-iterator c.in-None.ensures.steps.0 h)

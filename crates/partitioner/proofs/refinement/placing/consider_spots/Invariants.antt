@@ -20,4 +20,4 @@ pub record Walked (n : Net) (size : ℕ) (p : Partitioning) (i before : ℕ) (no
   pub hinted : AreHints n size p i gains hints
 
 abbrev pub invariant-loop-q : goal.invariant-loop-q
-invariant-loop-q l = Walked l.n.net l.size l.p l.i l.initial.lead.place l.lead l.spots.free l.x l.q-iterator l.gains l.hints
+invariant-loop-q l = Walked l.mover.net.now.net l.mover.size l.mover.parts.now l.mover.node l.initial.lead.place l.lead l.mover.spots.now.free l.x l.q-iterator l.mover.gains.now l.hints
