@@ -28,7 +28,7 @@ all_help = joined (
     ∷ codes "  to-aag    writes a netlist as an and-inverter graph (AIGER)\n"
     ∷ codes "  from-aag  reads such a graph, and writes it as a flat netlist\n"
     ∷ codes "  wave      does what replay does, and saves waves (VCD)\n"
-    ∷ codes "  certify   finds a certificate of a hardened netlist from the netlist alone\n"
+    ∷ codes "  certify   finds a certificate of a hardened netlist from the two netlists alone\n"
     ∷ codes "  exposure  checks a hardened pair, and counts pairs of upsets that are too near\n"
     ∷ codes "  sweep     tells what hardening costs with partitions of each size\n"
     ∷ codes "  explain   tells each place where a hardened pair breaks a rule, and why\n"
@@ -199,7 +199,7 @@ wave_help = joined (
 
 unfoldable pub certify_help : List ℕ
 certify_help = joined (
-    codes "Finds a certificate of a hardened netlist from the netlist alone.\n"
+    codes "Finds a certificate of a hardened netlist from the two netlists alone.\n"
     ∷ codes "reads     ORIG: the original netlist, BLIF, at most 8388608 bytes\n"
     ∷ codes "          HARD: the hardened netlist, BLIF, at most 1073741824 bytes\n"
     ∷ codes "writes    CERT: the certificate, under another name than ORIG and HARD\n"

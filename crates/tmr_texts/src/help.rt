@@ -39,7 +39,7 @@ fn all_help() -> &'static str
         "  to-aag    writes a netlist as an and-inverter graph (AIGER)\n",
         "  from-aag  reads such a graph, and writes it as a flat netlist\n",
         "  wave      does what replay does, and saves waves (VCD)\n",
-        "  certify   finds a certificate of a hardened netlist from the netlist alone\n",
+        "  certify   finds a certificate of a hardened netlist from the two netlists alone\n",
         "  exposure  checks a hardened pair, and counts pairs of upsets that are too near\n",
         "  sweep     tells what hardening costs with partitions of each size\n",
         "  explain   tells each place where a hardened pair breaks a rule, and why\n",
@@ -268,7 +268,7 @@ fn certify_help() -> &'static str
     ensures { result.now ≡ certify_help }
 {
     concat!(
-        "Finds a certificate of a hardened netlist from the netlist alone.\n",
+        "Finds a certificate of a hardened netlist from the two netlists alone.\n",
         "reads     ORIG: the original netlist, BLIF, at most 8388608 bytes\n",
         "          HARD: the hardened netlist, BLIF, at most 1073741824 bytes\n",
         "writes    CERT: the certificate, under another name than ORIG and HARD\n",
