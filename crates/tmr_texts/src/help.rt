@@ -8,7 +8,7 @@ use tmr_base::OutOfMemory;
 use tmr_words::{Topic, call_of};
 
 /// The version of these sources.
-const VERSION: &str = "1.4.0";
+const VERSION: &str = "1.5.0";
 
 /// What `version` prints.
 #[tactic(auto, unfolding(crate::specs::Help::version_text))]
@@ -21,7 +21,7 @@ pub fn version_text(alloc: Global) -> Result<Vec<u8>, OutOfMemory>
     )
 }
 
-/// All commands and statuses.
+/// All commands, the option that most of them have, and the statuses.
 #[tactic(auto, unfolding(crate::specs::Help::all_help))]
 fn all_help() -> &'static str
     ensures { result.now ≡ all_help }
@@ -47,6 +47,8 @@ fn all_help() -> &'static str
         "  picture   checks a hardened pair, and draws its partitions (DOT)\n",
         "  help      tells this, or more of one command: tmr help COMMAND\n",
         "  version   tells which version of tmr this is\n",
+        "options\n",
+        "  --large   files may be 16 times as large, with each command that reads ORIG or AAG\n",
         "statuses\n",
         "  0  done\n",
         "  1  not accepted: a rule fails\n",
@@ -68,7 +70,8 @@ fn validate_help() -> &'static str
         "          HARD: the hardened netlist, BLIF, at most 1073741824 bytes\n",
         "          CERT: its certificate, at most 1073741824 bytes\n",
         "writes    nothing\n",
-        "options   none\n",
+        "options   --large    larger files: ORIG at most 134217728 bytes,\n",
+        "                     HARD and CERT at most 17179869184\n",
         "prints    accepted partitions K depth D assumed A B\n",
         "          with a certificate of version 2: free in place of assumed\n",
         "          or: not accepted: rule R at PLACE\n",
@@ -91,6 +94,8 @@ fn harden_help() -> &'static str
         "          --cert V   the version of the certificate, 1 or 2; default 1\n",
         "          --depth D  the greatest depth, 1 to 4294967295; default no bound\n",
         "          --form F   the form, plain or lean; default plain\n",
+        "          --large    larger files: ORIG at most 134217728 bytes,\n",
+        "                     HARD and CERT at most 17179869184\n",
         "prints    five lines: nodes, partitions, voters, depth, assumed\n",
         "          with --cert 2: free in place of assumed\n",
         "statuses  0 done, 2 usage, 3 fault, 4 refused, 5 want of memory\n",
@@ -107,7 +112,7 @@ fn flatten_help() -> &'static str
         "Writes a netlist as one flat model. Each net is named by its path.\n",
         "reads     ORIG: a netlist, BLIF, at most 8388608 bytes\n",
         "writes    FLAT: the flat netlist, BLIF\n",
-        "options   none\n",
+        "options   --large    larger files: ORIG at most 134217728 bytes\n",
         "prints    flat inputs I outputs O nodes N registers R assumed A\n",
         "statuses  0 done, 2 usage, 3 fault, 4 refused, 5 want of memory\n",
         "example   tmr flatten counter.blif counter.flat.blif\n",
@@ -126,7 +131,8 @@ fn replay_help() -> &'static str
         "          CERT: its certificate, at most 1073741824 bytes\n",
         "          SCHED: the schedule, TOML, at most 16777216 bytes\n",
         "writes    nothing\n",
-        "options   none\n",
+        "options   --large    larger files: ORIG at most 134217728 bytes,\n",
+        "                     HARD and CERT at most 17179869184\n",
         "prints    for each of the first 1000 differences: differ T NAME O A B C\n",
         "          six lines: cycles, upsets, allowed, differences, wrong, late\n",
         "          or: not accepted: rule R at PLACE\n",
@@ -146,7 +152,8 @@ fn report_help() -> &'static str
         "          HARD: the hardened netlist, BLIF, at most 1073741824 bytes\n",
         "          CERT: its certificate, at most 1073741824 bytes\n",
         "writes    nothing\n",
-        "options   none\n",
+        "options   --large    larger files: ORIG at most 134217728 bytes,\n",
+        "                     HARD and CERT at most 17179869184\n",
         "prints    five lines: nodes, registers, copies, voters, partitions\n",
         "          part I nodes A registers S loops G depth D least L chain NAME ..\n",
         "          or: not accepted: rule R at PLACE\n",
@@ -183,7 +190,7 @@ fn guard_help() -> &'static str
         "Writes two copies of a netlist, with comparators and an alarm.\n",
         "reads     ORIG: a netlist, BLIF, at most 8388608 bytes\n",
         "writes    GUARDED: the guarded netlist, BLIF\n",
-        "options   none\n",
+        "options   --large    larger files: ORIG at most 134217728 bytes\n",
         "prints    guard nodes N to G outputs O assumed A\n",
         "statuses  0 done, 2 usage, 3 fault, 4 refused, 5 want of memory\n",
         "example   tmr guard counter.blif counter.guarded.blif\n",
@@ -200,7 +207,8 @@ fn guarded_help() -> &'static str
         "reads     ORIG: the original netlist, BLIF, at most 8388608 bytes\n",
         "          GUARDED: the guarded netlist, BLIF, at most 1073741824 bytes\n",
         "writes    nothing\n",
-        "options   none\n",
+        "options   --large    larger files: ORIG at most 134217728 bytes,\n",
+        "                     GUARDED at most 17179869184\n",
         "prints    guarded\n",
         "          or: not guarded: rule R at J\n",
         "statuses  0 done, 1 not accepted, 2 usage, 3 fault, 4 refused, 5 want of memory\n",
@@ -217,7 +225,7 @@ fn to_aag_help() -> &'static str
         "Writes a netlist as an and-inverter graph (AIGER ASCII).\n",
         "reads     ORIG: a netlist, BLIF, at most 8388608 bytes\n",
         "writes    AAG: the graph\n",
-        "options   none\n",
+        "options   --large    larger files: ORIG at most 134217728 bytes\n",
         "prints    aag inputs I outputs O latches L ands A free F\n",
         "statuses  0 done, 2 usage, 3 fault, 4 refused, 5 want of memory\n",
         "example   tmr to-aag and.blif and.aag\n",
@@ -233,7 +241,7 @@ fn from_aag_help() -> &'static str
         "Reads an and-inverter graph (AIGER ASCII), and writes it as a flat netlist.\n",
         "reads     AAG: the graph, at most 8388608 bytes\n",
         "writes    FLAT: the flat netlist, BLIF\n",
-        "options   none\n",
+        "options   --large    larger files: AAG at most 134217728 bytes\n",
         "prints    aag inputs I outputs O latches L ands A free F\n",
         "statuses  0 done, 2 usage, 3 fault, 4 refused, 5 want of memory\n",
         "example   tmr from-aag and.aag and.flat.blif\n",
@@ -253,7 +261,8 @@ fn wave_help() -> &'static str
         "          SCHED: the schedule, TOML, at most 16777216 bytes\n",
         "writes    VCD: the waves, a value change dump;\n",
         "          outputs of ORIG times cycles are at most 4194304\n",
-        "options   none\n",
+        "options   --large    larger files: ORIG at most 134217728 bytes,\n",
+        "                     HARD and CERT at most 17179869184\n",
         "prints    for each of the first 1000 differences: differ T NAME O A B C\n",
         "          six lines: cycles, upsets, allowed, differences, wrong, late\n",
         "          or: not accepted: rule R at PLACE\n",
@@ -273,6 +282,8 @@ fn certify_help() -> &'static str
         "          HARD: the hardened netlist, BLIF, at most 1073741824 bytes\n",
         "writes    CERT: the certificate, under another name than ORIG and HARD\n",
         "options   --cert V   the version of the certificate, 1 or 2; default 1\n",
+        "          --large    larger files: ORIG at most 134217728 bytes,\n",
+        "                     HARD and CERT at most 17179869184\n",
         "prints    accepted partitions K depth D assumed A B\n",
         "          with --cert 2: free in place of assumed\n",
         "          or: no certificate: CAUSE\n",
@@ -292,7 +303,8 @@ fn exposure_help() -> &'static str
         "          HARD: the hardened netlist, BLIF, at most 1073741824 bytes\n",
         "          CERT: its certificate, at most 1073741824 bytes\n",
         "writes    nothing\n",
-        "options   none\n",
+        "options   --large    larger files: ORIG at most 134217728 bytes,\n",
+        "                     HARD and CERT at most 17179869184\n",
         "prints    inputs copies I I I depth 0 near X, with a certificate of version 2\n",
         "          part P copies N N N depth D near X for each partition with nodes\n",
         "          near X\n",
@@ -314,6 +326,7 @@ fn sweep_help() -> &'static str
         "options   --cert V   the version of the certificate, 1 or 2; default 1\n",
         "          --depth D  the greatest depth, 1 to 4294967295; default no bound\n",
         "          --form F   the form, plain or lean; default plain\n",
+        "          --large    larger files: ORIG at most 134217728 bytes\n",
         "prints    nodes N registers R levels L\n",
         "          size S partitions K voters V percent P depth D levels L near X\n",
         "          for each size\n",
@@ -333,7 +346,8 @@ fn explain_help() -> &'static str
         "          HARD: the hardened netlist, BLIF, at most 1073741824 bytes\n",
         "          CERT: its certificate, at most 1073741824 bytes\n",
         "writes    nothing\n",
-        "options   none\n",
+        "options   --large    larger files: ORIG at most 134217728 bytes,\n",
+        "                     HARD and CERT at most 17179869184\n",
         "prints    rule R at PLACE: WHY for each of the first 100 places\n",
         "          and N more, where there are more\n",
         "          or, where all rules hold, what validate prints\n",
@@ -357,7 +371,8 @@ fn campaign_help() -> &'static str
         "          HARD: the hardened netlist, BLIF, at most 1073741824 bytes\n",
         "          CERT: its certificate, at most 1073741824 bytes\n",
         "writes    nothing\n",
-        "options   none\n",
+        "options   --large    larger files: ORIG at most 134217728 bytes,\n",
+        "                     HARD and CERT at most 17179869184\n",
         "prints    five lines: runs, upsets, differences, wrong, late\n",
         "          with near also: first wrong CYCLE OUTPUT RUN, where one is known\n",
         "          or: not accepted: rule R at PLACE\n",
@@ -377,7 +392,8 @@ fn picture_help() -> &'static str
         "          HARD: the hardened netlist, BLIF, at most 1073741824 bytes\n",
         "          CERT: its certificate, at most 1073741824 bytes\n",
         "writes    DOT: the graph, for dot of graphviz\n",
-        "options   none\n",
+        "options   --large    larger files: ORIG at most 134217728 bytes,\n",
+        "                     HARD and CERT at most 17179869184\n",
         "prints    accepted partitions K depth D assumed A B\n",
         "          with a certificate of version 2: free in place of assumed\n",
         "          or: not accepted: rule R at PLACE\n",
