@@ -15,7 +15,7 @@ use Rattle.tmr_top.specs.Loads.{original_file, hardened_file}
 use Rattle.tmr_top.specs.Designs.{HoldsDesign}
 use Rattle.tmr_texts.specs.Texts.{guard_line}
 
-pub guarded_outcome : (held : Contents) (w : Guarding) (n : Net) (a : List Bool) (bytes text : List ℕ) → HoldsDesign held (original_file w.original) n a → Guards n (guard_net n) → bytes ≡ flat_text (guard_net n) → length bytes ≤ 1073741824 → IsNetOf bytes 1073741824 (guard_net n) 0
+pub guarded_outcome : (held : Contents) (w : Guarding) (n : Net) (a : List Bool) (bytes text : List ℕ) → HoldsDesign held (original_file w.limits w.original) n a → Guards n (guard_net n) → bytes ≡ flat_text (guard_net n) → length bytes ≤ 1073741824 → IsNetOf bytes 1073741824 (guard_net n) 0
     → text ≡ guard_line n (guard_net n) (count_by (λ bit. bit) a) → IsGuarded w held (bytes ∷ []) text
 guarded_outcome held w n a bytes text holds guards same keeps read says = record {
   original = n;
@@ -29,7 +29,7 @@ guarded_outcome held w n a bytes text holds guards same keeps read says = record
 }
 
 -- the first of the two files that is no design
-pub none_read : (w : Guarding) (line : List ℕ) (held : Contents) → AreRefused (original_file w.original) (hardened_file w.guarded) line held → IsUnguarded w held line ⊎ IsGuardUnread w held line
+pub none_read : (w : Guarding) (line : List ℕ) (held : Contents) → AreRefused (original_file w.limits w.original) (hardened_file w.limits w.guarded) line held → IsUnguarded w held line ⊎ IsGuardUnread w held line
 none_read w line held (inl first) = inl (record { reason = first.reason; unread = first.unread; says = first.says })
 none_read w line held (inr second) = inr (record {
   original = second.design;

@@ -47,7 +47,7 @@ module _ (w : Guarding) (held now : Contents) (text : List ℕ) (is : IsDone (Gu
   guarded_there : get now w.guarded ≡ Some design
   guarded_there = ap (λ (m : Contents). get m w.guarded) saved ∙ get-insert_same held w.guarded design
 
-  guarded_read : HoldsDesign now (hardened_file w.guarded) (guard_net is.outcome.original) marks
+  guarded_read : HoldsDesign now (hardened_file w.limits w.guarded) (guard_net is.outcome.original) marks
   guarded_read = record {
     bytes = design;
     there = guarded_there;
@@ -59,7 +59,7 @@ module _ (w : Guarding) (held now : Contents) (text : List ℕ) (is : IsDone (Gu
     original_there : get now w.original ≡ Some is.outcome.holds.bytes
     original_there = ap (λ (m : Contents). get m w.original) saved ∙ (get-insert_other held w.guarded design w.original other ∙ is.outcome.holds.there)
 
-    original_read : HoldsDesign now (original_file w.original) is.outcome.original is.outcome.free
+    original_read : HoldsDesign now (original_file w.limits w.original) is.outcome.original is.outcome.free
     original_read = record { bytes = is.outcome.holds.bytes; there = original_there; short = is.outcome.holds.short; fact = is.outcome.holds.fact }
 
     checks : Succeeds (CheckGuard w) now

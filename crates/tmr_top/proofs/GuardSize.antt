@@ -182,5 +182,5 @@ module _ (n : Net) (valid : IsValid n) where
   guarded_long = omega (arith, ap spaced (model_is n), inputs_long, ap (λ (c : Option (Edge × List ℕ)). all_spaced (clock_words c)) (clock_is n), clock_long n.clock, outputs_long, nodes_long)
 
 -- the flat text of a guarded design keeps the limit of its file, where the original was flattened within its own
-pub guarded_within : (n : Net) (f : List Bool) → IsValid n → IsFlatWithin 8388608 n f → flat_length (guard_net n) ≤ 1073741824
+pub guarded_within : (n : Net) (f : List Bool) → IsValid n → IsFlatWithin (most_original l) n f → flat_length (guard_net n) ≤ 1073741824
 guarded_within n f valid within = omega (arith, guarded_long n valid, limit_kept within.library 8388608 (count_by (λ bit. bit) f) n within.flat.flat)

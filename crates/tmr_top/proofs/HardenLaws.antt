@@ -35,7 +35,7 @@ no_check w p e = cc
 pub few_pins : (x : ℕ) → 2 * x ≤ 8388608 → x ≤ 16777216
 few_pins x few = omega (arith, few)
 
-pub hardened_outcome : (held : Contents) (w : Hardening) (n h : Net) (f g : List Bool) (k : PlainCert) (minimal : Bool) (d e text : List ℕ) → HoldsDesign held (original_file w.original) n f → BoundedForm w.form n f w.size w.version w.most h g k → (length n.nodes < w.most → HasNoExtra w n f h g k) → net_count n + pin_total n ≤ 16777216 → AreShort n h k → (IsTrue minimal ↔ IsMinimal n w.size (parts_of k)) → d ≡ free_text h g → length d ≤ 1073741824 → IsFreeNetOf d 1073741824 h g → e ≡ cert_text n h k → length e ≤ 1073741824 → cert_of_text n h e ≡ Ok k → text ≡ hardened_lines (form_numbers n w.size h k minimal) k.version (count_by (λ bit. bit) f) → IsHardened w held (d ∷ e ∷ []) text
+pub hardened_outcome : (held : Contents) (w : Hardening) (n h : Net) (f g : List Bool) (k : PlainCert) (minimal : Bool) (d e text : List ℕ) → HoldsDesign held (original_file w.limits w.original) n f → BoundedForm w.form n f w.size w.version w.most h g k → (length n.nodes < w.most → HasNoExtra w n f h g k) → net_count n + pin_total n ≤ 16777216 → AreShort n h k → (IsTrue minimal ↔ IsMinimal n w.size (parts_of k)) → d ≡ free_text h g → length d ≤ 1073741824 → IsFreeNetOf d 1073741824 h g → e ≡ cert_text n h k → length e ≤ 1073741824 → cert_of_text n h e ≡ Ok k → text ≡ hardened_lines (form_numbers n w.size h k minimal) k.version (count_by (λ bit. bit) f) → IsHardened w held (d ∷ e ∷ []) text
 hardened_outcome held w n h f g k minimal d e text holds form unbounded few short is_minimal d_is d_short d_read e_is e_short e_read says = record {
   original = n;
   free = f;
@@ -89,7 +89,7 @@ hardened_from kind n h f g size version most k valid certificate some form = rec
 }
 
 -- the texts of a hardened form keep the limits of their files, where the original was flattened within its own
-pub limits_kept : (n h : Net) (f : List Bool) (k : PlainCert) → IsHardenedFrom n h k → IsFlatWithin 8388608 n f → FlatTextKeepsLimit n → HardenedTextsKeepLimits n → KeepLimits n h k
+pub limits_kept : (n h : Net) (f : List Bool) (k : PlainCert) → IsHardenedFrom n h k → IsFlatWithin (most_original l) n f → FlatTextKeepsLimit n → HardenedTextsKeepLimits n → KeepLimits n h k
 limits_kept n h f k from within original law = law h k f from (original within.library 8388608 f within.flat)
 
 pub ruleset versions = (known_version)

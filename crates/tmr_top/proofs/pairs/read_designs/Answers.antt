@@ -14,13 +14,13 @@ returns-in-Ok-read_netlist-clause-gives c = λ held loaded. record {
 
 pub returns-in-Err-read_netlist-clause-gives : goal.returns-in-Err-read_netlist-clause-gives
 returns-in-Err-read_netlist-clause-gives c =
-    let one = original_file c.args.original.now in
-    let other = hardened_file c.args.hardened.now in
-    refusal_more (λ held. HoldsText held other c.args.loaded.hardened) (AreDesignFiles c.args.original.now c.args.hardened.now c.args.loaded) (IsRefusedNetlist other) (AreRefused one other) _ c.in-Err-read_netlist.ensures.gives (λ held loaded. loaded.hardened_loaded)
+    let one = original_file c.args.limits c.args.original.now in
+    let other = hardened_file c.args.limits c.args.hardened.now in
+    refusal_more (λ held. HoldsText held other c.args.loaded.hardened) (AreDesignFiles c.args.limits c.args.original.now c.args.hardened.now c.args.loaded) (IsRefusedNetlist other) (AreRefused one other) _ c.in-Err-read_netlist.ensures.gives (λ held loaded. loaded.hardened_loaded)
     (λ line held loaded refused. inr (record { design = _; free = _; first_read = c.in-Ok.ensures.gives held loaded.original_loaded; refused = refused }))
 
 pub returns-in-Err-clause-gives : goal.returns-in-Err-clause-gives
 returns-in-Err-clause-gives c =
-    let one = original_file c.args.original.now in
-    let other = hardened_file c.args.hardened.now in
-    refusal_more (λ held. HoldsText held one c.args.loaded.original) (AreDesignFiles c.args.original.now c.args.hardened.now c.args.loaded) (IsRefusedNetlist one) (AreRefused one other) _ c.in-Err.ensures.gives (λ held loaded. loaded.original_loaded) (λ line held loaded refused. inl refused)
+    let one = original_file c.args.limits c.args.original.now in
+    let other = hardened_file c.args.limits c.args.hardened.now in
+    refusal_more (λ held. HoldsText held one c.args.loaded.original) (AreDesignFiles c.args.limits c.args.original.now c.args.hardened.now c.args.loaded) (IsRefusedNetlist one) (AreRefused one other) _ c.in-Err.ensures.gives (λ held loaded. loaded.original_loaded) (λ line held loaded refused. inl refused)

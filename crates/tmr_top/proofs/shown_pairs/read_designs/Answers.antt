@@ -13,13 +13,13 @@ returns-in-Ok-read_netlist-clause-gives c = λ held loaded. record {
 
 pub returns-in-Err-read_netlist-clause-gives : goal.returns-in-Err-read_netlist-clause-gives
 returns-in-Err-read_netlist-clause-gives c =
-    let one = original_file c.args.original.now in
-    let other = hardened_file c.args.hardened.now in
-    refusal_more (λ held. HoldsBytes held (kept_file other) c.args.loaded.hardened.items) (AreDesignBytes c.args.original.now c.args.hardened.now c.args.loaded) (IsShownNetlist other) (AreShown one other) _ c.in-Err-read_netlist.ensures.gives (λ held loaded. loaded.hardened_loaded)
+    let one = original_file c.args.limits c.args.original.now in
+    let other = hardened_file c.args.limits c.args.hardened.now in
+    refusal_more (λ held. HoldsBytes held (kept_file other) c.args.loaded.hardened.items) (AreDesignBytes c.args.limits c.args.original.now c.args.hardened.now c.args.loaded) (IsShownNetlist other) (AreShown one other) _ c.in-Err-read_netlist.ensures.gives (λ held loaded. loaded.hardened_loaded)
     (λ text held loaded shown. inr (record { design = _; free = _; first_read = c.in-Ok.ensures.gives held loaded.original_loaded; shown = shown }))
 
 pub returns-in-Err-clause-gives : goal.returns-in-Err-clause-gives
 returns-in-Err-clause-gives c =
-    let one = original_file c.args.original.now in
-    let other = hardened_file c.args.hardened.now in
-    refusal_more (λ held. HoldsBytes held (kept_file one) c.args.loaded.original.items) (AreDesignBytes c.args.original.now c.args.hardened.now c.args.loaded) (IsShownNetlist one) (AreShown one other) _ c.in-Err.ensures.gives (λ held loaded. loaded.original_loaded) (λ text held loaded shown. inl shown)
+    let one = original_file c.args.limits c.args.original.now in
+    let other = hardened_file c.args.limits c.args.hardened.now in
+    refusal_more (λ held. HoldsBytes held (kept_file one) c.args.loaded.original.items) (AreDesignBytes c.args.limits c.args.original.now c.args.hardened.now c.args.loaded) (IsShownNetlist one) (AreShown one other) _ c.in-Err.ensures.gives (λ held loaded. loaded.original_loaded) (λ text held loaded shown. inl shown)
