@@ -7,6 +7,8 @@ use Rattle.aag_design.specs.declared.file.CountedDesign.{CountedDesign}
 use Rattle.aag_design.specs.declared.fault.AagFault.{AagFault}
 use Rattle.aag_design.specs.declared.fault.AagFault.TheVariants.{Memory}
 use Rattle.aag_design.proofs.OneAnswer.{design_or_fault}
+use Rattle.limits.specs.declared.Limits.{Limits}
+use Rattle.limits.specs.Most.{most_original}
 use Rattle.tmr_outside.specs.Contents.{Contents}
 use Rattle.tmr_top.specs.declared.decision.Verdict.{Verdict}
 use Rattle.tmr_top.specs.declared.decision.Verdict.TheVariants.{Done, NotAccepted, Refused}
@@ -37,16 +39,16 @@ holds_no_graph held load bytes fault holds is = record {
 }
 
 -- a refusal for a fault
-pub graph_refusal : (name bytes : List ℕ) (fault : AagFault) (why : Stop) → IsFaultOf bytes 8388608 fault → RefusesGraph name fault why → IsRefusal (λ held. HoldsBytes held (graph_file l name) bytes) (IsRefusedGraph l name) why
-graph_refusal name bytes fault (stop.Failed other) first is = absurd is
-graph_refusal name bytes fault (stop.TooLong other) first is = absurd is
-graph_refusal name bytes fault (stop.Refused line) first is = λ held holds. record {
+pub graph_refusal : (l : Limits) (name bytes : List ℕ) (fault : AagFault) (why : Stop) → IsFaultOf bytes (most_original l) fault → RefusesGraph name fault why → IsRefusal (λ held. HoldsBytes held (graph_file l name) bytes) (IsRefusedGraph l name) why
+graph_refusal l name bytes fault (stop.Failed other) first is = absurd is
+graph_refusal l name bytes fault (stop.TooLong other) first is = absurd is
+graph_refusal l name bytes fault (stop.Refused line) first is = λ held holds. record {
   fault = fault;
   caused = is.0;
   first = holds_no_graph held (graph_file l name) bytes fault holds first;
   says = is.1;
 }
-graph_refusal name bytes fault stop.Memory first is = tt
+graph_refusal l name bytes fault stop.Memory first is = tt
 
 -- ---- one verdict
 

@@ -10,6 +10,7 @@ use Rattle.hierarchy.proofs.Marks.{marks_counted}
 use Rattle.blif_writer.specs.NetOf.{IsNetOf, IsFreeNetOf}
 use Rattle.blif_writer.specs.Text.{flat_text}
 use Rattle.dwc.specs.Guard.{guard_net}
+use Rattle.limits.specs.Most.{most_hardened}
 use Rattle.tmr_outside.specs.Contents.{Contents}
 use Rattle.tmr_outside.specs.Seen.{FilesSeen}
 use Rattle.tmr_outside.proofs.ContentsLemmas.{get-insert_other, get-insert_same}
@@ -52,7 +53,7 @@ module _ (w : Guarding) (held now : Contents) (text : List ℕ) (is : IsDone (Gu
     bytes = design;
     there = guarded_there;
     short = is.outcome.keeps;
-    fact = free_read design 1073741824 (guard_net is.outcome.original) 0 is.outcome.read;
+    fact = free_read design (most_hardened w.limits) (guard_net is.outcome.original) 0 is.outcome.read;
   }
 
   module _ (other : w.original ≢ w.guarded) where

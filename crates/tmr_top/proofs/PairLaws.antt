@@ -9,6 +9,9 @@ use Rattle.flat_net.specs.Free.{FreeDesign}
 use Rattle.flat_net.specs.Net.{Net, net_count, pin_total}
 use Rattle.certificate.specs.Cert.{PlainCert}
 use Rattle.certificate.specs.Reading.{cert_of_text}
+use Rattle.limits.specs.declared.Limits.{Limits}
+use Rattle.limits.specs.Most.{most_original, widest_nets}
+use Rattle.limits.proofs.MostLaws.{original_within}
 use Rattle.tmr_outside.specs.Contents.{Contents}
 use Rattle.tmr_words.specs.Line.{Pair}
 use Rattle.tmr_top.specs.Loads.{Load, original_file, hardened_file, certificate_file}
@@ -99,13 +102,13 @@ pair_read p held designs k read one two three are holds = record {
       (subst (λ (c : PlainCert). HoldsCertificate held (certificate_file p.limits p.certificate) designs.original.design.net designs.hardened.design.net c) (sym three) holds));
 }
 
-pub fit_pair : (designs : Designs) (k : PlainCert) (read : PairRead) → read.original ≡ designs.original → read.hardened ≡ designs.hardened → read.certificate ≡ k → Fits designs.original.design.net designs.hardened.design.net k → 2 * (net_count designs.original.design.net + pin_total designs.original.design.net) ≤ 8388608 → IsFit read
-fit_pair designs k read one two three fits few = record {
+pub fit_pair : (l : Limits) (designs : Designs) (k : PlainCert) (read : PairRead) → read.original ≡ designs.original → read.hardened ≡ designs.hardened → read.certificate ≡ k → Fits designs.original.design.net designs.hardened.design.net k → 2 * (net_count designs.original.design.net + pin_total designs.original.design.net) ≤ most_original l → IsFit read
+fit_pair l designs k read one two three fits few = record {
   fits =
       subst (λ (n : FreeDesign). Fits n.design.net read.hardened.design.net read.certificate) (sym one)
       (subst (λ (n : FreeDesign). Fits designs.original.design.net n.design.net read.certificate) (sym two)
       (subst (λ (c : PlainCert). Fits designs.original.design.net designs.hardened.design.net c) (sym three) fits));
-  small = subst (λ (n : FreeDesign). net_count n.design.net ≤ 4194304) (sym one) (omega (arith, few));
+  small = subst (λ (n : FreeDesign). 4 * net_count n.design.net ≤ widest_nets) (sym one) (omega (arith, few, original_within l));
 }
 
 pub designs_unread : (p : Pair) (line : List ℕ) (held : Contents) → AreRefused (original_file p.limits p.original) (hardened_file p.limits p.hardened) line held → IsPairUnread p held line

@@ -31,4 +31,4 @@ returns-clause-gives c =
     (λ text held loaded shown. designs_shown p text held shown)
 
 pub returns-in-Ok-read_certificate-clause-fit : goal.returns-in-Ok-read_certificate-clause-fit
-returns-in-Ok-read_certificate-clause-fit c = fit_pair c.in-Ok.designs c.in-Ok-read_certificate.certificate _ c.join_pair.ensures.original c.join_pair.ensures.hardened c.join_pair.ensures.certificate c.in-Ok-read_certificate.ensures.fits c.in-Ok.ensures.within.few
+returns-in-Ok-read_certificate-clause-fit c = fit_pair c.args.words.now.limits c.in-Ok.designs c.in-Ok-read_certificate.certificate _ c.join_pair.ensures.original c.join_pair.ensures.hardened c.join_pair.ensures.certificate c.in-Ok-read_certificate.ensures.fits c.in-Ok.ensures.within.few
