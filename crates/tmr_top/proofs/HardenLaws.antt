@@ -10,7 +10,6 @@ use Rattle.recovery_depth.specs.Extra.{is_extra}
 use Rattle.hardened_size.specs.Size.{AreShort, IsHardenedFrom, FlatTextKeepsLimit, HardenedTextsKeepLimits, KeepLimits}
 use Rattle.limits.specs.declared.Limits.{Limits}
 use Rattle.limits.specs.Most.{most_original, most_hardened, widest_nets}
-use Rattle.limits.proofs.MostLaws.{original_within}
 use Rattle.tmr_top.specs.Private.FlatWithin.{IsFlatWithin}
 use Rattle.certificate.specs.Reading.{cert_of_text}
 use Rattle.certificate.specs.Text.{cert_text}
@@ -34,9 +33,6 @@ no_trial w t e = cc
 
 pub no_check : (w : Hardening) (p : Pair) → Harden w ≡ Validate p → ⊥
 no_check w p e = cc
-
-pub few_pins : (l : Limits) (x : ℕ) → 2 * x ≤ most_original l → x ≤ widest_nets
-few_pins l x few = omega (arith, few, original_within l)
 
 pub hardened_outcome : (held : Contents) (w : Hardening) (n h : Net) (f g : List Bool) (k : PlainCert) (minimal : Bool) (d e text : List ℕ) → HoldsDesign held (original_file w.limits w.original) n f → BoundedForm w.form n f w.size w.version w.most h g k → (length n.nodes < w.most → HasNoExtra w n f h g k) → net_count n + pin_total n ≤ widest_nets → AreShort n h k → (IsTrue minimal ↔ IsMinimal n w.size (parts_of k)) → d ≡ free_text h g → length d ≤ most_hardened w.limits → IsFreeNetOf d (most_hardened w.limits) h g → e ≡ cert_text n h k → length e ≤ most_hardened w.limits → cert_of_text n h e ≡ Ok k → text ≡ hardened_lines (form_numbers n w.size h k minimal) k.version (count_by (λ bit. bit) f) → IsHardened w held (d ∷ e ∷ []) text
 hardened_outcome held w n h f g k minimal d e text holds form unbounded few short is_minimal d_is d_short d_read e_is e_short e_read says = record {

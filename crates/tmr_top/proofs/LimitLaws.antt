@@ -1,10 +1,13 @@
--- What is said of a file with one limit, said of it with the same limit in other words.
-use Rattle.std.proofs.Common.{◌≡◌, ℕ, List, [], ◌∷◌, Result, subst}
+-- What is said of a file with one limit, said of it with the same limit in other words; and designs within a limit are small.
+use Rattle.std.proofs.Common.{◌≡◌, ℕ, ◌*◌, ◌≤◌, List, [], ◌∷◌, Result, subst, arith}
 use Rattle.std.specs.Prelude.{IfOk, Vec}
 use Rattle.std.specs.declared.alloc.Global.{Global}
 use Rattle.blif_text.specs.Models.{PlainModel}
 use Rattle.blif_text.specs.declared.fault.TextFault.{TextFault}
 use Rattle.flat_net.specs.Free.{FreeDesign}
+use Rattle.limits.specs.declared.Limits.{Limits}
+use Rattle.limits.specs.Most.{most_original, widest_nets}
+use Rattle.limits.proofs.MostLaws.{original_within}
 use Rattle.tmr_outside.specs.Contents.{Contents}
 use Rattle.tmr_outside.specs.Seen.{FilesSeen}
 use Rattle.tmr_top.specs.declared.loads.Stop.{Stop}
@@ -39,3 +42,13 @@ shown_given name k m bytes answer same = subst (λ (x : ℕ). Gives (λ held. Ho
 
 pub within_same : (k m : ℕ) (answer : Result FreeDesign Stop) → k ≡ m → IfOk answer (IsWithin k) → IfOk answer (IsWithin m)
 within_same k m answer same = subst (λ (x : ℕ). IfOk answer (IsWithin x)) same
+
+-- ---- designs within a limit are small
+
+pub few_pins : (l : Limits) (x : ℕ) → 2 * x ≤ most_original l → x ≤ widest_nets
+few_pins l x few = omega (arith, few, original_within l)
+
+pub few_rows : (l : Limits) (x : ℕ) → x ≤ most_original l → x ≤ widest_nets
+few_rows l x few = omega (arith, few, original_within l)
+
+pub ruleset few = (few_pins, few_rows)

@@ -1,7 +1,7 @@
 //! Files, loaded each as its kind wants it.
 ghost use Rattle.std.specs.Prelude.{◌≡◌, ◌≤◌, ◌∷◌, [], length, IfOk, IfErr, IfSome, OnOk, IsOk};
 ghost use Rattle.blif_text.specs.Reader.{StandsFor, most_bytes};
-ghost use Rattle.limits.specs.Most.{most_original, most_hardened};
+ghost use Rattle.limits.specs.Most.{widest_original, widest_text};
 ghost use Rattle.tmr_outside.specs.Counts.{NoneRose};
 ghost use Rattle.tmr_outside.specs.Pieces.{TakesFile};
 ghost use Rattle.tmr_outside.specs.Seen.{IsTold};
@@ -198,7 +198,7 @@ pub fn keep_original<'a, F: Files>(
     ensures opens { Opens (kept_file (original_file limits name.now) ∷ [])
         (λ bytes held. HoldsBytes held (kept_file (original_file limits name.now)) bytes.items) Never
         (F.seen files.old) (F.seen files.new) (F.steady files.old) (F.steady files.new) result }
-    ensures short { IfOk result (λ bytes. length bytes.items ≤ most_original limits) }
+    ensures short { IfOk result (λ bytes. length bytes.items ≤ widest_original) }
 {
     load_bytes(alloc, name, limits.original(), files)
 }
@@ -213,7 +213,7 @@ pub fn keep_hardened<'a, F: Files>(
     ensures opens { Opens (kept_file (hardened_file limits name.now) ∷ [])
         (λ bytes held. HoldsBytes held (kept_file (hardened_file limits name.now)) bytes.items) Never
         (F.seen files.old) (F.seen files.new) (F.steady files.old) (F.steady files.new) result }
-    ensures short { IfOk result (λ bytes. length bytes.items ≤ most_hardened limits) }
+    ensures short { IfOk result (λ bytes. length bytes.items ≤ widest_text) }
 {
     load_bytes(alloc, name, limits.hardened(), files)
 }

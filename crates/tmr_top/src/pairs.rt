@@ -1,6 +1,6 @@
 //! Pairs of designs: loaded, read in the order of the words, and checked.
 ghost use Rattle.std.specs.Prelude.{◌≡◌, ◌≤◌, ◌∷◌, [], length, count_by, IfOk, IfErr};
-ghost use Rattle.limits.specs.Most.{most_original, most_hardened};
+ghost use Rattle.limits.specs.Most.{most_original, widest_text};
 ghost use Rattle.tmr_texts.specs.Texts.{accepted_line, not_accepted_line};
 ghost use Rattle.tmr_words.specs.FileWords.{pair_in};
 ghost use Rattle.validator.specs.Place.{IsPlace};
@@ -59,7 +59,7 @@ pub fn load_pair<'a, F: Files>(
 ) -> Result<PairFiles, Stop<'a>>
     ensures opens { Opens (pair_files (pair_in words.now)) (ArePairFiles (pair_in words.now)) Never
         (F.seen files.old) (F.seen files.new) (F.steady files.old) (F.steady files.new) result }
-    ensures short { IfOk result (λ loaded. length loaded.certificate.items ≤ most_hardened words.now.limits) }
+    ensures short { IfOk result (λ loaded. length loaded.certificate.items ≤ widest_text) }
 {
     let limits = words.limits;
     match load_designs(alloc, words.original, words.hardened, limits, files) {
@@ -127,7 +127,7 @@ fn read_certificate<'a>(
     bytes: &[u8],
     limits: Limits,
 ) -> Result<Certificate, Stop<'a>>
-    requires { length bytes.now ≤ most_hardened limits }
+    requires { length bytes.now ≤ widest_text }
     ensures gives { Gives (λ held. HoldsBytes held (certificate_file limits name.now) bytes.now)
         (λ c held. HoldsCertificate held (certificate_file limits name.now)
         designs.now.original.design.net designs.now.hardened.design.net c)
@@ -161,7 +161,7 @@ pub fn read_pair<'a>(
     words: &PairWords,
     loaded: PairFiles,
 ) -> Result<PairRead, Stop<'a>>
-    requires { length loaded.certificate.items ≤ most_hardened words.now.limits }
+    requires { length loaded.certificate.items ≤ widest_text }
     ensures gives { Gives (ArePairFiles (pair_in words.now) loaded)
         (λ read held. HoldsPair held (pair_in words.now) (pair_of read))
         (λ line held. IsPairUnread (pair_in words.now) held line) result }

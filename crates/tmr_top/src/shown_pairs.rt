@@ -40,8 +40,8 @@ fn load_designs<'a, F: Files>(
     ensures opens { Opens (kept_file (original_file limits original.now) ∷ kept_file (hardened_file limits hardened.now) ∷ [])
         (AreDesignBytes limits original.now hardened.now) Never
         (F.seen files.old) (F.seen files.new) (F.steady files.old) (F.steady files.new) result }
-    ensures short_original { IfOk result (λ loaded. length loaded.original.items ≤ most_original limits) }
-    ensures short_hardened { IfOk result (λ loaded. length loaded.hardened.items ≤ most_hardened limits) }
+    ensures short_original { IfOk result (λ loaded. length loaded.original.items ≤ widest_text) }
+    ensures short_hardened { IfOk result (λ loaded. length loaded.hardened.items ≤ widest_text) }
 {
     match keep_original(alloc, original, limits, files) {
         Ok(first) => match keep_hardened(alloc, hardened, limits, files) {
@@ -63,9 +63,9 @@ fn load_pair<'a, F: Files>(
 ) -> Result<PairBytes, Stop<'a>>
     ensures opens { Opens (kept_pair_files (pair_in words.now)) (ArePairBytes (pair_in words.now)) Never
         (F.seen files.old) (F.seen files.new) (F.steady files.old) (F.steady files.new) result }
-    ensures short_original { IfOk result (λ loaded. length loaded.designs.original.items ≤ most_original words.now.limits) }
-    ensures short_hardened { IfOk result (λ loaded. length loaded.designs.hardened.items ≤ most_hardened words.now.limits) }
-    ensures short_certificate { IfOk result (λ loaded. length loaded.certificate.items ≤ most_hardened words.now.limits) }
+    ensures short_original { IfOk result (λ loaded. length loaded.designs.original.items ≤ widest_text) }
+    ensures short_hardened { IfOk result (λ loaded. length loaded.designs.hardened.items ≤ widest_text) }
+    ensures short_certificate { IfOk result (λ loaded. length loaded.certificate.items ≤ widest_text) }
 {
     let limits = words.limits;
     match load_designs(alloc, words.original, words.hardened, limits, files) {
@@ -159,7 +159,7 @@ fn read_original<'a>(
     bytes: Vec<u8>,
     limits: Limits,
 ) -> Result<FreeNet, Stop<'a>>
-    requires { length bytes.items ≤ most_original limits }
+    requires { length bytes.items ≤ widest_text }
     ensures gives { Gives (λ held. HoldsBytes held (kept_file (original_file limits name.now)) bytes.items)
         (λ n held. HoldsDesign held (original_file limits name.now) n.design.net n.free)
         (IsShownNetlist (original_file limits name.now)) result }
@@ -175,7 +175,7 @@ fn read_hardened<'a>(
     bytes: Vec<u8>,
     limits: Limits,
 ) -> Result<FreeNet, Stop<'a>>
-    requires { length bytes.items ≤ most_hardened limits }
+    requires { length bytes.items ≤ widest_text }
     ensures gives { Gives (λ held. HoldsBytes held (kept_file (hardened_file limits name.now)) bytes.items)
         (λ n held. HoldsDesign held (hardened_file limits name.now) n.design.net n.free)
         (IsShownNetlist (hardened_file limits name.now)) result }
@@ -192,8 +192,8 @@ fn read_designs<'a>(
     loaded: DesignBytes,
     limits: Limits,
 ) -> Result<Designs, Stop<'a>>
-    requires short_original { length loaded.original.items ≤ most_original limits }
-    requires short_hardened { length loaded.hardened.items ≤ most_hardened limits }
+    requires short_original { length loaded.original.items ≤ widest_text }
+    requires short_hardened { length loaded.hardened.items ≤ widest_text }
     ensures gives { Gives (AreDesignBytes limits original.now hardened.now loaded)
         (AreDesigns limits original.now hardened.now)
         (AreShown (original_file limits original.now) (hardened_file limits hardened.now)) result }
@@ -233,7 +233,7 @@ fn read_certificate<'a>(
     bytes: &[u8],
     limits: Limits,
 ) -> Result<Certificate, Stop<'a>>
-    requires { length bytes.now ≤ most_hardened limits }
+    requires { length bytes.now ≤ widest_text }
     ensures gives { Gives (λ held. HoldsBytes held (certificate_file limits name.now) bytes.now)
         (λ c held. HoldsCertificate held (certificate_file limits name.now)
         designs.now.original.design.net designs.now.hardened.design.net c)
@@ -252,9 +252,9 @@ fn read_certificate<'a>(
 
 /// Reads the three files of a pair, in the order of the words.
 fn read_pair<'a>(alloc: Global, words: &PairWords, loaded: PairBytes) -> Result<PairRead, Stop<'a>>
-    requires short_original { length loaded.designs.original.items ≤ most_original words.now.limits }
-    requires short_hardened { length loaded.designs.hardened.items ≤ most_hardened words.now.limits }
-    requires short_certificate { length loaded.certificate.items ≤ most_hardened words.now.limits }
+    requires short_original { length loaded.designs.original.items ≤ widest_text }
+    requires short_hardened { length loaded.designs.hardened.items ≤ widest_text }
+    requires short_certificate { length loaded.certificate.items ≤ widest_text }
     ensures gives { Gives (ArePairBytes (pair_in words.now) loaded)
         (λ read held. HoldsPair held (pair_in words.now) (pair_of read))
         (λ text held. IsPairShown (pair_in words.now) held text) result }

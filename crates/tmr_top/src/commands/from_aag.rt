@@ -1,6 +1,6 @@
 //! `from-aag AAG FLAT`: the flat text of the design of an AIGER file is saved.
 ghost use Rattle.std.specs.Prelude.{◌≤◌, ◌∷◌, [], length, IfOk};
-ghost use Rattle.limits.specs.Most.{most_original};
+ghost use Rattle.limits.specs.Most.{widest_original};
 ghost use Rattle.tmr_words.specs.Line.{ReadGraph};
 ghost use Rattle.tmr_words.specs.FileWords.{graph_reading_in};
 ghost use Rattle.tmr_top.specs.Loads.{graph_file};
@@ -38,7 +38,7 @@ fn read_graph<'a>(
     bytes: &[u8],
     limits: Limits,
 ) -> Result<CountedDesign, Stop<'a>>
-    requires { length bytes.now ≤ most_original limits }
+    requires { length bytes.now ≤ widest_original }
     ensures { Gives (λ held. HoldsBytes held (graph_file limits name.now) bytes.now)
         (λ read held. HoldsCounted held (graph_file limits name.now) read) (IsRefusedGraph limits name.now) result }
 {

@@ -33,6 +33,7 @@ fn text_keeps_limit(words: &GuardWords, n: &FreeNet)
 }
 
 /// The text of the guarded design, and what is told of it.
+#[tactic(auto, using(crate::proofs::LimitLaws::few))]
 fn tell<'a>(
     alloc: Global,
     words: &GuardWords<'a>,

@@ -21,6 +21,7 @@ use tmr_texts::{guard_found, guard_not_found};
 use tmr_words::GuardWords;
 
 /// What is told of the two designs.
+#[tactic(auto, using(crate::proofs::LimitLaws::few))]
 fn tell<'a>(
     alloc: Global,
     words: &GuardWords<'a>,

@@ -92,7 +92,7 @@ fn tell_form<'a>(
 }
 
 /// A hardened form of a design.
-#[tactic(auto, using(crate::proofs::HardenLaws::versions))]
+#[tactic(auto, using(crate::proofs::HardenLaws::versions, crate::proofs::LimitLaws::few))]
 fn tell<'a>(alloc: Global, words: &HardenWords<'a>, n: &FreeNet) -> Result<Work<'a>, OutOfMemory>
     requires { IsWithin (most_original words.now.limits) n.now }
     ensures { IfOk result (IsWorkOver (Harden (hardening_in words.now))

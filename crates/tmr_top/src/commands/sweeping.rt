@@ -21,6 +21,7 @@ use tmr_outside::Files;
 use tmr_words::SweepWords;
 
 /// What hardening a design costs with partitions of each size.
+#[tactic(auto, using(crate::proofs::LimitLaws::few))]
 fn tell<'a>(
     alloc: Global,
     words: &SweepWords<'a>,

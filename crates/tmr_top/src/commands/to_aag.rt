@@ -22,6 +22,7 @@ use tmr_texts::graph_made;
 use tmr_words::GraphWords;
 
 /// The file of a design, and what is told of it.
+#[tactic(auto, using(crate::proofs::LimitLaws::few))]
 fn tell<'a>(
     alloc: Global,
     words: &GraphWords<'a>,

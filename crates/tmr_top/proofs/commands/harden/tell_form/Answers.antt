@@ -6,7 +6,8 @@ use Rattle.triplicate.specs.Form.{parts_of}
 use Rattle.tmr_words.specs.FileWords.{hardening_in}
 use Rattle.tmr_top.specs.declared.decision.Save.{Save}
 use Rattle.tmr_top.specs.Private.Works.{save_names, save_texts}
-use Rattle.tmr_top.proofs.HardenLaws.{few_pins, hardened_outcome, no_trial, no_check}
+use Rattle.tmr_top.proofs.HardenLaws.{hardened_outcome, no_trial, no_check}
+use Rattle.tmr_top.proofs.LimitLaws.{few_pins}
 use Rattle.tmr_top.proofs.RoomLaws.{done_over}
 use Rattle.tmr_top.proofs.commands.harden.tell_form.Goals as goal
 
