@@ -94,9 +94,17 @@ abbrev pub usage_lines : List ℕ → List Topic → List ℕ
 usage_lines head [] = []
 usage_lines head (command ∷ commands) = head ++ (call_of command ++ (codes "\n" ++ usage_lines (codes "       tmr ") commands))
 
--- how the program is called: each command of the table
+-- how each command of the table is called
+abbrev pub calls : List ℕ
+calls = usage_lines (codes "usage: tmr ") commands
+
+-- the option that each command has which reads a design
+abbrev pub large_line : List ℕ
+large_line = codes "       --large, with each command that reads ORIG or AAG: files may be 16 times as large\n"
+
+-- how the program is called: each command, and the option that most of them have
 unfoldable pub usage_text : List ℕ
-usage_text = usage_lines (codes "usage: tmr ") commands
+usage_text = calls ++ large_line
 
 unfoldable pub memory_text : List ℕ
 memory_text = codes "want of memory\n"

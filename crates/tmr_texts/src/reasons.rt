@@ -36,7 +36,7 @@ fn kind(kind: TextKind) -> &'static str
 }
 
 /// The reason of the first bad line of a netlist.
-pub fn bad_line(alloc: Global, line: u32, of: TextKind) -> Result<Vec<u8>, OutOfMemory>
+pub fn bad_line(alloc: Global, line: u64, of: TextKind) -> Result<Vec<u8>, OutOfMemory>
     ensures { IfOk result (λ text. text.items ≡ line_reason line (kind_text of)) }
 {
     at_line(alloc, line, kind(of))

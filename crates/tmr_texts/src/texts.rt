@@ -2,7 +2,7 @@
 ghost use Rattle.std.specs.Prelude.{◌≡◌, ◌+◌, ◌≤◌, ◌<◌, ◌∷◌, [], ◌++◌, codes, length, max, IfOk, OnOk};
 ghost use Rattle.std.specs.Fmt.{decimal};
 ghost use Rattle.tmr_words.specs.FileWords.{read_words as read_pieces};
-ghost use Rattle.tmr_texts.specs.Texts.{joined, greatest, open_word, accepted_line, place_text, not_accepted_line, refused_line, load_fault_line, save_fault_line, counted_text, flattened_line, guard_line, aag_line, graph_line, guarded_line, not_guarded_line, line_reason, usage_text, memory_text, certificate_too_long};
+ghost use Rattle.tmr_texts.specs.Texts.{joined, greatest, open_word, accepted_line, place_text, not_accepted_line, refused_line, load_fault_line, save_fault_line, counted_text, flattened_line, guard_line, aag_line, graph_line, guarded_line, not_guarded_line, line_reason, calls, usage_text, memory_text, certificate_too_long};
 ghost use Rattle.tmr_words.specs.Topics.{call_of};
 ghost use Rattle.flat_net.specs.Net.{Net, net_count};
 ghost use Rattle.validator.specs.Place.{IsPlace};
@@ -45,10 +45,10 @@ fn put_call(text: &mut Vec<u8>, head: &[u8], command: Topic) -> Result<(), OutOf
     Ok(())
 }
 
-/// How the program is called: a line for each command.
-#[tactic(auto, unfolding(crate::specs::Texts::usage_text), using(crate::proofs::TextLaws::calls))]
-pub fn usage(alloc: Global) -> Result<Vec<u8>, OutOfMemory>
-    ensures { IfOk result (λ text. text.items ≡ usage_text) }
+/// How each command is called: a line for each.
+#[tactic(auto, using(crate::proofs::TextLaws::calls))]
+fn call_lines(alloc: Global) -> Result<Vec<u8>, OutOfMemory>
+    ensures { IfOk result (λ text. text.items ≡ calls) }
 {
     let mut text = Vec::new(alloc);
     let mut head = b"usage: tmr ".as_slice();
@@ -57,6 +57,18 @@ pub fn usage(alloc: Global) -> Result<Vec<u8>, OutOfMemory>
         put_call(&mut text, head, all[i])?;
         head = b"       tmr ".as_slice();
     }
+    Ok(text)
+}
+
+/// How the program is called: a line for each command, and one for the option that most of them have.
+#[tactic(auto, unfolding(crate::specs::Texts::usage_text))]
+pub fn usage(alloc: Global) -> Result<Vec<u8>, OutOfMemory>
+    ensures { IfOk result (λ text. text.items ≡ usage_text) }
+{
+    let mut text = call_lines(alloc)?;
+    text.extend_from_slice(
+        b"       --large, with each command that reads ORIG or AAG: files may be 16 times as large\n".as_slice(),
+    )?;
     Ok(text)
 }
 
@@ -258,7 +270,7 @@ pub fn flattened(alloc: Global, net: &FlatNet, assumed: u32) -> Result<Vec<u8>, 
 
 /// What is wrong in a line of a file.
 #[tactic(auto, unfolding(crate::specs::Texts::line_reason))]
-pub fn at_line(alloc: Global, line: u32, kind: &str) -> Result<Vec<u8>, OutOfMemory>
+pub fn at_line(alloc: Global, line: u64, kind: &str) -> Result<Vec<u8>, OutOfMemory>
     ensures { IfOk result (λ text. text.items ≡ line_reason line kind.now) }
 {
     let number = line.to_string(alloc)?;

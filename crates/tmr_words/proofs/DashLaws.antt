@@ -8,9 +8,9 @@ use Rattle.tmr_words.specs.declared.words.Setting.{Setting}
 use Rattle.tmr_words.specs.declared.words.Setting.TheVariants.{Size, Version, Depth, Form}
 use Rattle.tmr_words.specs.declared.words.Mode.{Mode}
 use Rattle.tmr_words.specs.declared.words.Mode.TheVariants.{Options, Value, Plain}
-use Rattle.tmr_words.specs.Words.{Words, no_words, plain_word, given_value, both, setting_text, equals_text, begins_with, has_dash, is_option}
-use Rattle.tmr_words.specs.Words.{Kind, Awaits, Adds, Unknown, as_option, kind, value_in, joined, last_word, first_words, mixed_words, is_dashes, before_dashes, behind_dashes, plain_words, words_of}
-use Rattle.tmr_words.specs.Private.WordByWord.{Taken, take_setting, take_option, take_word, words_from}
+use Rattle.tmr_words.specs.Words.{Words, no_words, plain_word, large_word, given_value, both, setting_text, equals_text, begins_with, has_dash, is_option}
+use Rattle.tmr_words.specs.Words.{Kind, Awaits, Adds, Unknown, as_option, as_large, kind, value_in, joined, last_word, first_words, mixed_words, is_dashes, before_dashes, behind_dashes, plain_words, words_of}
+use Rattle.tmr_words.specs.Private.WordByWord.{Taken, take_setting, take_large, take_option, take_word, words_from}
 use Rattle.tmr_words.proofs.WordLaws.{both_assoc, both_none, step, at_last}
 
 -- what a word of this kind adds, and how the next one is read
@@ -27,13 +27,21 @@ chosen false false setting these otherwise = refl
 setting_taken : (setting : Setting) (word : List ℕ) (otherwise : Kind) → take_setting setting word (taken_of otherwise) ≡ taken_of (as_option setting word otherwise)
 setting_taken setting word otherwise = chosen (bytes_eq word (setting_text setting)) (begins_with (equals_text setting) word) setting (given_value setting (drop (length (equals_text setting)) word)) otherwise
 
-option_taken : (word : List ℕ) → take_option word ≡ taken_of (as_option Size word (as_option Version word (as_option Depth word (as_option Form word Unknown))))
+large_chosen : (b : Bool) (these : Words) (otherwise : Kind) → cond b (Some (record { adds = these; next = Options })) (taken_of otherwise) ≡ taken_of (cond b (Adds these) otherwise)
+large_chosen true these otherwise = refl
+large_chosen false these otherwise = refl
+
+large_taken : (word : List ℕ) (otherwise : Kind) → take_large word (taken_of otherwise) ≡ taken_of (as_large word otherwise)
+large_taken word otherwise = large_chosen (bytes_eq word (codes "--large")) (large_word word) otherwise
+
+option_taken : (word : List ℕ) → take_option word ≡ taken_of (as_option Size word (as_option Version word (as_option Depth word (as_option Form word (as_large word Unknown)))))
 unfolding take_option
 option_taken word =
-    ap (λ (t : Option Taken). take_setting Size word (take_setting Version word (take_setting Depth word t))) (setting_taken Form word Unknown)
-    ∙ (ap (λ (t : Option Taken). take_setting Size word (take_setting Version word t)) (setting_taken Depth word (as_option Form word Unknown))
-    ∙ (ap (λ (t : Option Taken). take_setting Size word t) (setting_taken Version word (as_option Depth word (as_option Form word Unknown)))
-    ∙ setting_taken Size word (as_option Version word (as_option Depth word (as_option Form word Unknown)))))
+    ap (λ (t : Option Taken). take_setting Size word (take_setting Version word (take_setting Depth word (take_setting Form word t)))) (large_taken word Unknown)
+    ∙ (ap (λ (t : Option Taken). take_setting Size word (take_setting Version word (take_setting Depth word t))) (setting_taken Form word (as_large word Unknown))
+    ∙ (ap (λ (t : Option Taken). take_setting Size word (take_setting Version word t)) (setting_taken Depth word (as_option Form word (as_large word Unknown)))
+    ∙ (ap (λ (t : Option Taken). take_setting Size word t) (setting_taken Version word (as_option Depth word (as_option Form word (as_large word Unknown))))
+    ∙ setting_taken Size word (as_option Version word (as_option Depth word (as_option Form word (as_large word Unknown)))))))
 
 either : (b : Bool) (k : Kind) (these : Words) (t : Option Taken) → t ≡ taken_of k → cond b t (Some (record { adds = these; next = Options })) ≡ taken_of (cond b k (Adds these))
 either true k these t e = e

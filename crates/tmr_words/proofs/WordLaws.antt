@@ -13,10 +13,10 @@ abbrev pub behind : Words → Option Words → Option Words
 behind done rest = option_map (both done) rest
 
 pub both_assoc : (a b c : Words) → both (both a b) c ≡ both a (both b c)
-both_assoc a b c = rw (append_assoc a.plain b.plain c.plain, append_assoc a.sizes b.sizes c.sizes, append_assoc a.versions b.versions c.versions, append_assoc a.depths b.depths c.depths, append_assoc a.forms b.forms c.forms) refl
+both_assoc a b c = rw (append_assoc a.plain b.plain c.plain, append_assoc a.sizes b.sizes c.sizes, append_assoc a.versions b.versions c.versions, append_assoc a.depths b.depths c.depths, append_assoc a.forms b.forms c.forms, append_assoc a.larges b.larges c.larges) refl
 
 pub both_none : (a : Words) → both a no_words ≡ a
-both_none a = rw (append-nil a.plain, append-nil a.sizes, append-nil a.versions, append-nil a.depths, append-nil a.forms) refl
+both_none a = rw (append-nil a.plain, append-nil a.sizes, append-nil a.versions, append-nil a.depths, append-nil a.forms, append-nil a.larges) refl
 
 one_more : (done adds : Words) (rest : Option Words) → behind done (option_map (both adds) rest) ≡ behind (both done adds) rest
 one_more done adds None = refl

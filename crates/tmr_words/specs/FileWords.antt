@@ -21,7 +21,7 @@ use Rattle.tmr_words.specs.Line.{Certify, Exposure, Sweep, Explain, Campaign, Pi
 use Rattle.tmr_words.specs.TrialWords.{trial_in}
 
 abbrev pub pair_in : PairWords → Pair
-pair_in words = record { original = words.original.now; hardened = words.hardened.now; certificate = words.certificate.now }
+pair_in words = record { original = words.original.now; hardened = words.hardened.now; certificate = words.certificate.now; limits = words.limits }
 
 abbrev pub hardening_in : HardenWords → Hardening
 hardening_in words = record {
@@ -32,19 +32,20 @@ hardening_in words = record {
   size = words.size;
   version = words.version;
   most = words.most;
+  limits = words.limits;
 }
 
 abbrev pub flattening_in : FlatWords → Flattening
-flattening_in words = record { original = words.original.now; flat = words.flat.now }
+flattening_in words = record { original = words.original.now; flat = words.flat.now; limits = words.limits }
 
 abbrev pub guarding_in : GuardWords → Guarding
-guarding_in words = record { original = words.original.now; guarded = words.guarded.now }
+guarding_in words = record { original = words.original.now; guarded = words.guarded.now; limits = words.limits }
 
 abbrev pub graphing_in : GraphWords → Graphing
-graphing_in words = record { original = words.original.now; graph = words.graph.now }
+graphing_in words = record { original = words.original.now; graph = words.graph.now; limits = words.limits }
 
 abbrev pub graph_reading_in : GraphReadWords → GraphReading
-graph_reading_in words = record { graph = words.graph.now; flat = words.flat.now }
+graph_reading_in words = record { graph = words.graph.now; flat = words.flat.now; limits = words.limits }
 
 abbrev pub word_in : Option (Bor (List ℕ)) → Option (List ℕ)
 word_in word = option_map (λ w. w.now) word
@@ -58,10 +59,11 @@ certifying_in words = record {
   hardened = words.hardened.now;
   certificate = words.certificate.now;
   version = words.version;
+  limits = words.limits;
 }
 
 abbrev pub sweeping_in : SweepWords → Sweeping
-sweeping_in words = record { original = words.original.now; form = words.form; version = words.version; most = words.most }
+sweeping_in words = record { original = words.original.now; form = words.form; version = words.version; most = words.most; limits = words.limits }
 
 abbrev pub campaigning_in : CampaignWords → Campaigning
 campaigning_in words = record { pair = pair_in words.pair; number = words.number; cycles = words.cycles; near = words.near }

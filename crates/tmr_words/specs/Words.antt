@@ -4,6 +4,8 @@ use Rattle.std.specs.Prelude.{Some, None, codes, slice_index, string_bytes, Stri
 use Rattle.std.specs.Option.{option_map}
 use Rattle.std.specs.Str.{bytes_eq}
 use Rattle.std.specs.declared.alloc.Global.{Global}
+use Rattle.limits.specs.declared.Limits.{Limits}
+use Rattle.limits.specs.declared.Limits.TheVariants.{Usual, Large}
 use Rattle.tmr_words.specs.declared.words.Setting.{Setting}
 use Rattle.tmr_words.specs.declared.words.Setting.TheVariants.{Size, Version, Depth, Form}
 
@@ -11,25 +13,29 @@ use Rattle.tmr_words.specs.declared.words.Setting.TheVariants.{Size, Version, De
 abbrev pub texts : List (String Global) → List (List ℕ)
 texts words = map string_bytes words
 
--- the plain words, and the values that the options are given: `--size`, `--cert`, `--depth` and `--form`
+-- the plain words, the values that the options are given: `--size`, `--cert`, `--depth` and `--form`, and the word `--large`, as often as it stands there
 pub record Words : Type 0 where
   pub plain : List (List ℕ)
   pub sizes : List (List ℕ)
   pub versions : List (List ℕ)
   pub depths : List (List ℕ)
   pub forms : List (List ℕ)
+  pub larges : List (List ℕ)
 
 abbrev pub no_words : Words
-no_words = record { plain = []; sizes = []; versions = []; depths = []; forms = [] }
+no_words = record { plain = []; sizes = []; versions = []; depths = []; forms = []; larges = [] }
 
 abbrev pub plain_word : List ℕ → Words
-plain_word word = record { plain = word ∷ []; sizes = []; versions = []; depths = []; forms = [] }
+plain_word word = record { plain = word ∷ []; sizes = []; versions = []; depths = []; forms = []; larges = [] }
+
+abbrev pub large_word : List ℕ → Words
+large_word word = record { plain = []; sizes = []; versions = []; depths = []; forms = []; larges = word ∷ [] }
 
 abbrev pub given_value : Setting → List ℕ → Words
-given_value Size value = record { plain = []; sizes = value ∷ []; versions = []; depths = []; forms = [] }
-given_value Version value = record { plain = []; sizes = []; versions = value ∷ []; depths = []; forms = [] }
-given_value Depth value = record { plain = []; sizes = []; versions = []; depths = value ∷ []; forms = [] }
-given_value Form value = record { plain = []; sizes = []; versions = []; depths = []; forms = value ∷ [] }
+given_value Size value = record { plain = []; sizes = value ∷ []; versions = []; depths = []; forms = []; larges = [] }
+given_value Version value = record { plain = []; sizes = []; versions = value ∷ []; depths = []; forms = []; larges = [] }
+given_value Depth value = record { plain = []; sizes = []; versions = []; depths = value ∷ []; forms = []; larges = [] }
+given_value Form value = record { plain = []; sizes = []; versions = []; depths = []; forms = value ∷ []; larges = [] }
 
 -- these, and behind them those
 abbrev pub both : Words → Words → Words
@@ -39,19 +45,33 @@ both these those = record {
   versions = these.versions ++ those.versions;
   depths = these.depths ++ those.depths;
   forms = these.forms ++ those.forms;
+  larges = these.larges ++ those.larges;
 }
 
--- no option is given
+-- no option but `--large` is given
 abbrev pub has_no_options : Words → Bool
 has_no_options words = length words.sizes == 0 && length words.versions == 0 && length words.depths == 0 && length words.forms == 0
 
--- no option but `--cert` is given
+-- no option is given, and no `--large`
+abbrev pub has_plain_words_alone : Words → Bool
+has_plain_words_alone words = has_no_options words && length words.larges == 0
+
+-- no option but `--cert` and `--large` is given
 abbrev pub has_versions_alone : Words → Bool
 has_versions_alone words = length words.sizes == 0 && length words.depths == 0 && length words.forms == 0
 
 -- `--size` is not given
 abbrev pub has_no_sizes : Words → Bool
 has_no_sizes words = length words.sizes == 0
+
+-- The limits that hold: without `--large` the usual ones, and with it the large ones. It stands at most once.
+abbrev pub limits_asked : List (List ℕ) → Option Limits
+limits_asked [] = Some Usual
+limits_asked (large ∷ []) = Some Large
+limits_asked (large ∷ again ∷ larges) = None
+
+abbrev pub limits_of : Words → Option Limits
+limits_of words = limits_asked words.larges
 
 -- how an option is written
 abbrev pub setting_text : Setting → List ℕ
@@ -91,11 +111,15 @@ as_option setting word otherwise =
     else if begins_with (equals_text setting) word then Adds (given_value setting (drop (length (equals_text setting)) word))
     else otherwise
 
--- one of the four options, or a plain word
+-- `--large` has no value, and says by itself what it says
+abbrev pub as_large : List ℕ → Kind → Kind
+as_large word otherwise = if bytes_eq word (codes "--large") then Adds (large_word word) else otherwise
+
+-- one of the four options that have a value, or `--large`, or a plain word
 unfoldable pub kind : List ℕ → Kind
 kind word =
     if is_option word
-    then as_option Size word (as_option Version word (as_option Depth word (as_option Form word Unknown)))
+    then as_option Size word (as_option Version word (as_option Depth word (as_option Form word (as_large word Unknown))))
     else Adds (plain_word word)
 
 -- The value of an option that awaits it. It does not begin with `-`.
@@ -139,7 +163,7 @@ behind_dashes [] = []
 behind_dashes (word ∷ words) = if is_dashes word then words else behind_dashes words
 
 abbrev pub plain_words : List (List ℕ) → Words
-plain_words words = record { plain = words; sizes = []; versions = []; depths = []; forms = [] }
+plain_words words = record { plain = words; sizes = []; versions = []; depths = []; forms = []; larges = [] }
 
 -- The words behind a command word. Before the first `--` options and plain words are mixed. Behind it all words are plain.
 abbrev pub words_of : List (List ℕ) → Option Words

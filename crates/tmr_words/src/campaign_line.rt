@@ -8,6 +8,7 @@ ghost use Rattle.tmr_words.specs.FileWords.{pair_in, campaigning_in, read_words 
 
 use crate::campaign_words::CampaignWords;
 use crate::line::{PairWords, pair_with};
+use limits::Limits;
 use tmr_base::{read_u32, read_u64};
 
 /// The number of cycles that a word writes.
@@ -69,19 +70,19 @@ fn is_near(word: &str) -> bool
 
 /// The words of `campaign`, where there are five, or `near` is a sixth one, and they can be read.
 #[tactic(auto, unfolding(crate::specs::Line::campaigning_of))]
-pub fn read_campaigning<'a>(plain: &[&'a str]) -> Option<CampaignWords<'a>>
-    ensures { option_map campaigning_in result ≡ campaigning_of (read_texts plain.now) }
+pub fn read_campaigning<'a>(limits: Limits, plain: &[&'a str]) -> Option<CampaignWords<'a>>
+    ensures { option_map campaigning_in result ≡ campaigning_of limits (read_texts plain.now) }
 {
     match plain {
         [original, hardened, certificate, number, cycles] => {
-            let pair = pair_with(*original, *hardened, *certificate);
+            let pair = pair_with(limits, *original, *hardened, *certificate);
             campaign_over(pair, *number, *cycles, false)
         }
         [original, hardened, certificate, number, cycles, word] => {
             if !is_near(*word) {
                 return None;
             }
-            let pair = pair_with(*original, *hardened, *certificate);
+            let pair = pair_with(limits, *original, *hardened, *certificate);
             campaign_over(pair, *number, *cycles, true)
         }
         _ => None,

@@ -9,11 +9,13 @@ use crate::harden_words::HardenWords;
 use crate::line::CommandWords;
 use crate::option_values::{said_form, said_number, said_version};
 use crate::words::ReadWords;
+use limits::Limits;
 use triplicate::Form;
 
 /// `harden`, where there are three words, none is empty, and the last two differ.
 #[tactic(auto, unfolding(crate::specs::Line::hardening_with))]
 fn hardening_words<'a>(
+    limits: Limits,
     form: Form,
     size: u32,
     version: u8,
@@ -23,7 +25,7 @@ fn hardening_words<'a>(
     requires size { 0 < size }
     requires version { (0 < version) × (version < 3) }
     requires most { 0 < most }
-    ensures { option_map command_in result ≡ hardening_with form size version most (read_texts plain.now) }
+    ensures { option_map command_in result ≡ hardening_with limits form size version most (read_texts plain.now) }
 {
     match plain {
         [original, hardened, certificate] => {
@@ -41,6 +43,7 @@ fn hardening_words<'a>(
                 size,
                 version,
                 most,
+                limits,
             }))
         }
         _ => None,
@@ -49,8 +52,12 @@ fn hardening_words<'a>(
 
 /// `harden` of this form, where its other options and its files can be read.
 #[tactic(auto, unfolding(crate::specs::Line::hardening_as))]
-fn read_hardening_of<'a>(words: &ReadWords<'a>, form: Form) -> Option<CommandWords<'a>>
-    ensures { option_map command_in result ≡ hardening_as form (words_in words.now) }
+fn read_hardening_of<'a>(
+    limits: Limits,
+    words: &ReadWords<'a>,
+    form: Form,
+) -> Option<CommandWords<'a>>
+    ensures { option_map command_in result ≡ hardening_as limits form (words_in words.now) }
 {
     match said_number(64, words.sizes.as_slice()) {
         None => None,
@@ -58,7 +65,14 @@ fn read_hardening_of<'a>(words: &ReadWords<'a>, form: Form) -> Option<CommandWor
             None => None,
             Some(version) => match said_number(4294967295, words.depths.as_slice()) {
                 None => None,
-                Some(most) => hardening_words(form, size, version, most, words.plain.as_slice()),
+                Some(most) => hardening_words(
+                    limits,
+                    form,
+                    size,
+                    version,
+                    most,
+                    words.plain.as_slice(),
+                ),
             },
         },
     }
@@ -66,11 +80,11 @@ fn read_hardening_of<'a>(words: &ReadWords<'a>, form: Form) -> Option<CommandWor
 
 /// `harden`, where its options and files can be read.
 #[tactic(auto, unfolding(crate::specs::Line::hardening_of))]
-pub fn read_hardening<'a>(words: &ReadWords<'a>) -> Option<CommandWords<'a>>
-    ensures { option_map command_in result ≡ hardening_of (words_in words.now) }
+pub fn read_hardening<'a>(limits: Limits, words: &ReadWords<'a>) -> Option<CommandWords<'a>>
+    ensures { option_map command_in result ≡ hardening_of limits (words_in words.now) }
 {
     match said_form(words.forms.as_slice()) {
         None => None,
-        Some(form) => read_hardening_of(words, form),
+        Some(form) => read_hardening_of(limits, words, form),
     }
 }

@@ -3,7 +3,7 @@ ghost use Rattle.std.specs.Prelude.{◌≡◌, ◌∷◌, [], IfOk};
 ghost use Rattle.std.specs.Option.{option_map};
 ghost use Rattle.tmr_words.specs.Words.{texts};
 ghost use Rattle.tmr_words.specs.Private.WordsRead.{words_in};
-ghost use Rattle.tmr_words.specs.Line.{Validate, Report, Guard, CheckGuard, Exposure, Explain, Campaign, Picture, is_file, pair_named, over_pair, over_trial, over_help, version_of, flattening_of, guarding_of, over_guarding, graphing_of, graph_reading_of, replay_over, replaying_of, waving_of, campaigning_of, picturing_of, plain_meaning, meaning_of, line_of};
+ghost use Rattle.tmr_words.specs.Line.{Validate, Report, Guard, CheckGuard, Exposure, Explain, Campaign, Picture, is_file, pair_named, over_pair, over_trial, over_help, version_of, flattening_of, guarding_of, over_guarding, graphing_of, graph_reading_of, replay_over, replaying_of, waving_of, campaigning_of, picturing_of, plain_meaning, file_meaning, meaning_of, line_of};
 ghost use Rattle.tmr_words.specs.FileWords.{pair_in, word_in, guarding_in, command_in, read_words as read_texts};
 
 use crate::campaign_line::read_campaigning;
@@ -19,44 +19,50 @@ use crate::sweep_words::SweepWords;
 use crate::topic::{Topic, read_help_words, read_topic};
 use crate::trial_line::read_trial_words;
 use crate::trial_words::TrialWords;
-use crate::words::{ReadWords, is_plain, read_words};
+use crate::words::{ReadWords, has_no_options, is_plain, read_limits, read_words};
+use limits::Limits;
 use std::alloc::{AllocError, Global};
 
 /// The three file words of `validate ORIG HARD CERT`, `report`, `exposure` and `explain`, which others
-/// begin with.
+/// begin with, and how large files may be.
 #[derive(Clone, Copy, Drop)]
 pub struct PairWords<'a> {
     pub original: &'a str,
     pub hardened: &'a str,
     pub certificate: &'a str,
+    pub limits: Limits,
 }
 
-/// The two file words of `flatten ORIG FLAT`.
+/// The two file words of `flatten ORIG FLAT`, and how large files may be.
 #[derive(Clone, Copy, Drop)]
 pub struct FlatWords<'a> {
     pub original: &'a str,
     pub flat: &'a str,
+    pub limits: Limits,
 }
 
-/// The two file words of `guard ORIG GUARDED` and of `guarded ORIG GUARDED`.
+/// The two file words of `guard ORIG GUARDED` and of `guarded ORIG GUARDED`, and how large files may be.
 #[derive(Clone, Copy, Drop)]
 pub struct GuardWords<'a> {
     pub original: &'a str,
     pub guarded: &'a str,
+    pub limits: Limits,
 }
 
-/// The two file words of `to-aag ORIG AAG`.
+/// The two file words of `to-aag ORIG AAG`, and how large files may be.
 #[derive(Clone, Copy, Drop)]
 pub struct GraphWords<'a> {
     pub original: &'a str,
     pub graph: &'a str,
+    pub limits: Limits,
 }
 
-/// The two file words of `from-aag AAG FLAT`.
+/// The two file words of `from-aag AAG FLAT`, and how large files may be.
 #[derive(Clone, Copy, Drop)]
 pub struct GraphReadWords<'a> {
     pub graph: &'a str,
     pub flat: &'a str,
+    pub limits: Limits,
 }
 
 /// A command with its files.
@@ -85,11 +91,12 @@ pub enum CommandWords<'a> {
 /// A pair of these files, where none is empty.
 #[tactic(auto, unfolding(crate::specs::Line::pair_named))]
 pub fn pair_with<'a>(
+    limits: Limits,
     original: &'a str,
     hardened: &'a str,
     certificate: &'a str,
 ) -> Option<PairWords<'a>>
-    ensures { option_map pair_in result ≡ pair_named (original.now ∷ hardened.now ∷ certificate.now ∷ []) }
+    ensures { option_map pair_in result ≡ pair_named limits (original.now ∷ hardened.now ∷ certificate.now ∷ []) }
 {
     if original.is_empty() || hardened.is_empty() || certificate.is_empty() {
         return None;
@@ -98,75 +105,76 @@ pub fn pair_with<'a>(
         original,
         hardened,
         certificate,
+        limits,
     })
 }
 
 /// A pair, where there are three words and none is empty.
 #[tactic(auto, unfolding(crate::specs::Line::pair_named))]
-fn read_pair<'a>(plain: &[&'a str]) -> Option<PairWords<'a>>
-    ensures { option_map pair_in result ≡ pair_named (read_texts plain.now) }
+fn read_pair<'a>(limits: Limits, plain: &[&'a str]) -> Option<PairWords<'a>>
+    ensures { option_map pair_in result ≡ pair_named limits (read_texts plain.now) }
 {
     match plain {
-        [original, hardened, certificate] => pair_with(*original, *hardened, *certificate),
+        [original, hardened, certificate] => pair_with(limits, *original, *hardened, *certificate),
         _ => None,
     }
 }
 
 /// `validate`, where its files can be read.
-fn read_validate<'a>(plain: &[&'a str]) -> Option<CommandWords<'a>>
-    ensures { option_map command_in result ≡ over_pair Validate (read_texts plain.now) }
+fn read_validate<'a>(limits: Limits, plain: &[&'a str]) -> Option<CommandWords<'a>>
+    ensures { option_map command_in result ≡ over_pair limits Validate (read_texts plain.now) }
 {
-    match read_pair(plain) {
+    match read_pair(limits, plain) {
         None => None,
         Some(pair) => Some(CommandWords::Validate(pair)),
     }
 }
 
 /// `report`, where its files can be read.
-fn read_report<'a>(plain: &[&'a str]) -> Option<CommandWords<'a>>
-    ensures { option_map command_in result ≡ over_pair Report (read_texts plain.now) }
+fn read_report<'a>(limits: Limits, plain: &[&'a str]) -> Option<CommandWords<'a>>
+    ensures { option_map command_in result ≡ over_pair limits Report (read_texts plain.now) }
 {
-    match read_pair(plain) {
+    match read_pair(limits, plain) {
         None => None,
         Some(pair) => Some(CommandWords::Report(pair)),
     }
 }
 
 /// `exposure`, where its files can be read.
-fn read_exposure<'a>(plain: &[&'a str]) -> Option<CommandWords<'a>>
-    ensures { option_map command_in result ≡ over_pair Exposure (read_texts plain.now) }
+fn read_exposure<'a>(limits: Limits, plain: &[&'a str]) -> Option<CommandWords<'a>>
+    ensures { option_map command_in result ≡ over_pair limits Exposure (read_texts plain.now) }
 {
-    match read_pair(plain) {
+    match read_pair(limits, plain) {
         None => None,
         Some(pair) => Some(CommandWords::Exposure(pair)),
     }
 }
 
 /// `explain`, where its files can be read.
-fn read_explain<'a>(plain: &[&'a str]) -> Option<CommandWords<'a>>
-    ensures { option_map command_in result ≡ over_pair Explain (read_texts plain.now) }
+fn read_explain<'a>(limits: Limits, plain: &[&'a str]) -> Option<CommandWords<'a>>
+    ensures { option_map command_in result ≡ over_pair limits Explain (read_texts plain.now) }
 {
-    match read_pair(plain) {
+    match read_pair(limits, plain) {
         None => None,
         Some(pair) => Some(CommandWords::Explain(pair)),
     }
 }
 
 /// `campaign`, where its files and numbers can be read.
-fn read_campaign<'a>(plain: &[&'a str]) -> Option<CommandWords<'a>>
-    ensures { option_map command_in result ≡ option_map Campaign (campaigning_of (read_texts plain.now)) }
+fn read_campaign<'a>(limits: Limits, plain: &[&'a str]) -> Option<CommandWords<'a>>
+    ensures { option_map command_in result ≡ option_map Campaign (campaigning_of limits (read_texts plain.now)) }
 {
-    match read_campaigning(plain) {
+    match read_campaigning(limits, plain) {
         None => None,
         Some(campaign) => Some(CommandWords::Campaign(campaign)),
     }
 }
 
 /// `picture`, where its files can be read.
-fn read_picture<'a>(plain: &[&'a str]) -> Option<CommandWords<'a>>
-    ensures { option_map command_in result ≡ option_map Picture (picturing_of (read_texts plain.now)) }
+fn read_picture<'a>(limits: Limits, plain: &[&'a str]) -> Option<CommandWords<'a>>
+    ensures { option_map command_in result ≡ option_map Picture (picturing_of limits (read_texts plain.now)) }
 {
-    match read_picturing(plain) {
+    match read_picturing(limits, plain) {
         None => None,
         Some(picture) => Some(CommandWords::Picture(picture)),
     }
@@ -204,8 +212,8 @@ fn read_version_line<'a>(plain: &[&'a str]) -> Option<CommandWords<'a>>
 
 /// `flatten`, where there are two words and none is empty.
 #[tactic(auto, unfolding(crate::specs::Line::flattening_of))]
-fn read_flattening<'a>(plain: &[&'a str]) -> Option<CommandWords<'a>>
-    ensures { option_map command_in result ≡ flattening_of (read_texts plain.now) }
+fn read_flattening<'a>(limits: Limits, plain: &[&'a str]) -> Option<CommandWords<'a>>
+    ensures { option_map command_in result ≡ flattening_of limits (read_texts plain.now) }
 {
     match plain {
         [original, flat] => {
@@ -215,6 +223,7 @@ fn read_flattening<'a>(plain: &[&'a str]) -> Option<CommandWords<'a>>
             Some(CommandWords::Flatten(FlatWords {
                 original: *original,
                 flat: *flat,
+                limits,
             }))
         }
         _ => None,
@@ -223,8 +232,8 @@ fn read_flattening<'a>(plain: &[&'a str]) -> Option<CommandWords<'a>>
 
 /// A design and a guarded one, where there are two words and none is empty.
 #[tactic(auto, unfolding(crate::specs::Line::guarding_of))]
-fn read_guarding<'a>(plain: &[&'a str]) -> Option<GuardWords<'a>>
-    ensures { option_map guarding_in result ≡ guarding_of (read_texts plain.now) }
+fn read_guarding<'a>(limits: Limits, plain: &[&'a str]) -> Option<GuardWords<'a>>
+    ensures { option_map guarding_in result ≡ guarding_of limits (read_texts plain.now) }
 {
     match plain {
         [original, guarded] => {
@@ -234,6 +243,7 @@ fn read_guarding<'a>(plain: &[&'a str]) -> Option<GuardWords<'a>>
             Some(GuardWords {
                 original: *original,
                 guarded: *guarded,
+                limits,
             })
         }
         _ => None,
@@ -241,20 +251,20 @@ fn read_guarding<'a>(plain: &[&'a str]) -> Option<GuardWords<'a>>
 }
 
 /// `guard`, where its files can be read.
-fn read_guard<'a>(plain: &[&'a str]) -> Option<CommandWords<'a>>
-    ensures { option_map command_in result ≡ over_guarding Guard (read_texts plain.now) }
+fn read_guard<'a>(limits: Limits, plain: &[&'a str]) -> Option<CommandWords<'a>>
+    ensures { option_map command_in result ≡ over_guarding limits Guard (read_texts plain.now) }
 {
-    match read_guarding(plain) {
+    match read_guarding(limits, plain) {
         None => None,
         Some(words) => Some(CommandWords::Guard(words)),
     }
 }
 
 /// `guarded`, where its files can be read.
-fn read_guarded<'a>(plain: &[&'a str]) -> Option<CommandWords<'a>>
-    ensures { option_map command_in result ≡ over_guarding CheckGuard (read_texts plain.now) }
+fn read_guarded<'a>(limits: Limits, plain: &[&'a str]) -> Option<CommandWords<'a>>
+    ensures { option_map command_in result ≡ over_guarding limits CheckGuard (read_texts plain.now) }
 {
-    match read_guarding(plain) {
+    match read_guarding(limits, plain) {
         None => None,
         Some(words) => Some(CommandWords::CheckGuard(words)),
     }
@@ -262,8 +272,8 @@ fn read_guarded<'a>(plain: &[&'a str]) -> Option<CommandWords<'a>>
 
 /// `to-aag`, where there are two words and none is empty.
 #[tactic(auto, unfolding(crate::specs::Line::graphing_of))]
-fn read_graphing<'a>(plain: &[&'a str]) -> Option<CommandWords<'a>>
-    ensures { option_map command_in result ≡ graphing_of (read_texts plain.now) }
+fn read_graphing<'a>(limits: Limits, plain: &[&'a str]) -> Option<CommandWords<'a>>
+    ensures { option_map command_in result ≡ graphing_of limits (read_texts plain.now) }
 {
     match plain {
         [original, graph] => {
@@ -273,6 +283,7 @@ fn read_graphing<'a>(plain: &[&'a str]) -> Option<CommandWords<'a>>
             Some(CommandWords::WriteGraph(GraphWords {
                 original: *original,
                 graph: *graph,
+                limits,
             }))
         }
         _ => None,
@@ -281,8 +292,8 @@ fn read_graphing<'a>(plain: &[&'a str]) -> Option<CommandWords<'a>>
 
 /// `from-aag`, where there are two words and none is empty.
 #[tactic(auto, unfolding(crate::specs::Line::graph_reading_of))]
-fn read_graph_reading<'a>(plain: &[&'a str]) -> Option<CommandWords<'a>>
-    ensures { option_map command_in result ≡ graph_reading_of (read_texts plain.now) }
+fn read_graph_reading<'a>(limits: Limits, plain: &[&'a str]) -> Option<CommandWords<'a>>
+    ensures { option_map command_in result ≡ graph_reading_of limits (read_texts plain.now) }
 {
     match plain {
         [graph, flat] => {
@@ -292,6 +303,7 @@ fn read_graph_reading<'a>(plain: &[&'a str]) -> Option<CommandWords<'a>>
             Some(CommandWords::ReadGraph(GraphReadWords {
                 graph: *graph,
                 flat: *flat,
+                limits,
             }))
         }
         _ => None,
@@ -324,12 +336,12 @@ fn replay_over<'a>(
 
 /// `replay`, where there are four words and none is empty.
 #[tactic(auto, unfolding(crate::specs::Line::replaying_of))]
-fn read_replaying<'a>(plain: &[&'a str]) -> Option<CommandWords<'a>>
-    ensures { option_map command_in result ≡ replaying_of (read_texts plain.now) }
+fn read_replaying<'a>(limits: Limits, plain: &[&'a str]) -> Option<CommandWords<'a>>
+    ensures { option_map command_in result ≡ replaying_of limits (read_texts plain.now) }
 {
     match plain {
         [original, hardened, certificate, schedule] => {
-            let pair = pair_with(*original, *hardened, *certificate);
+            let pair = pair_with(limits, *original, *hardened, *certificate);
             replay_over(pair, *schedule, None)
         }
         _ => None,
@@ -338,44 +350,71 @@ fn read_replaying<'a>(plain: &[&'a str]) -> Option<CommandWords<'a>>
 
 /// `wave`, where there are five words and none is empty.
 #[tactic(auto, unfolding(crate::specs::Line::waving_of))]
-fn read_waving<'a>(plain: &[&'a str]) -> Option<CommandWords<'a>>
-    ensures { option_map command_in result ≡ waving_of (read_texts plain.now) }
+fn read_waving<'a>(limits: Limits, plain: &[&'a str]) -> Option<CommandWords<'a>>
+    ensures { option_map command_in result ≡ waving_of limits (read_texts plain.now) }
 {
     match plain {
         [original, hardened, certificate, schedule, waves] => {
             if waves.is_empty() {
                 return None;
             }
-            let pair = pair_with(*original, *hardened, *certificate);
+            let pair = pair_with(limits, *original, *hardened, *certificate);
             replay_over(pair, *schedule, Some(*waves))
         }
         _ => None,
     }
 }
 
-/// The command of this name, where it has no options, and its words can be read.
+/// The command of this name, where it reads files and has no option but `--large`, and its words can be read.
 #[tactic(auto, unfolding(crate::specs::Line::plain_meaning))]
-fn read_plain<'a>(name: Topic, plain: &[&'a str]) -> Option<CommandWords<'a>>
-    ensures { option_map command_in result ≡ plain_meaning name (read_texts plain.now) }
+fn read_plain<'a>(limits: Limits, name: Topic, plain: &[&'a str]) -> Option<CommandWords<'a>>
+    ensures { option_map command_in result ≡ plain_meaning limits name (read_texts plain.now) }
 {
     match name {
-        Topic::Validate => read_validate(plain),
-        Topic::Flatten => read_flattening(plain),
-        Topic::Replay => read_replaying(plain),
-        Topic::Report => read_report(plain),
-        Topic::Trial => read_trial(plain),
-        Topic::Guard => read_guard(plain),
-        Topic::CheckGuard => read_guarded(plain),
-        Topic::WriteGraph => read_graphing(plain),
-        Topic::ReadGraph => read_graph_reading(plain),
-        Topic::Wave => read_waving(plain),
-        Topic::Exposure => read_exposure(plain),
-        Topic::Explain => read_explain(plain),
-        Topic::Campaign => read_campaign(plain),
-        Topic::Picture => read_picture(plain),
-        Topic::Help => read_help(plain),
-        Topic::Version => read_version_line(plain),
+        Topic::Validate => read_validate(limits, plain),
+        Topic::Flatten => read_flattening(limits, plain),
+        Topic::Replay => read_replaying(limits, plain),
+        Topic::Report => read_report(limits, plain),
+        Topic::Guard => read_guard(limits, plain),
+        Topic::CheckGuard => read_guarded(limits, plain),
+        Topic::WriteGraph => read_graphing(limits, plain),
+        Topic::ReadGraph => read_graph_reading(limits, plain),
+        Topic::Wave => read_waving(limits, plain),
+        Topic::Exposure => read_exposure(limits, plain),
+        Topic::Explain => read_explain(limits, plain),
+        Topic::Campaign => read_campaign(limits, plain),
+        Topic::Picture => read_picture(limits, plain),
         Topic::Harden | Topic::Certify | Topic::Sweep => None,
+        Topic::Trial | Topic::Help | Topic::Version => None,
+    }
+}
+
+/// The command of this name, where it reads files, and its options and words can be read.
+#[tactic(auto, unfolding(crate::specs::Line::file_meaning))]
+fn read_over_files<'a>(
+    limits: Limits,
+    name: Topic,
+    words: &ReadWords<'a>,
+) -> Option<CommandWords<'a>>
+    ensures { option_map command_in result ≡ file_meaning limits name (words_in words.now) }
+{
+    match name {
+        Topic::Harden => read_hardening(limits, words),
+        Topic::Certify => match read_certifying(limits, words) {
+            None => None,
+            Some(certify) => Some(CommandWords::Certify(certify)),
+        },
+        Topic::Sweep => match read_sweeping(limits, words) {
+            None => None,
+            Some(sweep) => Some(CommandWords::Sweep(sweep)),
+        },
+        _ => {
+            if has_no_options(words) {
+                read_plain(limits, name, words.plain.as_slice())
+            } else {
+                None
+            }
+        }
     }
 }
 
@@ -385,22 +424,25 @@ fn read_command<'a>(name: Topic, words: &ReadWords<'a>) -> Option<CommandWords<'
     ensures { option_map command_in result ≡ meaning_of name (words_in words.now) }
 {
     match name {
-        Topic::Harden => read_hardening(words),
-        Topic::Certify => match read_certifying(words) {
-            None => None,
-            Some(certify) => Some(CommandWords::Certify(certify)),
+        Topic::Trial => if is_plain(words) {
+            read_trial(words.plain.as_slice())
+        } else {
+            None
         },
-        Topic::Sweep => match read_sweeping(words) {
-            None => None,
-            Some(sweep) => Some(CommandWords::Sweep(sweep)),
+        Topic::Help => if is_plain(words) {
+            read_help(words.plain.as_slice())
+        } else {
+            None
         },
-        _ => {
-            if is_plain(words) {
-                read_plain(name, words.plain.as_slice())
-            } else {
-                None
-            }
-        }
+        Topic::Version => if is_plain(words) {
+            read_version_line(words.plain.as_slice())
+        } else {
+            None
+        },
+        _ => match read_limits(words) {
+            None => None,
+            Some(limits) => read_over_files(limits, name, words),
+        },
     }
 }
 

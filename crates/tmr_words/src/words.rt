@@ -1,13 +1,14 @@
 //! The words behind the command word: plain words and options.
 ghost use Rattle.std.specs.Prelude.{◌≡◌, IfOk, OnOk};
 ghost use Rattle.std.specs.Option.{option_map};
-ghost use Rattle.tmr_words.specs.Words.{texts, has_no_options, has_versions_alone, has_no_sizes, setting_text, equals_text, has_dash, is_option, both, words_of};
-ghost use Rattle.tmr_words.specs.Private.WordByWord.{take_setting, take_option, take_word, at_end};
+ghost use Rattle.tmr_words.specs.Words.{texts, has_no_options, has_plain_words_alone, has_versions_alone, has_no_sizes, limits_of, setting_text, equals_text, has_dash, is_option, both, words_of};
+ghost use Rattle.tmr_words.specs.Private.WordByWord.{take_setting, take_large, take_option, take_word, at_end};
 ghost use Rattle.tmr_words.specs.Private.WordsRead.{words_in, item_in, taken_in};
 
+use limits::Limits;
 use std::alloc::{AllocError, Global};
 
-/// An option.
+/// An option that has a value.
 #[derive(Clone, Copy, Debug, PartialEq, Eq, Drop)]
 pub enum Setting {
     Size,
@@ -25,7 +26,8 @@ pub enum Mode {
     Plain,
 }
 
-/// The words behind a command word: the plain words, and the values that the options are given.
+/// The words behind a command word: the plain words, the values that the options are given, and
+/// `--large`, as often as it stands there.
 #[derive(Drop)]
 pub struct ReadWords<'a> {
     pub plain: Vec<&'a str>,
@@ -33,6 +35,7 @@ pub struct ReadWords<'a> {
     pub versions: Vec<&'a [u8]>,
     pub depths: Vec<&'a [u8]>,
     pub forms: Vec<&'a [u8]>,
+    pub larges: Vec<&'a str>,
 }
 
 /// What a word adds.
@@ -41,6 +44,7 @@ pub enum Item<'a> {
     Nothing,
     Plain(&'a str),
     Given(Setting, &'a [u8]),
+    Large(&'a str),
 }
 
 /// What a word adds, and how the next one is read.
@@ -50,8 +54,8 @@ pub struct TakenWord<'a> {
     pub next: Mode,
 }
 
-/// Whether no option is given.
-pub fn is_plain(words: &ReadWords) -> bool
+/// Whether no option but `--large` is given.
+pub fn has_no_options(words: &ReadWords) -> bool
     ensures { result ≡ has_no_options (words_in words.now) }
 {
     words.sizes.is_empty()
@@ -60,7 +64,25 @@ pub fn is_plain(words: &ReadWords) -> bool
         && words.forms.is_empty()
 }
 
-/// Whether no option but `--cert` is given.
+/// Whether no option is given, and no `--large`.
+pub fn is_plain(words: &ReadWords) -> bool
+    ensures { result ≡ has_plain_words_alone (words_in words.now) }
+{
+    has_no_options(words) && words.larges.is_empty()
+}
+
+/// The limits that hold: the large ones where `--large` stands there once.
+pub fn read_limits(words: &ReadWords) -> Option<Limits>
+    ensures { result ≡ limits_of (words_in words.now) }
+{
+    match words.larges.as_slice() {
+        [] => Some(Limits::Usual),
+        [_] => Some(Limits::Large),
+        _ => None,
+    }
+}
+
+/// Whether no option but `--cert` and `--large` is given.
 pub fn has_versions_alone(words: &ReadWords) -> bool
     ensures { result ≡ has_versions_alone (words_in words.now) }
 {
@@ -112,12 +134,26 @@ fn take_one<'a>(
     }
 }
 
+/// What the word says where it is `--large`, or else what is said otherwise.
+fn take_large<'a>(word: &'a str, otherwise: Option<TakenWord<'a>>) -> Option<TakenWord<'a>>
+    ensures { option_map taken_in result ≡ take_large word.now (option_map taken_in otherwise.entry) }
+{
+    if word == "--large" {
+        return Some(TakenWord {
+            item: Item::Large(word),
+            next: Mode::Options,
+        });
+    }
+    otherwise
+}
+
 /// What an option says, or nothing where it is none that is known.
 #[tactic(auto, unfolding(crate::specs::Private::WordByWord::take_option))]
 fn take_known<'a>(word: &'a str) -> Option<TakenWord<'a>>
     ensures { option_map taken_in result ≡ take_option word.now }
 {
-    let form = take_one(Setting::Form, word, None);
+    let large = take_large(word, None);
+    let form = take_one(Setting::Form, word, large);
     let depth = take_one(Setting::Depth, word, form);
     let version = take_one(Setting::Version, word, depth);
     take_one(Setting::Size, word, version)
@@ -186,6 +222,7 @@ fn add<'a>(words: &mut ReadWords<'a>, item: Item<'a>) -> Result<(), AllocError>
         Item::Given(Setting::Version, value) => words.versions.push(value)?,
         Item::Given(Setting::Depth, value) => words.depths.push(value)?,
         Item::Given(Setting::Form, value) => words.forms.push(value)?,
+        Item::Large(word) => words.larges.push(word)?,
     }
     Ok(())
 }
@@ -214,6 +251,7 @@ pub fn read_words<'a>(
         versions: Vec::new(alloc),
         depths: Vec::new(alloc),
         forms: Vec::new(alloc),
+        larges: Vec::new(alloc),
     };
     let mut mode = Mode::Options;
     for word in words {

@@ -6,7 +6,7 @@ use Rattle.tmr_words.specs.declared.words.Setting.{Setting}
 use Rattle.tmr_words.specs.declared.words.Setting.TheVariants.{Size, Version, Depth, Form}
 use Rattle.tmr_words.specs.declared.words.Mode.{Mode}
 use Rattle.tmr_words.specs.declared.words.Mode.TheVariants.{Options, Value, Plain}
-use Rattle.tmr_words.specs.Words.{Words, no_words, plain_word, given_value, both, setting_text, equals_text, begins_with, has_dash, is_option}
+use Rattle.tmr_words.specs.Words.{Words, no_words, plain_word, large_word, given_value, both, setting_text, equals_text, begins_with, has_dash, is_option}
 
 -- what a word adds to those that are read, and how the next word is read
 pub record Taken : Type 0 where
@@ -20,9 +20,13 @@ take_setting setting word otherwise =
     else if begins_with (equals_text setting) word then Some (record { adds = given_value setting (drop (length (equals_text setting)) word); next = Options })
     else otherwise
 
--- one of the four options
+-- `--large` adds itself
+abbrev pub take_large : List ℕ → Option Taken → Option Taken
+take_large word otherwise = if bytes_eq word (codes "--large") then Some (record { adds = large_word word; next = Options }) else otherwise
+
+-- one of the four options, or `--large`
 unfoldable pub take_option : List ℕ → Option Taken
-take_option word = take_setting Size word (take_setting Version word (take_setting Depth word (take_setting Form word None)))
+take_option word = take_setting Size word (take_setting Version word (take_setting Depth word (take_setting Form word (take_large word None))))
 
 -- Before the first `--` a word may be an option, or the value that the option before it waits for, which does not begin with `-`. That
 -- `--` adds nothing, and behind it all words are plain.

@@ -4,7 +4,7 @@ use Rattle.tmr_words.specs.declared.words.Item.{Item}
 use Rattle.tmr_words.specs.declared.words.Item.TheVariants as item
 use Rattle.tmr_words.specs.declared.words.TakenWord.{TakenWord}
 use Rattle.tmr_words.specs.FileWords.{read_words}
-use Rattle.tmr_words.specs.Words.{Words, no_words, plain_word, given_value}
+use Rattle.tmr_words.specs.Words.{Words, no_words, plain_word, large_word, given_value}
 use Rattle.tmr_words.specs.Private.WordByWord.{Taken}
 
 abbrev pub words_in : ReadWords → Words
@@ -14,11 +14,13 @@ words_in words = record {
   versions = read_words words.versions.items;
   depths = read_words words.depths.items;
   forms = read_words words.forms.items;
+  larges = read_words words.larges.items;
 }
 
 abbrev pub item_in : Item → Words
 item_in item.Nothing = no_words
 item_in (item.Plain word) = plain_word word.now
+item_in (item.Large word) = large_word word.now
 item_in (item.Given setting value) = given_value setting value.now
 
 abbrev pub taken_in : TakenWord → Taken

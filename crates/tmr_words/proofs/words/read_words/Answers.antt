@@ -11,7 +11,7 @@ use Rattle.tmr_words.proofs.words.read_words.Goals as goal
 
 pub loop-word-init : goal.loop-word-init
 loop-word-init c =
-    rw (c.new.ensures.items, c.new-2.ensures.items, c.new-3.ensures.items, c.new-4.ensures.items, c.new-5.ensures.items)
+    rw (c.new.ensures.items, c.new-2.ensures.items, c.new-3.ensures.items, c.new-4.ensures.items, c.new-5.ensures.items, c.new-6.ensures.items)
     (none_both (words_from Options (texts c.args.words.now)) ∙ reads_all (texts c.args.words.now))
 
 pub returns-in-None : goal.returns-in-None
