@@ -28,9 +28,9 @@ use certificate::{cert, Cert};
 use design::{design, Net};
 use names::Fault;
 use rules::Check;
-use std::fs;
+use std::fs::{self, File};
 use std::io::Write;
-use std::process::exit;
+use std::process::{self, exit};
 
 fn load(file: &str) -> Vec<u8> {
     fs::read(file).unwrap_or_else(|_| {
@@ -39,8 +39,15 @@ fn load(file: &str) -> Vec<u8> {
     })
 }
 
+/// Saves a file whole or not at all, as tmr does: it is written beside, synced, and renamed.
 fn save(file: &str, bytes: &[u8]) {
-    fs::write(file, bytes).unwrap_or_else(|_| {
+    let beside = format!("{file}.{}", process::id());
+    let written = File::create(&beside).and_then(|mut it| {
+        it.write_all(bytes)?;
+        it.sync_all()
+    });
+    written.and_then(|()| fs::rename(&beside, file)).unwrap_or_else(|_| {
+        let _ = fs::remove_file(&beside);
         println!("fault: save {file}");
         exit(3)
     })

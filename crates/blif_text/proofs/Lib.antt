@@ -10,5 +10,4 @@ pub mod Examples
 pub mod Sound
 pub mod Told
 pub mod Tokens
-pub mod Bounds
 pub mod Latches

@@ -221,10 +221,10 @@ taken_sound line [] q r t h = subst IsSound (sym t.1) h
 taken_sound line (first ∷ args) q r t h = subst IsSound (sym t.1) (sound-after q (statement line first args) t.0 h)
 
 -- what is kept where some model was named is a library
-pub sound_library : (q : Progress) (ms : List PlainModel) (empty : Bool) → IsSound q → length q.names < 4294967296 → ms ≡ all_models q → empty ≡ (length q.names == 0) → empty ≡ false → IsLibrary ms
+pub sound_library : (q : Progress) (ms : List PlainModel) (empty : Bool) → IsSound q → length ms < 4294967296 → ms ≡ all_models q → empty ≡ (length q.names == 0) → empty ≡ false → IsLibrary ms
 sound_library q ms empty h fewer e is some = subst IsLibrary (sym e) (record {
   some = omega (arith, long);
-  few = omega (arith, counted, fewer);
+  few = omega (arith, ap length e, fewer);
   models = record { names = subst Differ (sym h.listed) h.names; each = h.each };
 })
   where

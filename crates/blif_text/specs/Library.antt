@@ -25,7 +25,7 @@ pub record AreModels (ms : List PlainModel) : Type 0 where
   pub names : Differ (map name_of ms)
   pub each : All IsModel ms
 
--- a library has a model, and fewer than 2^32 of them, since its text has fewer lines
+-- a library has a model, and fewer than 2^32 of them: a text with more is not read, for want of memory
 pub record IsLibrary (ms : List PlainModel) : Type 0 where
   pub some : 0 < length ms
   pub few : length ms < 4294967296

@@ -6,5 +6,4 @@ pub mod Latest
 pub mod Progress
 pub mod Sound
 pub mod Latches
-pub mod Bounds
 pub mod Stands

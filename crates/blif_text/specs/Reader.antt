@@ -1,12 +1,12 @@
 -- What a reader is between two pieces, and which lists of bytes it stands for.
 use Rattle.std.specs.Prelude.{◌≡◌, ℕ, ◌+◌, ◌≤◌, List, length, Option, Some, None, Result, Ok, Err}
+use Rattle.limits.specs.Most.{widest_text}
 use Rattle.blif_text.specs.declared.fault.TextFault.{TextFault}
 use Rattle.blif_text.specs.declared.fault.TextFault.TheVariants as faults
 use Rattle.blif_text.specs.Kind.{Bad}
 use Rattle.blif_text.specs.Private.Pending.{Pending}
 use Rattle.blif_text.specs.Private.Progress.{Progress}
 use Rattle.blif_text.specs.Private.Sound.{IsSound}
-use Rattle.blif_text.specs.Private.Bounds.{IsShort}
 use Rattle.blif_text.specs.Private.Stands.{Stands, IsBadOf}
 
 -- how many more bytes may come, what is in hand of the last statement, what the statements before it gave,
@@ -19,7 +19,7 @@ pub record ReaderState : Type 0 where
 
 -- the bytes that all pieces together may have
 abbrev pub most_bytes : ℕ
-most_bytes = 1073741824
+most_bytes = widest_text
 
 -- what has been given is read so far, or refused
 abbrev pub HasRead : Option TextFault → Pending → Progress → List ℕ → Type 0
@@ -35,7 +35,6 @@ pub record StandsFor (r : ReaderState) (given : List ℕ) : Type 0 where
 pub record KeepsOn (r : ReaderState) : Type 0 where
   pub lines : r.pending.number + r.room ≤ most_bytes + 1
   pub sound : r.refused ≡ None → IsSound r.progress
-  pub short : r.refused ≡ None → IsShort r.pending r.progress r.room
 
 -- unless memory ran out, the answer is the first bad line, or that there is none
 abbrev pub FirstBadIs : Option Bad → Result (Unit {0}) TextFault → Type 0

@@ -37,8 +37,9 @@ pub enum TextKind {
 #[derive(Clone, Copy, Debug, PartialEq, Eq, Drop)]
 pub enum TextFault {
     /// The first bad statement begins on this line, counted from 1, and is refused with this kind.
-    Bad { line: u32, kind: TextKind },
-    /// There was no memory for what is read.
+    Bad { line: u64, kind: TextKind },
+    /// There was no memory for what is read. The same is said where a table has more than 4,294,967,295 pins or rows, or
+    /// the text more than as many models, since numbers of 32 bits count them.
     Memory,
 }
 

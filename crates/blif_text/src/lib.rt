@@ -4,6 +4,9 @@
 //! Whether models fit together is decided above. The layers above may rely on `reading` of
 //! `specs/Reading.antt`: what a text gives is a definition over its bytes, and the reader answers it
 //! however the bytes are cut.
+//!
+//! Numbers of 32 bits count the pins and the rows of a table, and the models. A long text may have more of them. That is
+//! tested where each is counted, and the answer is `Memory`: so what a text gives does not depend on these numbers.
 #![tactic(auto)]
 
 mod fault;

@@ -2,7 +2,6 @@
 ghost use Rattle.std.specs.Prelude.{◌≡◌, ◌<◌, ◌++◌, ◌∷◌, [], ◌==◌, List, ℕ, Some, None, true, map, OnOk, IfOk, length};
 ghost use Rattle.blif_text.specs.Private.Answers.{Answers, plain};
 ghost use Rattle.blif_text.specs.Private.Progress.{nothing, with_model, kind_in, after, all_models, ended};
-ghost use Rattle.blif_text.specs.Private.Bounds.{rows_in};
 ghost use Rattle.blif_text.specs.Kind.{model_kind};
 ghost use Rattle.blif_text.specs.Text.{statement, statement_by};
 ghost use Rattle.blif_text.specs.Word.{is_inner};
@@ -145,8 +144,6 @@ impl Progress {
         arguments: &[&[u8]],
     ) -> Result<(), Refusal>
         requires inner { is_inner word ≡ true }
-        requires few { length arguments.now < 4294967296 }
-        requires rows { rows_in self.old.open_model < 4294967295 }
         ensures { (line : ℕ) → Answers result (kind_in self.old (statement_by line word first.now (plain arguments.now)))
             (λ _. self.new ≡ after self.old (statement_by line word first.now (plain arguments.now))) }
     {
@@ -159,8 +156,6 @@ impl Progress {
     /// Takes a statement.
     #[tactic(auto, unfolding(crate::specs::Kind::kind_at))]
     pub fn take(&mut self, alloc: Global, first: &[u8], arguments: &[&[u8]]) -> Result<(), Refusal>
-        requires few { length arguments.now < 4294967296 }
-        requires rows { rows_in self.old.open_model < 4294967295 }
         ensures { (line : ℕ) → Answers result (kind_in self.old (statement line first.now (plain arguments.now)))
             (λ _. self.new ≡ after self.old (statement line first.now (plain arguments.now))) }
     {

@@ -9,6 +9,7 @@ use crate::fault::TextFault;
 use crate::library::Library;
 use crate::progress::Progress;
 use crate::reader::text::{finish, take_piece};
+use limits::Limits;
 use std::alloc::Global;
 use std::marker::Model;
 use text_lines::PendingLine;
@@ -17,14 +18,15 @@ use tmr_base::OutOfMemory;
 /// Reads a text that comes in pieces, and keeps of it the models so far and the statement in hand.
 ///
 /// It stands for the bytes that it was given, however they were cut: `StandsFor` is that relation.
-/// All pieces together have at most 1,073,741,824 bytes; `room` tells how many more may come.
+/// All pieces together have at most 17,179,869,184 bytes; `room` tells how many more may come. Where a table of such a text
+/// has more pins or rows, or the text more models, than numbers of 32 bits count, the answer is `TextFault::Memory`.
 #[derive(Drop)]
 pub struct Reader {
     alloc: Global,
     lines: PendingLine,
     progress: Progress,
     refused: Option<TextFault>,
-    room: u32,
+    room: u64,
 }
 
 impl Model for Reader {
@@ -48,12 +50,12 @@ impl Reader {
             lines: PendingLine::new(alloc),
             progress: Progress::new(alloc),
             refused: None,
-            room: 1_073_741_824,
+            room: Limits::Large.hardened(),
         })
     }
 
     /// How many more bytes may come. This takes no memory.
-    pub fn room(&self) -> u32
+    pub fn room(&self) -> u64
         ensures { result ≡ self.now.room }
     {
         self.room
@@ -82,7 +84,7 @@ impl Reader {
             piece,
         );
         self.refused = fault;
-        self.room -= piece.len() as u32;
+        self.room -= piece.len() as u64;
         match fault {
             None => Ok(()),
             Some(fault) => Err(fault),

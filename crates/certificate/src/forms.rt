@@ -42,7 +42,7 @@ pub fn form_words<'a>(
     text: &'a [u8],
     count: usize,
     first: &[u8],
-    line: u32,
+    line: u64,
 ) -> Result<Vec<&'a [u8]>, CertFault>
     requires some { 0 < count }
     requires few { count < 10 }

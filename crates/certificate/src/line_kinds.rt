@@ -75,7 +75,7 @@ pub fn last_line(lines: &mut Lines<'_>) -> Result<(), CertFault>
 }
 
 #[tactic(auto, unfolding(crate::specs::Folding::read_parts))]
-fn read_parts(alloc: Global, text: &[u8], line: u32) -> Result<u32, CertFault>
+fn read_parts(alloc: Global, text: &[u8], line: u64) -> Result<u32, CertFault>
     ensures { Gives (λ n. n) result (read_parts text.now line) }
 {
     let words = form_words(alloc, text, 2, b"parts", line)?;
@@ -84,7 +84,7 @@ fn read_parts(alloc: Global, text: &[u8], line: u32) -> Result<u32, CertFault>
 
 /// The depth of partition p.
 #[tactic(auto, unfolding(crate::specs::Folding::read_part))]
-pub fn read_part(alloc: Global, p: u32, text: &[u8], line: u32) -> Result<u32, CertFault>
+pub fn read_part(alloc: Global, p: u32, text: &[u8], line: u64) -> Result<u32, CertFault>
     ensures { Gives (λ n. n) result (read_part p text.now line) }
 {
     let words = form_words(alloc, text, 4, b"part", line)?;
@@ -114,7 +114,7 @@ fn is_node_called(net: &FlatNet, x: NetId, name: &[u8]) -> bool
 
 /// The node with this name, by the table of names.
 #[tactic(auto, using(crate::proofs::Names::names), unfolding(crate::specs::Folding::known))]
-fn looked_up(alloc: Global, net: &FlatNet, name: &[u8], line: u32) -> Result<NetId, CertFault>
+fn looked_up(alloc: Global, net: &FlatNet, name: &[u8], line: u64) -> Result<NetId, CertFault>
     ensures node { Gives number_of result (known net.now.net name.now line) }
     ensures range { IfOk result (λ x. IsNode net.now.net x.0) }
 {
@@ -141,7 +141,7 @@ fn known(
     net: &FlatNet,
     guess: NetId,
     name: &[u8],
-    line: u32,
+    line: u64,
 ) -> Result<NetId, CertFault>
     ensures node { Gives number_of result (known net.now.net name.now line) }
     ensures range { IfOk result (λ x. IsNode net.now.net x.0) }
@@ -159,7 +159,7 @@ fn looked_up_voted(
     version: u8,
     net: &FlatNet,
     name: &[u8],
-    line: u32,
+    line: u64,
 ) -> Result<NetId, CertFault>
     ensures net { Gives number_of result (voted version net.now.net name.now line) }
     ensures range { IfOk result (λ x. IsVoted version net.now.net x.0) }
@@ -185,7 +185,7 @@ fn voted(
     net: &FlatNet,
     guess: NetId,
     name: &[u8],
-    line: u32,
+    line: u64,
 ) -> Result<NetId, CertFault>
     ensures net { Gives number_of result (voted version net.now.net name.now line) }
     ensures range { IfOk result (λ x. IsVoted version net.now.net x.0) }
@@ -210,7 +210,7 @@ fn known_three(
     a: &[u8],
     b: &[u8],
     c: &[u8],
-    line: u32,
+    line: u64,
 ) -> Result<[NetId; 3], CertFault>
     ensures nodes { Gives three_ids result (known_three net.now.net a.now b.now c.now line) }
     ensures range { IfOk result (λ t. AreNodes net.now.net (three_ids t)) }
@@ -222,7 +222,7 @@ fn known_three(
 }
 
 #[tactic(auto, unfolding(crate::specs::Folding::three_numbers))]
-fn three_numbers(a: &[u8], b: &[u8], c: &[u8], line: u32) -> Result<[u32; 3], CertFault>
+fn three_numbers(a: &[u8], b: &[u8], c: &[u8], line: u64) -> Result<[u32; 3], CertFault>
     ensures { Gives three_of result (three_numbers a.now b.now c.now line) }
 {
     let first = number(a, line)?;
@@ -233,7 +233,7 @@ fn three_numbers(a: &[u8], b: &[u8], c: &[u8], line: u32) -> Result<[u32; 3], Ce
 
 /// The partition and the labels of a node's line.
 #[tactic(auto, unfolding(crate::specs::Folding::node_numbers))]
-fn node_numbers(words: &[&[u8]], line: u32) -> Result<(u32, [u32; 3]), CertFault>
+fn node_numbers(words: &[&[u8]], line: u64) -> Result<(u32, [u32; 3]), CertFault>
     requires { length words.now ≡ 9 }
     ensures { Gives (λ x. (x.0, three_of x.1)) result (node_numbers (texts words.now) line) }
 {
@@ -260,7 +260,7 @@ pub fn read_node(
     x: NetId,
     guess: NetId,
     text: &[u8],
-    line: u32,
+    line: u64,
 ) -> Result<NodeLine, CertFault>
     ensures node { Gives plain_line result (read_node scope.now.original.now.net scope.now.hardened.now.net x.0 scope.now.parts text.now line) }
     ensures range { IfOk result (λ l. AreNodes scope.now.hardened.now.net (three_ids l.copies)) }
@@ -301,7 +301,7 @@ fn copy_named(word: &[u8]) -> Option<CopyNo>
 
 /// The partition and the copy of a voter's line.
 #[tactic(auto, unfolding(crate::specs::Folding::voter_numbers))]
-fn voter_numbers(words: &[&[u8]], line: u32) -> Result<(u32, CopyNo), CertFault>
+fn voter_numbers(words: &[&[u8]], line: u64) -> Result<(u32, CopyNo), CertFault>
     requires { length words.now ≡ 5 }
     ensures { Gives (λ x. x) result (voter_numbers (texts words.now) line) }
 {
@@ -320,7 +320,7 @@ pub fn read_voter(
     g: NetId,
     guess: NetId,
     text: &[u8],
-    line: u32,
+    line: u64,
 ) -> Result<Role, CertFault>
     ensures { Gives (λ role. role) result (read_voter scope.now.version scope.now.original.now.net scope.now.hardened.now.net g.0 scope.now.parts text.now line) }
 {

@@ -26,7 +26,7 @@ pub fn next_line<'a>(lines: &mut Lines<'a>) -> Result<&'a [u8], CertFault>
 
 /// A number, in the line with this number.
 #[tactic(auto, unfolding(crate::specs::Lines::number_at))]
-pub fn number(bytes: &[u8], line: u32) -> Result<u32, CertFault>
+pub fn number(bytes: &[u8], line: u64) -> Result<u32, CertFault>
     ensures { Gives (λ n. n) result (number_at bytes.now line) }
 {
     match read_u32(bytes) {

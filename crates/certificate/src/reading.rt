@@ -36,7 +36,7 @@ fn give(
     inputs: u32,
     g: NetId,
     role: Role,
-    line: u32,
+    line: u64,
 ) -> Result<(), CertFault>
     requires low { inputs ≤ g.0 }
     requires high { g.0 < inputs + length roles.now }
@@ -58,7 +58,7 @@ fn give_copies(
     inputs: u32,
     x: NetId,
     copies: [NetId; 3],
-    line: u32,
+    line: u64,
 ) -> Result<(), CertFault>
     requires low { (inputs ≤ (three_ids copies).first) × (inputs ≤ (three_ids copies).second) × (inputs ≤ (three_ids copies).third) }
     requires high { ((three_ids copies).first < inputs + length roles.now) × ((three_ids copies).second < inputs + length roles.now) × ((three_ids copies).third < inputs + length roles.now) }
@@ -243,7 +243,6 @@ pub fn draft_of_text(
     n: &FlatNet,
     h: &FlatNet,
 ) -> Result<(u8, CertDraft), CertFault>
-    requires { length bytes.now ≤ 1073741824 }
     ensures draft { Gives (λ read. cert_of_draft read.0 read.1) result (fold_of_text n.now.net h.now.net bytes.now) }
     ensures original { IsDesign n.now }
     ensures hardened { IsDesign h.now }

@@ -27,7 +27,6 @@ pub fn read_cert(
     n: &FlatNet,
     h: &FlatNet,
 ) -> Result<Certificate, CertFault>
-    requires size { length bytes.now ≤ 1073741824 }
     // What is read fits the two designs.
     ensures fits { IfOk result (λ k. Fits n.now.net h.now.net k) }
     // What is read is spelled so, each byte of it.

@@ -7,6 +7,7 @@ use Rattle.std.proofs.lemmas.Bool.{cases_lt}
 use Rattle.std.proofs.lemmas.List.{length-map, length-append, length-replicate, get_or_default, get_or-map}
 use Rattle.std.proofs.lemmas.List.Sums.{sum_by-append, sum_by-cons}
 use Rattle.std.proofs.lemmas.Option.{slice_get_within, get_or_from_slice_get}
+use Rattle.limits.specs.Most.{widest_nets}
 use Rattle.tmr_base.specs.declared.ids.Edge.{Edge}
 use Rattle.tmr_base.specs.Names.{is_name, clock_text}
 use Rattle.table_cover.specs.Cover.{IsCover, IsRow, is_mark}
@@ -308,7 +309,7 @@ module _ (n : Net) (valid : IsValid n) where
   clock_is None h = tt
   clock_is (Some (edge, name)) h = (clock_is_name name h.0, clock_is_not_nil name, no_name name, omega (arith, h.3, more_registers n))
 
-  pub is_valid : net_count n + pin_total n ≤ 16777216 → (order : List ℕ) → IsOrder (guard_net n) order → IsValid (guard_net n)
+  pub is_valid : net_count n + pin_total n ≤ widest_nets → (order : List ℕ) → IsOrder (guard_net n) order → IsValid (guard_net n)
   is_valid few order ordered = record {
     unordered = record {
       model_is_name = ap is_name (model_same n) ∙ valid.unordered.model_is_name;

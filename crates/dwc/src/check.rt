@@ -1,5 +1,6 @@
 //! Whether a design is the guarded design of another.
 ghost use Rattle.std.specs.Prelude.{◌≡◌, ◌↔◌, ◌+◌, ◌≤◌, ◌<◌, length, IsTrue, IfOk, MatchOption};
+ghost use Rattle.limits.specs.Most.{widest_nets};
 ghost use Rattle.flat_net.specs.Net.{net_count, node_of, pins_at, pin_total};
 ghost use Rattle.flat_net.specs.Kinds.{kind_of};
 ghost use Rattle.dwc.specs.Guard.{guard_net};
@@ -184,7 +185,7 @@ fn compared(a: &FlatNet, b: &FlatNet) -> GuardAnswer
 
 /// Whether g is the guarded design of n, and else the least rule by which it is not. The one refusal is want of memory.
 pub fn check_guard(alloc: Global, n: &FlatNet, g: &FlatNet) -> Result<GuardAnswer, OutOfMemory>
-    requires { net_count n.now.net + pin_total n.now.net ≤ 16777216 }
+    requires { net_count n.now.net + pin_total n.now.net ≤ widest_nets }
     ensures answer { IfOk result (λ answer. IsAnswer (guard_net n.now.net) g.now.net answer) }
     ensures exact { IfOk result (λ answer. (answer ≡ GuardAnswer.Guarded) ↔ (g.now.net ≡ guard_net n.now.net)) }
     ensures guards { IfOk result (λ answer. answer ≡ GuardAnswer.Guarded → Guards n.now.net g.now.net) }

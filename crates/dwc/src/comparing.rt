@@ -1,6 +1,7 @@
 //! The comparators and the alarm.
 ghost use Rattle.std.specs.Prelude.{◌≡◌, ◌+◌, ◌*◌, ◌<◌, ◌≤◌, length, map, IfOk, OnOk};
 ghost use Rattle.std.specs.List.{range_with_len};
+ghost use Rattle.limits.specs.Most.{widest_nets};
 ghost use Rattle.flat_net.specs.Net.{IsValid, net_count};
 ghost use Rattle.flat_net.specs.Nodes.{number_of};
 ghost use Rattle.dwc.specs.Guard.{guard_net};
@@ -17,7 +18,7 @@ use tmr_base::{NetId, OutOfMemory};
 /// Adds the comparator of output k, and its name.
 fn push_comparator(alloc: Global, n: &FlatNet, k: u32, made: &mut Made) -> Result<(), OutOfMemory>
     requires output { k < length n.now.net.outputs }
-    requires few { net_count n.now.net ≤ 16777216 }
+    requires few { net_count n.now.net ≤ widest_nets }
     requires valid { IsValid (guard_net n.now.net) }
     requires made { IsMade (guard_net n.now.net) (2 * length n.now.net.nodes + k) made.old }
     ensures { OnOk result (IsMade (guard_net n.now.net) (2 * length n.now.net.nodes + k + 1) made.new) }
@@ -33,7 +34,7 @@ fn push_comparator(alloc: Global, n: &FlatNet, k: u32, made: &mut Made) -> Resul
 
 /// Adds the comparators of all outputs, and their names.
 pub fn push_comparators(alloc: Global, n: &FlatNet, made: &mut Made) -> Result<(), OutOfMemory>
-    requires few { net_count n.now.net ≤ 16777216 }
+    requires few { net_count n.now.net ≤ widest_nets }
     requires valid { IsValid (guard_net n.now.net) }
     requires made { IsMade (guard_net n.now.net) (2 * length n.now.net.nodes) made.old }
     ensures { OnOk result (IsMade (guard_net n.now.net) (2 * length n.now.net.nodes + length n.now.net.outputs) made.new) }
@@ -58,8 +59,8 @@ pub fn numbers_from(alloc: Global, first: u32, count: u32) -> Result<Vec<NetId>,
 
 /// The comparators of all outputs.
 fn comparators(alloc: Global, n: &FlatNet) -> Result<Vec<NetId>, OutOfMemory>
-    requires few { net_count n.now.net ≤ 16777216 }
-    requires outputs { length n.now.net.outputs ≤ 16777216 }
+    requires few { net_count n.now.net ≤ widest_nets }
+    requires outputs { length n.now.net.outputs ≤ widest_nets }
     ensures { IfOk result (λ numbers. map number_of numbers.items ≡ range_with_len (2 * net_count n.now.net) (length n.now.net.outputs)) }
 {
     let first = 2 * (n.input_count() + n.node_count());
@@ -70,8 +71,8 @@ fn comparators(alloc: Global, n: &FlatNet) -> Result<Vec<NetId>, OutOfMemory>
 
 /// Adds the alarm, which reads all comparators, and its name.
 pub fn push_alarm(alloc: Global, n: &FlatNet, made: &mut Made) -> Result<(), OutOfMemory>
-    requires few { net_count n.now.net ≤ 16777216 }
-    requires outputs { length n.now.net.outputs ≤ 16777216 }
+    requires few { net_count n.now.net ≤ widest_nets }
+    requires outputs { length n.now.net.outputs ≤ widest_nets }
     requires valid { IsValid (guard_net n.now.net) }
     requires made { IsMade (guard_net n.now.net) (2 * length n.now.net.nodes + length n.now.net.outputs) made.old }
     ensures { OnOk result (IsMade (guard_net n.now.net) (2 * length n.now.net.nodes + length n.now.net.outputs + 1) made.new) }

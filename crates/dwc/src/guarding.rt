@@ -1,5 +1,6 @@
 //! The guarded design.
 ghost use Rattle.std.specs.Prelude.{◌≡◌, ◌+◌, ◌*◌, ◌≤◌, length, IfOk};
+ghost use Rattle.limits.specs.Most.{widest_nets};
 ghost use Rattle.flat_net.specs.Net.{Net, IsValid, IsOrder, net_count, pin_total};
 ghost use Rattle.flat_net.specs.Draft.{AreDistinct};
 ghost use Rattle.dwc.specs.Guard.{guard_net};
@@ -22,8 +23,8 @@ pub fn guarded_designs_tell()
 
 /// The names and nodes of the guarded design.
 fn made_guard(alloc: Global, n: &FlatNet) -> Result<Made, OutOfMemory>
-    requires few { net_count n.now.net ≤ 16777216 }
-    requires outputs { length n.now.net.outputs ≤ 16777216 }
+    requires few { net_count n.now.net ≤ widest_nets }
+    requires outputs { length n.now.net.outputs ≤ widest_nets }
     requires inputs { AreDistinct (guard_net n.now.net).inputs }
     requires valid { IsValid (guard_net n.now.net) }
     ensures { IfOk result (λ made. IsMade (guard_net n.now.net) (2 * length n.now.net.nodes + length n.now.net.outputs + 1) made) }
@@ -40,8 +41,8 @@ fn made_guard(alloc: Global, n: &FlatNet) -> Result<Made, OutOfMemory>
 
 /// The guarded design, put together.
 fn assembled(alloc: Global, n: &FlatNet) -> Result<FlatNet, OutOfMemory>
-    requires few { net_count n.now.net ≤ 16777216 }
-    requires outputs { length n.now.net.outputs ≤ 16777216 }
+    requires few { net_count n.now.net ≤ widest_nets }
+    requires outputs { length n.now.net.outputs ≤ widest_nets }
     requires inputs { AreDistinct (guard_net n.now.net).inputs }
     requires valid { IsValid (guard_net n.now.net) }
     requires order { IsOrder (guard_net n.now.net) (guard_order n.now.net n.now.order) }
@@ -59,7 +60,7 @@ fn assembled(alloc: Global, n: &FlatNet) -> Result<FlatNet, OutOfMemory>
 /// The guarded design: each input and node twice, a comparator for each output, and an alarm, which is on exactly
 /// where the two copies of some output differ. The one refusal is want of memory.
 pub fn guard(alloc: Global, n: &FlatNet) -> Result<FlatNet, OutOfMemory>
-    requires { net_count n.now.net + pin_total n.now.net ≤ 16777216 }
+    requires { net_count n.now.net + pin_total n.now.net ≤ widest_nets }
     ensures design { IfOk result (λ g. g.net ≡ guard_net n.now.net) }
     ensures guards { IfOk result (λ g. Guards n.now.net g.net) }
 {

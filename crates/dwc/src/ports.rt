@@ -1,5 +1,6 @@
 //! The outputs of the guarded design, and an order of its nodes.
 ghost use Rattle.std.specs.Prelude.{◌≡◌, ◌+◌, ◌*◌, ◌≤◌, ◌<◌, length, map, IfOk};
+ghost use Rattle.limits.specs.Most.{widest_nets};
 ghost use Rattle.flat_net.specs.Net.{net_count};
 ghost use Rattle.flat_net.specs.Nodes.{number_of};
 ghost use Rattle.dwc.specs.Guard.{guard_net};
@@ -13,8 +14,8 @@ use tmr_base::{NetId, OutOfMemory};
 
 /// The copies of the outputs, and the alarm.
 pub fn guarded_outputs(alloc: Global, n: &FlatNet) -> Result<Vec<NetId>, OutOfMemory>
-    requires nets { net_count n.now.net ≤ 16777216 }
-    requires outputs { length n.now.net.outputs ≤ 16777216 }
+    requires nets { net_count n.now.net ≤ widest_nets }
+    requires outputs { length n.now.net.outputs ≤ widest_nets }
     ensures { IfOk result (λ outputs. map number_of outputs.items ≡ (guard_net n.now.net).outputs) }
 {
     let mut outputs = Vec::new(alloc);
@@ -29,8 +30,8 @@ pub fn guarded_outputs(alloc: Global, n: &FlatNet) -> Result<Vec<NetId>, OutOfMe
 
 /// The copies in the order of their nodes, the comparators, the alarm.
 pub fn guarded_order(alloc: Global, n: &FlatNet) -> Result<Vec<NetId>, OutOfMemory>
-    requires nets { net_count n.now.net ≤ 16777216 }
-    requires outputs { length n.now.net.outputs ≤ 16777216 }
+    requires nets { net_count n.now.net ≤ widest_nets }
+    requires outputs { length n.now.net.outputs ≤ widest_nets }
     ensures { IfOk result (λ order. map number_of order.items ≡ guard_order n.now.net n.now.order) }
 {
     let mut order = Vec::new(alloc);

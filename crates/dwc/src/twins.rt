@@ -1,5 +1,6 @@
 //! The two copies of each node.
 ghost use Rattle.std.specs.Prelude.{◌≡◌, ◌+◌, ◌*◌, ◌<◌, ◌≤◌, Some, length, map, IfOk, OnOk};
+ghost use Rattle.limits.specs.Most.{widest_nets};
 ghost use Rattle.flat_net.specs.Net.{Node, IsTable, IsRegister, IsValid, net_count, node_of, pins_at};
 ghost use Rattle.flat_net.specs.Nodes.{number_of};
 ghost use Rattle.dwc.specs.Guard.{twin, node_twin, guard_net};
@@ -23,7 +24,7 @@ pub fn twin(x: NetId, c: u32) -> NetId
 fn twin_pins(alloc: Global, n: &FlatNet, x: NetId, c: u32) -> Result<Vec<NetId>, OutOfMemory>
     requires range { x.0 < net_count n.now.net }
     requires node { length n.now.net.inputs ≤ x.0 }
-    requires few { net_count n.now.net ≤ 16777216 }
+    requires few { net_count n.now.net ≤ widest_nets }
     requires copy { c < 2 }
     ensures { IfOk result (λ pins. map number_of pins.items ≡ map (twin c) (pins_at (node_of n.now.net x.0))) }
 {
@@ -45,7 +46,7 @@ fn push_table_twin(
     requires range { x.0 < net_count n.now.net }
     requires node { length n.now.net.inputs ≤ x.0 }
     requires table { IsTable (node_of n.now.net x.0) }
-    requires few { net_count n.now.net ≤ 16777216 }
+    requires few { net_count n.now.net ≤ widest_nets }
     requires copy { c < 2 }
     requires room { length nodes.old.pins.items + length (pins_at (node_of n.now.net x.0)) < 4294967296 }
     ensures { OnOk result ((node : Node) → node_of n.now.net x.0 ≡ Some node → PacksMore nodes.old nodes.new (node_twin node c)) }
@@ -66,7 +67,7 @@ fn push_register_twin(
     requires range { x.0 < net_count n.now.net }
     requires node { length n.now.net.inputs ≤ x.0 }
     requires register { IsRegister (node_of n.now.net x.0) }
-    requires few { net_count n.now.net ≤ 16777216 }
+    requires few { net_count n.now.net ≤ widest_nets }
     requires copy { c < 2 }
     requires room { length nodes.old.pins.items + length (pins_at (node_of n.now.net x.0)) < 4294967296 }
     requires registers { nodes.old.registers + 1 < 4294967296 }
@@ -88,7 +89,7 @@ fn push_body(
 ) -> Result<(), OutOfMemory>
     requires range { x.0 < net_count n.now.net }
     requires node { length n.now.net.inputs ≤ x.0 }
-    requires few { net_count n.now.net ≤ 16777216 }
+    requires few { net_count n.now.net ≤ widest_nets }
     requires copy { c < 2 }
     requires room { length nodes.old.pins.items + length (pins_at (node_of n.now.net x.0)) < 4294967296 }
     requires registers { nodes.old.registers + 1 < 4294967296 }
@@ -105,7 +106,7 @@ fn push_body(
 fn push_twin(alloc: Global, n: &FlatNet, i: u32, c: u32, made: &mut Made) -> Result<(), OutOfMemory>
     requires node { i < length n.now.net.nodes }
     requires copy { c < 2 }
-    requires few { net_count n.now.net ≤ 16777216 }
+    requires few { net_count n.now.net ≤ widest_nets }
     requires valid { IsValid (guard_net n.now.net) }
     requires made { IsMade (guard_net n.now.net) (2 * i + c) made.old }
     ensures { OnOk result (IsMade (guard_net n.now.net) (2 * i + c + 1) made.new) }
@@ -119,7 +120,7 @@ fn push_twin(alloc: Global, n: &FlatNet, i: u32, c: u32, made: &mut Made) -> Res
 
 /// Adds the copies of all nodes, and their names.
 pub fn push_twins(alloc: Global, n: &FlatNet, made: &mut Made) -> Result<(), OutOfMemory>
-    requires few { net_count n.now.net ≤ 16777216 }
+    requires few { net_count n.now.net ≤ widest_nets }
     requires valid { IsValid (guard_net n.now.net) }
     requires made { IsMade (guard_net n.now.net) 0 made.old }
     ensures { OnOk result (IsMade (guard_net n.now.net) (2 * length n.now.net.nodes) made.new) }

@@ -6,6 +6,7 @@ use Rattle.std.specs.Str.{bytes_eq}
 use Rattle.std.proofs.lemmas.List.{length-append}
 use Rattle.std.proofs.lemmas.List.Sums.{sum_by-cons}
 use Rattle.std.proofs.lemmas.Slice.Eq.{bytes_eq-Decides}
+use Rattle.limits.specs.Most.{widest_text}
 use Rattle.blif_text.specs.Kind.{is_among}
 use Rattle.library_faults.specs.declared.lengths.count.Count.{Count}
 use Rattle.library_faults.specs.Graph.{number_named}
@@ -195,14 +196,6 @@ limited_sum bindings (u ∷ uses) = omega (arith, sum_by-cons (unbound limited_n
 
 -- ---- a placed model is counted
 
-pub lengths_below : (uses : List Use) → sum_by formal_length uses ≤ sum_by formal_one uses * 1073741825
-lengths_below [] = omega arith
-lengths_below (u ∷ uses) = omega (arith, sum_by-cons formal_length u uses, sum_by-cons formal_one u uses, lengths_below uses, below u)
-  where
-    below : (u : Use) → formal_length u ≤ formal_one u * 1073741825
-    below (Formal name) = omega arith
-    below (Own text) = omega arith
-
 ones_are : (u : Use) → by_name one u ≡ formal_one u
 unfolding by_name one
 ones_are (Formal name) = refl
@@ -245,7 +238,7 @@ module _ (placed : Count) (fixed : ℕ) (uses : List Use) (count : IsCount place
     sum_both (unbound one bindings) (unbound length bindings) uses,
   )
 
-  few_places : placed.places ≤ 1073741824
+  few_places : placed.places ≤ widest_text
   few_places = omega (arith, count.places, count.bytes, count.small, places_below uses)
     where
       one_below : (u : Use) → own_one u ≤ own_length u
@@ -277,7 +270,7 @@ module _ (placed : Count) (fixed : ℕ) (uses : List Use) (count : IsCount place
       nets_are = omega (arith, n, rest_is, left_ones_sum number, few_places, moved_ones, count.small)
 
       rest_bytes_is : rest_bytes ≡ sum_by (unbound limited_name bindings) uses
-      rest_bytes_is = omega (arith, mb, rb, moved_lengths, count.passed_bytes, count.passed, lengths_below uses, count.small)
+      rest_bytes_is = omega (arith, mb, rb, moved_lengths, count.exact)
 
       kept : (name : List ℕ) → used new name ≡ used mid name
       kept name = ap (λ fs. option_map_or (λ k. get_or new.uses.items k 0) (number_named fs.keys name) 0) grown.formals ∙ ap (λ us. option_map_or (λ k. get_or us.items k 0) (number_named mid.formals.keys name) 0) grown.uses

@@ -1,5 +1,6 @@
 //! A look at a library.
 ghost use Rattle.std.specs.Prelude.{◌≡◌, ◌≤◌, map, length, IfOk, OnOk, IfErr};
+ghost use Rattle.limits.specs.Most.{widest_text};
 ghost use Rattle.blif_text.specs.Library.{IsLibrary};
 ghost use Rattle.blif_text.specs.Views.{plain_model};
 ghost use Rattle.library_faults.specs.Graph.{graph, names_of};
@@ -75,7 +76,7 @@ fn counted_within(
     requires names { names.now.keys ≡ names_of (map plain_model models.now) }
     requires placeable { IsPlaceable (map plain_model models.now) }
     requires ordered { IsOrder (graph (map plain_model models.now)) order.now }
-    requires limit { limit ≤ 1073741824 }
+    requires limit { limit ≤ widest_text }
     ensures places { IfOk result (λ counted. ArePlaces order.now counted.positions.items) }
     ensures counts { IfOk result (λ counted. AreCounts (map plain_model models.now) order.now counted.counts.items) }
     ensures fits { OnOk result (Fits (map plain_model models.now) limit) }
@@ -90,12 +91,13 @@ fn counted_within(
 }
 
 /// The order of a library's models and the counts of the reached ones, or its first fault: one of a statement, or a
-/// loop of models, or a flat text of more than `limit` bytes. `Memory` may come in place of either. No flat element is
-/// made: the time goes by the length of the library.
+/// loop of models, or a flat text of more than `limit` bytes. `Memory` may come in place of either: also where the names of a
+/// model's formals, each as often as it stands in the flat text, have more bytes than 64 bits count. No flat element is made:
+/// the time goes by the length of the library.
 #[tactic(auto, using(crate::proofs::LookedLaws::looked_laws))]
 pub fn look(alloc: Global, models: &[BlifModel], limit: u64) -> Result<Looked, LibraryFault>
     requires library { IsLibrary (map plain_model models.now) }
-    requires limit { limit ≤ 1073741824 }
+    requires limit { limit ≤ widest_text }
     ensures ok { IfOk result (λ looked. IsLooked (map plain_model models.now) looked) }
     ensures fits { OnOk result (Fits (map plain_model models.now) limit) }
     ensures fault { IfErr result (λ fault. IsLibraryFault (map plain_model models.now) limit fault) }

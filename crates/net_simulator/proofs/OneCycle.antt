@@ -82,12 +82,3 @@ forced_alike n last ins f g v same is = record {
   wide = is.wide;
   equations = λ x h. subst (λ (u : Option Bool). bit v x ≡ forced_value (node_of n x) u (cycle_after last) ins (values_of last) v x) (same x h) (is.equations x h);
 }
-
--- a cycle that follows the rows of a trace so far is the trace's next row
-pub next_row : (n : Net) → IsValid n → (ins : List (List Bool)) (s : List Upset) (tr : List (List Bool)) (t : ℕ) → IsFaultTrace n ins s tr → t < length ins
-    → (last : Option (List Bool)) (row : List Bool) (forced : ℕ → Option Bool) (v : List Bool)
-    → last ≡ before_cycle tr t → row ≡ row_at ins t → ((x : ℕ) → x < net_count n → forced x ≡ upset_at s t x) → IsCycle n last row forced v → v ≡ row_at tr t
-next_row n valid ins s tr t is l last row forced v same_last same_row same_forced cycle =
-    let at_last = subst (λ (o : Option (List Bool)). IsCycle n o row forced v) same_last cycle in
-    let at_row = subst (λ (r : List Bool). IsCycle n (before_cycle tr t) r forced v) same_row at_last in
-    one_cycle n valid (before_cycle tr t) (row_at ins t) (λ x. upset_at s t x) v (row_at tr t) (forced_alike n (before_cycle tr t) (row_at ins t) forced (λ x. upset_at s t x) v same_forced at_row) (row_is_cycle n ins s tr t is l)

@@ -142,6 +142,3 @@ pub starts_step : (n : Net) (free values : List Bool) (x next : ℕ) (old new : 
 starts_step n free values x next old new true f is after mark pushed at within value = subst (λ (m : ℕ). ListsStarts n free values m new) (sym after) (starts_more n free values x old is new f pushed at within value (sym mark))
 starts_step n free values x next old new false f is after mark pushed at within value =
     subst (λ (m : ℕ). ListsStarts n free values m new) (sym after) (subst (λ (fs : List (NetId × Bool)). ListsStarts n free values (x + 1) fs) (sym pushed) (starts_same n free values x old is (sym mark)))
-
-pub marks_registers : (n : Net) (free : List Bool) → AreMarks n free → MarksRegisters n free
-marks_registers n free is = is.registers

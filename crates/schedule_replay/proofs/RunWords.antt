@@ -33,8 +33,4 @@ shifted_bit word j = refl
 
 pub ruleset shifted_words = (shifted_bit)
 
--- the word with one more bit
-pub added_bit : (i word more : ℕ) (b t : Bool) → word_bit i more ≡ (b && t) → word_bit i (bit_or word more) ≡ (word_bit i word || (b && t))
-added_bit i word more b t e = word_bit_or i word more ∙ ap (λ (x : Bool). word_bit i word || x) e
-
 pub ruleset added_bits = (word_bit_or)

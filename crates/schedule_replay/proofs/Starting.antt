@@ -167,10 +167,6 @@ counted_registers k n free is = go (nat_eq k.version 1)
 pub uncounted : (k : PlainCert) (n : Net) (free w : List Bool) (starts : List (NetId × Bool)) → k.version ≡ 1 → starts ≡ [] → AreStarts n (counted k free) w 0 starts
 uncounted k n free w starts version e = subst (λ (b : Bool). AreStarts n (if b then [] else free) w 0 starts) (sym (eq-eqb k.version 1 version)) (none_given n w starts e)
 
--- and in version 2 all marks count
-pub all_counted : (k : PlainCert) (free : List Bool) → k.version ≢ 1 → counted k free ≡ free
-all_counted k free other = ap (λ (b : Bool). if b then [] else free) (ne_eqb k.version 1 other)
-
 -- what holds for all start values holds for those that count by the certificate
 pub for_counted : (P : Net → List Bool → List Bool → Net → List Bool → List Bool → Type 0) (a b x y : Design) (k : PlainCert) (f g v : List Bool) (os hs : List (NetId × Bool)) → b ≡ a → y ≡ x → AreMarks a.net f → AreMarks x.net g
     → AreStarts a.net (counted k f) v 0 os → AreStarts x.net (counted k g) (spread_start k v) 0 hs

@@ -18,7 +18,7 @@ pub struct Line<'a> {
 /// What is still to be read of a text, and the number of its next line.
 #[derive(Drop)]
 pub struct Lines<'a> {
-    line: u32,
+    line: u64,
     bytes: &'a [u8],
 }
 
@@ -30,7 +30,7 @@ impl<'a> Model for Lines<'a> {
 
     ghost view = { λ r. record { line = r.line; bytes = r.bytes.now } };
 
-    ghost invariant = { λ r. r.line + length r.bytes.now < 2 ^ 32 };
+    ghost invariant = { λ r. r.line + length r.bytes.now < 2 ^ 64 };
 }
 
 /// Where the first line feed of these bytes stands, if there is one.
@@ -44,14 +44,13 @@ pub fn line_end(bytes: &[u8]) -> Option<usize>
 impl<'a> Lines<'a> {
     /// All lines of these bytes.
     pub fn new(bytes: &'a [u8]) -> Lines<'a>
-        requires { length bytes.now + 1 < 2 ^ 32 }
         ensures { result ≡ record { line = 1; bytes = bytes.now } }
     {
         Lines { line: 1, bytes }
     }
 
     /// The number of the next line, counted from 1.
-    pub fn number(&self) -> u32
+    pub fn number(&self) -> u64
         ensures { result ≡ self.now.line }
     {
         self.line

@@ -1,5 +1,6 @@
 //! The text of waves.
 ghost use Rattle.std.specs.Prelude.{◌≡◌, ◌≢◌, ◌<◌, ◌≤◌, ◌*◌, ◌+◌, ◌++◌, [], true, ℕ, Some, length, codes, slice_index_or, IfOk, OnOk};
+ghost use Rattle.limits.specs.Most.{widest_nets};
 ghost use Rattle.tmr_base.specs.Names.{is_name};
 ghost use Rattle.vcd_text.specs.At.{vcd_at, RepeatsNothing};
 ghost use Rattle.vcd_text.specs.Text.{code_text, value_at, var_line, var_lines, head_lines, cycles_from, end_lines, vcd_text, lines_text, line_text};
@@ -105,7 +106,7 @@ pub fn write_vcd(
 ) -> Result<Vec<u8>, OutOfMemory>
     requires differ { (j k : ℕ) → j < k → k < length names.now → slice_index_or names.now j (codes "") ≢ slice_index_or names.now k (codes "") }
     requires no_end { (k : ℕ) → k < length names.now → slice_index_or names.now k (codes "") ≢ codes "$end" }
-    requires few { length names.now ≤ 16777216 }
+    requires few { length names.now ≤ widest_nets }
     requires values { length names.now * cycles ≡ length values.now }
     ensures text { IfOk result (λ bytes. bytes.items ≡ vcd_text names.now cycles values.now) }
     ensures at { IfOk result (λ bytes. (k t : ℕ) → k < length names.now → t < cycles → vcd_at bytes.items (code_text k) t ≡ Some (value_at values.now (length names.now) t k)) }

@@ -4,7 +4,6 @@ ghost use Rattle.blif_text.specs.declared.statements.word.Word.TheVariants.{Row}
 ghost use Rattle.blif_text.specs.Private.Answers.{Answers, plain};
 ghost use Rattle.blif_text.specs.Kind.{kind_here, row_kind};
 ghost use Rattle.blif_text.specs.Private.Progress.{fresh, here_in, more_of, with_table, without_table, ended_model, all_elements, shape_of, with_row, with_elements};
-ghost use Rattle.blif_text.specs.Private.Bounds.{rows_of};
 ghost use Rattle.blif_text.specs.Text.{statement_by};
 ghost use Rattle.blif_text.specs.Word.{is_inner};
 ghost use Rattle.blif_text.specs.Views.{plain_element, plain_model};
@@ -93,7 +92,6 @@ impl OpenModel {
     /// Takes a row.
     #[tactic(auto, unfolding(crate::specs::Kind::row_kind))]
     fn take_row(&mut self, first: &[u8], arguments: &[&[u8]]) -> Result<(), Refusal>
-        requires { rows_of self.old.table < 4294967295 }
         ensures { Answers result (row_kind (option_map shape_of self.old.table) (first.now ∷ plain arguments.now)) (λ _. self.new ≡ record {
           name = self.old.name;
           inputs = self.old.inputs;
@@ -120,7 +118,6 @@ impl OpenModel {
         requires inner { is_inner word ≡ true }
         requires no_row { word ≢ Row }
         requires no_table { self.old.table ≡ None }
-        requires few { length arguments.now < 4294967296 }
         ensures { (line : ℕ) (first : List ℕ) (models : List (List ℕ)) → Answers result (kind_here word models (here_in self.old) (statement_by line word first (plain arguments.now)))
             (λ _. self.new ≡ more_of word (statement_by line word first (plain arguments.now)) self.old) }
     {
@@ -159,8 +156,6 @@ impl OpenModel {
         arguments: &[&[u8]],
     ) -> Result<(), Refusal>
         requires inner { is_inner word ≡ true }
-        requires few { length arguments.now < 4294967296 }
-        requires rows { rows_of self.old.table < 4294967295 }
         ensures { (line : ℕ) (models : List (List ℕ)) → Answers result (kind_here word models (here_in self.old) (statement_by line word first.now (plain arguments.now)))
             (λ _. self.new ≡ more_of word (statement_by line word first.now (plain arguments.now)) self.old) }
     {

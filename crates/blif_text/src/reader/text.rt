@@ -3,7 +3,6 @@ ghost use Rattle.std.specs.Prelude.{◌≡◌, ◌≤◌, ◌<◌, ◌+◌, ◌-
 ghost use Rattle.blif_text.specs.Private.Stands.{Stands, Takes, Refuses, IsBadOf, reading_in};
 ghost use Rattle.blif_text.specs.Reading.{Reads, reading};
 ghost use Rattle.blif_text.specs.Private.Sound.{IsSound};
-ghost use Rattle.blif_text.specs.Private.Bounds.{rows_in, IsShort};
 ghost use Rattle.blif_text.specs.Reader.{HasRead};
 ghost use Rattle.blif_text.specs.Text.{spoken, tokens};
 ghost use Rattle.blif_text.specs.Private.Pending.{with_bytes};
@@ -17,8 +16,6 @@ use text_lines::{PendingLine, line_end, tokens};
 /// Takes the statement of a joined line, if it has tokens.
 #[tactic(auto, unfolding(crate::specs::Text::spoken))]
 fn take_text(alloc: Global, progress: &mut Progress, text: &[u8]) -> Result<(), Refusal>
-    requires text { length text.now < 2 ^ 32 - 1 }
-    requires rows { rows_in progress.old.open_model < 2 ^ 32 - 1 }
     ensures { (line : ℕ) → Takes (spoken line (tokens text.now)) progress.old progress.new result }
 {
     let tokens = tokens(alloc, text)?;
@@ -32,11 +29,9 @@ fn take_text(alloc: Global, progress: &mut Progress, text: &[u8]) -> Result<(), 
 fn take_statement(
     alloc: Global,
     progress: &mut Progress,
-    line: u32,
+    line: u64,
     text: &[u8],
 ) -> Result<(), TextFault>
-    requires text { length text.now < 2 ^ 32 - 1 }
-    requires rows { rows_in progress.old.open_model < 2 ^ 32 - 1 }
     ensures taken { OnOk result (Takes (spoken line (tokens text.now)) progress.old progress.new (Ok tt)) }
     ensures refused { IfErr result (λ fault. Refuses line (λ r. Takes (spoken line (tokens text.now)) progress.old progress.new r) fault) }
     ensures sound { OnOk result (IsSound progress.old → IsSound progress.new) }
@@ -54,8 +49,6 @@ fn take_joined(
     lines: &mut PendingLine,
     progress: &mut Progress,
 ) -> Result<(), TextFault>
-    requires text { length lines.old.text < 2 ^ 32 - 1 }
-    requires rows { rows_in progress.old.open_model < 2 ^ 32 - 1 }
     ensures begun { OnOk result (lines.new ≡ record { first = lines.old.number; text = []; number = lines.old.number; line = lines.old.line }) }
     ensures taken { OnOk result (Takes (spoken lines.old.first (tokens lines.old.text)) progress.old progress.new (Ok tt)) }
     ensures refused { IfErr result (λ fault. Refuses lines.old.first (λ r. Takes (spoken lines.old.first (tokens lines.old.text)) progress.old progress.new r) fault) }
@@ -78,9 +71,7 @@ fn end_line(
     lines: &mut PendingLine,
     progress: &mut Progress,
 ) -> Result<(), TextFault>
-    requires number { lines.old.number < 2 ^ 32 - 1 }
-    requires short { IsShort lines.old progress.old 0 }
-    ensures short { OnOk result ((more : ℕ) → IsShort lines.old progress.old more → IsShort lines.new progress.new more) }
+    requires { lines.old.number < 2 ^ 64 - 1 }
     ensures ok { OnOk result ((given : List ℕ) → Stands lines.old progress.old given → Stands lines.new progress.new (given ++ 10 ∷ [])) }
     ensures bad { IfErr result (λ fault. (given : List ℕ) → Stands lines.old progress.old given → IsBadOf (given ++ 10 ∷ []) fault) }
     ensures sound { OnOk result (IsSound progress.old → IsSound progress.new) }
@@ -115,9 +106,7 @@ fn take_last(
     progress: &mut Progress,
     bytes: &[u8],
 ) -> Result<(), TextFault>
-    requires number { lines.old.number < 2 ^ 32 - 1 }
-    requires short { IsShort (with_bytes lines.old bytes.now) progress.old 0 }
-    ensures short { OnOk result ((more : ℕ) → IsShort (with_bytes lines.old bytes.now) progress.old more → IsShort lines.new progress.new more) }
+    requires { lines.old.number < 2 ^ 64 - 1 }
     ensures ok { OnOk result ((given : List ℕ) → Stands (with_bytes lines.old bytes.now) progress.old given → Stands lines.new progress.new (given ++ 10 ∷ [])) }
     ensures bad { IfErr result (λ fault. (given : List ℕ) → Stands (with_bytes lines.old bytes.now) progress.old given → IsBadOf (given ++ 10 ∷ []) fault) }
     ensures sound { OnOk result (IsSound progress.old → IsSound progress.new) }
@@ -136,9 +125,7 @@ fn take_line(
     progress: &mut Progress,
     bytes: &[u8],
 ) -> Result<(), TextFault>
-    requires number { lines.old.number < 2 ^ 32 - 1 }
-    requires short { IsShort (with_bytes lines.old bytes.now) progress.old 0 }
-    ensures short { OnOk result ((more : ℕ) → IsShort (with_bytes lines.old bytes.now) progress.old more → IsShort lines.new progress.new more) }
+    requires { lines.old.number < 2 ^ 64 - 1 }
     ensures ok { OnOk result ((given : List ℕ) → Stands (with_bytes lines.old bytes.now) progress.old given → Stands lines.new progress.new (given ++ 10 ∷ [])) }
     ensures bad { IfErr result (λ fault. (given : List ℕ) → Stands (with_bytes lines.old bytes.now) progress.old given → IsBadOf (given ++ 10 ∷ []) fault) }
     ensures sound { OnOk result (IsSound progress.old → IsSound progress.new) }
@@ -159,9 +146,7 @@ fn take_front(
     bytes: &[u8],
 ) -> Result<usize, TextFault>
     requires some { 0 < length bytes.now }
-    requires number { lines.old.number + length bytes.now < 2 ^ 32 - 1 }
-    requires short { IsShort lines.old progress.old (length bytes.now) }
-    ensures short { IfOk result (λ n. (more : ℕ) → IsShort lines.old progress.old (n + more) → IsShort lines.new progress.new more) }
+    requires number { lines.old.number + length bytes.now < 2 ^ 64 - 1 }
     ensures some { IfOk result (λ n. (0 < n) × (n ≤ length bytes.now)) }
     ensures ok { IfOk result (λ n. (given : List ℕ) → Stands lines.old progress.old given → Stands lines.new progress.new (given ++ take n bytes.now)) }
     ensures bad { IfErr result (λ fault. (given : List ℕ) → Stands lines.old progress.old given → IsBadOf (given ++ bytes.now) fault) }
@@ -187,9 +172,7 @@ fn take_bytes(
     progress: &mut Progress,
     piece: &[u8],
 ) -> Result<(), TextFault>
-    requires number { lines.old.number + length piece.now < 2 ^ 32 - 1 }
-    requires short { IsShort lines.old progress.old (length piece.now) }
-    ensures short { OnOk result ((more : ℕ) → IsShort lines.old progress.old (length piece.now + more) → IsShort lines.new progress.new more) }
+    requires { lines.old.number + length piece.now < 2 ^ 64 - 1 }
     ensures ok { OnOk result ((given : List ℕ) → Stands lines.old progress.old given → Stands lines.new progress.new (given ++ piece.now)) }
     ensures bad { IfErr result (λ fault. (given : List ℕ) → Stands lines.old progress.old given → IsBadOf (given ++ piece.now) fault) }
     ensures sound { OnOk result (IsSound progress.old → IsSound progress.new) }
@@ -204,8 +187,7 @@ fn take_bytes(
 
 /// The library, where no more statements come.
 fn ended(alloc: Global, progress: &mut Progress) -> Result<Library, TextFault>
-    requires sound { IsSound progress.old }
-    requires few { length progress.old.names < 2 ^ 32 }
+    requires { IsSound progress.old }
     ensures { Reads result (reading_in progress.old) }
 {
     if progress.is_empty() {
@@ -215,7 +197,13 @@ fn ended(alloc: Global, progress: &mut Progress) -> Result<Library, TextFault>
         });
     }
     match progress.ended(alloc) {
-        Ok(models) => Ok(Library::new(models)),
+        Ok(models) => {
+            // Numbers of 32 bits count the models.
+            if models.len() > u32::MAX as usize {
+                return Err(TextFault::Memory);
+            }
+            Ok(Library::new(models))
+        }
         Err(_) => Err(TextFault::Memory),
     }
 }
@@ -226,8 +214,7 @@ fn end_text(
     lines: &mut PendingLine,
     progress: &mut Progress,
 ) -> Result<Library, TextFault>
-    requires number { lines.old.number < 2 ^ 32 - 2 }
-    requires short { IsShort lines.old progress.old 0 }
+    requires number { lines.old.number < 2 ^ 64 - 2 }
     requires sound { IsSound progress.old }
     ensures { (given : List ℕ) → Stands lines.old progress.old given → Reads result (reading given) }
 {
@@ -243,8 +230,7 @@ fn end_unrefused(
     progress: &mut Progress,
     refused: Option<TextFault>,
 ) -> Result<Library, TextFault>
-    requires number { lines.old.number < 2 ^ 32 - 2 }
-    requires short { refused ≡ None → IsShort lines.old progress.old 0 }
+    requires number { lines.old.number < 2 ^ 64 - 2 }
     requires sound { refused ≡ None → IsSound progress.old }
     ensures reads { (given : List ℕ) → HasRead refused lines.old progress.old given → Reads result (reading given) }
     ensures again { IfSome refused (λ fault. result ≡ Err fault) }
@@ -262,8 +248,7 @@ pub(crate) fn finish(
     mut progress: Progress,
     refused: Option<TextFault>,
 ) -> Result<Library, TextFault>
-    requires number { lines.number < 2 ^ 32 - 2 }
-    requires short { refused ≡ None → IsShort lines progress 0 }
+    requires number { lines.number < 2 ^ 64 - 2 }
     requires sound { refused ≡ None → IsSound progress }
     ensures reads { (given : List ℕ) → HasRead refused lines progress given → Reads result (reading given) }
     ensures again { IfSome refused (λ fault. result ≡ Err fault) }
@@ -279,9 +264,7 @@ pub(crate) fn take_piece(
     refused: Option<TextFault>,
     piece: &[u8],
 ) -> Option<TextFault>
-    requires number { lines.old.number + length piece.now < 2 ^ 32 - 1 }
-    requires short { refused ≡ None → IsShort lines.old progress.old (length piece.now) }
-    ensures short { (more : ℕ) → (refused ≡ None → IsShort lines.old progress.old (length piece.now + more)) → result ≡ None → IsShort lines.new progress.new more }
+    requires { lines.old.number + length piece.now < 2 ^ 64 - 1 }
     ensures read { (given : List ℕ) → HasRead refused lines.old progress.old given → HasRead result lines.new progress.new (given ++ piece.now) }
     ensures again { IfSome refused (λ fault. result ≡ Some fault) }
     ensures sound { (refused ≡ None → IsSound progress.old) → result ≡ None → IsSound progress.new }

@@ -30,15 +30,17 @@ fn parts<'a>(width: usize, first: &'a [u8], arguments: &[&'a [u8]]) -> Option<(&
     }
 }
 
-/// Adds a row to a cover.
+/// Adds a row to a cover, unless it has as many as numbers of 32 bits count.
 #[tactic(auto, using(crate::proofs::Rows::pushed_rows))]
 fn put_marks(cover: &mut Cover, marks: &[u8], output: u8) -> Result<(), Refusal>
-    requires { length cover.old.rows < 4294967295 }
     ensures row { Answers result (marks_kind (output_before cover.old) (row_in cover.old.width (record { marks = marks.now; output = output })))
         (λ _. marked_rows cover.new ≡ marked_rows cover.old ++ option_to_list (row_in cover.old.width (record { marks = marks.now; output = output }))) }
     ensures ok { OnOk result (cover.new ≡ pushing.with_row cover.old marks.now output) }
     ensures err { OnErr result (cover.new ≡ cover.old) }
 {
+    if cover.row_count() == u32::MAX {
+        return Err(Refusal::Memory);
+    }
     match cover.push_row(marks, output) {
         Ok(()) => Ok(()),
         Err(RowFault::Width | RowFault::BadChar) => Err(Refusal::Bad(TextKind::BadRow)),
@@ -55,8 +57,7 @@ pub(crate) fn put_row(
     first: &[u8],
     arguments: &[&[u8]],
 ) -> Result<(), Refusal>
-    requires width { cover.old.width ≡ width }
-    requires rows { length cover.old.rows < 4294967295 }
+    requires { cover.old.width ≡ width }
     ensures row { Answers result (marks_kind (output_before cover.old) (row_of width (first.now ∷ plain arguments.now)))
         (λ _. marked_rows cover.new ≡ marked_rows cover.old ++ option_to_list (row_of width (first.now ∷ plain arguments.now))) }
     ensures width { cover.new.width ≡ cover.old.width }

@@ -33,22 +33,31 @@ impl Model for OpenTable {
     ghost invariant = { λ t. t.cover.width ≡ length t.pins.items };
 }
 
+/// The width of a table of that many pins, where a number of 32 bits counts them.
+fn width_of(pins: usize) -> Result<u32, Refusal>
+    ensures { Answers result None (λ width. width ≡ pins) }
+{
+    if pins > u32::MAX as usize {
+        return Err(Refusal::Memory);
+    }
+    Ok(pins as u32)
+}
+
 impl OpenTable {
     /// The table of these pins and this output, with no rows.
     fn read_parts(alloc: Global, pins: &[&[u8]], out: &[u8]) -> Result<OpenTable, Refusal>
-        requires { length pins.now < 4294967296 }
         ensures { Answers result (names_kind (plain pins.now) or_else name_kind out.now) (λ t. t ≡ record { tokens = plain pins.now ++ out.now ∷ []; rows = [] }) }
     {
         let pins = read_names(alloc, pins)?;
         let out = read_name(alloc, out)?;
-        let cover = Cover::new(alloc, pins.len() as u32);
+        let width = width_of(pins.len())?;
+        let cover = Cover::new(alloc, width);
         Ok(OpenTable { pins, out, cover })
     }
 
     /// The table of the tokens after `.names`, with no rows.
     #[tactic(auto, using(crate::proofs::Tables::table_parts), unfolding(crate::specs::Kind::table_kind))]
     pub fn read(alloc: Global, tokens: &[&[u8]]) -> Result<OpenTable, Refusal>
-        requires { length tokens.now < 4294967296 }
         ensures { Answers result (table_kind (plain tokens.now)) (λ t. t ≡ record { tokens = plain tokens.now; rows = [] }) }
     {
         match tokens.split_last() {
@@ -59,7 +68,6 @@ impl OpenTable {
 
     /// Takes a row.
     pub fn push_row(&mut self, first: &[u8], arguments: &[&[u8]]) -> Result<(), Refusal>
-        requires { length self.old.rows < 4294967295 }
         ensures { Answers result (row_kind (Some (shape_of self.old)) (first.now ∷ plain arguments.now)) (λ _. self.new ≡ with_row (first.now ∷ plain arguments.now) self.old) }
     {
         let width = self.pins.len();

@@ -3,6 +3,7 @@
 use Rattle.std.specs.Prelude.{◌≡◌, ◌≤◌, ◌<◌, ℕ, zero, suc, ◌+◌, ◌*◌, ◌||◌, Bool, true, false, List, [], ◌∷◌, ◌++◌, length, map, min, sum_by, slice_get, slice_index, slice_index_or, Option, Some, None, if◌then◌else◌}
 use Rattle.std.specs.Option.{option_map_or}
 use Rattle.std.specs.Str.{bytes_eq}
+use Rattle.limits.specs.Most.{widest_text}
 use Rattle.tmr_base.specs.declared.ids.Edge.{Edge}
 use Rattle.blif_text.specs.Kind.{is_among}
 use Rattle.blif_text.specs.Models.{PlainElement, Table, Register, Instance, PlainModel}
@@ -105,7 +106,7 @@ formal_one (Own text) = 0
 
 -- a length, as far as any limit lets a text have it
 abbrev pub limited : ℕ → ℕ
-limited n = min n 1073741825
+limited n = min n (widest_text + 1)
 
 abbrev pub formal_length : Use → ℕ
 formal_length (Formal name) = limited (length name)
@@ -138,7 +139,8 @@ pub record IsCount (count : Count) (fixed : ℕ) (uses : List Use) : Type 0 wher
   pub passed : count.passed ≡ sum_by formal_one uses
   pub passed_bytes : count.passed_bytes ≡ sum_by formal_length uses
   pub by : (name : List ℕ) → used count name ≡ sum_by (by_formal name) uses
-  pub small : count.bytes + count.passed ≤ 1073741824
+  pub small : count.bytes + count.passed ≤ widest_text
+  pub exact : count.passed_bytes < 18446744073709551615
 
 -- the count, or none where the text is longer than the limit wherever the model is placed
 abbrev pub IsOutcome : ℕ → Option Count → ℕ → List Use → Type 0

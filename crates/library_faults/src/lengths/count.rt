@@ -3,6 +3,7 @@
 //! It is counted once for a model, however often the model is placed: bytes, nets whose text begins with
 //! the model's own path, and how often each of its formals stands, which goes by what it is bound to.
 ghost use Rattle.std.specs.Prelude.{◌≡◌, ◌≤◌, ◌<◌, ◌+◌, ◌*◌, ℕ, List, Some, [], ◌∷◌, ◌++◌, length, map, sum_by, All, IfOk, OnOk};
+ghost use Rattle.limits.specs.Most.{widest_text};
 ghost use Rattle.blif_text.specs.Kind.{is_among};
 ghost use Rattle.blif_text.specs.Views.{plain_element, plain_model};
 ghost use Rattle.blif_text.specs.Models.{Table};
@@ -15,6 +16,7 @@ use crate::lengths::entries::entry_of;
 use crate::lengths::flat_text::{rows_length, spaced_name, step_text};
 use blif_text::{BlifModel, Element};
 use indexmap::IndexSet;
+use limits::Limits;
 use std::alloc::{AllocError, Global};
 use table_cover::Cover;
 use tmr_base::{Edge, Name};
@@ -37,11 +39,8 @@ fn limited_length(name: &Name) -> u64
     ensures { result ≡ limited (length name.now) }
 {
     let length = name.bytes().len() as u64;
-    if length < 1073741825 {
-        length
-    } else {
-        1073741825
-    }
+    let most = Limits::Large.hardened();
+    if length <= most { length } else { most + 1 }
 }
 
 /// How often the formal stands.
@@ -288,7 +287,7 @@ fn empty_count(alloc: Global, formals: IndexSet<Name>) -> Result<Count, AllocErr
 }
 
 /// The count of a model with these formals, or none where its text is longer than the limit wherever it is
-/// placed.
+/// placed. Where the bytes of formals' names are more than 64 bits count, the answer is want of memory.
 pub(crate) fn count_model(
     alloc: Global,
     names: &IndexSet<Name>,
@@ -298,7 +297,7 @@ pub(crate) fn count_model(
     formals: IndexSet<Name>,
     limit: u64,
 ) -> Result<Option<Count>, AllocError>
-    requires { limit ≤ 1073741824 }
+    requires { limit ≤ widest_text }
     ensures { IfOk result (λ found. (fixed : List ℕ → ℕ) (uses : List ℕ → List Use) → All (IsTold limit (entry_named names.now.keys positions.now counts.now) fixed uses) (plain_model model.now).elements → IsOutcome limit found (fixed_with fixed (plain_model model.now).elements) (uses_with (is_among formals.keys) uses 0 (plain_model model.now).elements)) }
 {
     let mut count = empty_count(alloc, formals)?;
@@ -308,5 +307,9 @@ pub(crate) fn count_model(
     if count.bytes.saturating_add(count.passed) > limit {
         return Ok(None);
     }
-    Ok(Some(count))
+    if count.passed_bytes < u64::MAX {
+        Ok(Some(count))
+    } else {
+        Err(AllocError)
+    }
 }

@@ -1,5 +1,6 @@
 //! The counts of all models, each after those that it places.
 ghost use Rattle.std.specs.Prelude.{◌≡◌, ◌≢◌, ◌≤◌, ◌<◌, ◌||◌, ℕ, List, length, map, slice_index, IfOk, OnOk};
+ghost use Rattle.limits.specs.Most.{widest_text};
 ghost use Rattle.blif_text.specs.Kind.{is_among};
 ghost use Rattle.blif_text.specs.Views.{plain_model};
 ghost use Rattle.library_faults.specs.Graph.{graph, names_of};
@@ -76,7 +77,7 @@ pub(crate) fn count_models(
     requires placeable { IsPlaceable (map plain_model models.now) }
     requires ordered { IsOrder (graph (map plain_model models.now)) order.now }
     requires places { ArePlaces order.now positions.now }
-    requires limit { limit ≤ 1073741824 }
+    requires limit { limit ≤ widest_text }
     ensures counted { IfOk result (λ counts. AreCounted (map plain_model models.now) limit order.now counts.items) }
     ensures all { IfOk result (λ counts. length counts.items ≡ length order.now) }
 {

@@ -1,5 +1,6 @@
 //! The length of the flat text of a library, by the counts of its models: no flat element is walked.
 ghost use Rattle.std.specs.Prelude.{◌≡◌, ◌≤◌, ◌<◌, true, false, map, length};
+ghost use Rattle.limits.specs.Most.{widest_text};
 ghost use Rattle.blif_text.specs.Views.{plain_model};
 ghost use Rattle.library_faults.specs.Graph.{graph};
 ghost use Rattle.library_faults.specs.Library.{IsPlaceable};
@@ -38,7 +39,7 @@ pub(crate) fn fits(
     requires counted { AreCounted (map plain_model models.now) limit order.now counts.now }
     requires all { length counts.now ≡ length order.now }
     requires some { 0 < length models.now }
-    requires limit { limit ≤ 1073741824 }
+    requires limit { limit ≤ widest_text }
     ensures yes { result ≡ true → length_of_text (flat_model (map plain_model models.now)) ≤ limit }
     ensures no { result ≡ false → limit < length_of_text (flat_model (map plain_model models.now)) }
 {

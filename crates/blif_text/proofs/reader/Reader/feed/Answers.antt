@@ -1,7 +1,6 @@
-use Rattle.std.proofs.Common.{◌≤◌, ◌+◌, ◌-◌, ◌++◌, length, arith, sym, subst}
+use Rattle.std.proofs.Common.{◌≤◌, ◌++◌, length, arith, sym, subst}
 use Rattle.blif_text.specs.Reader.{StandsFor}
 use Rattle.blif_text.proofs.Told.{told_none, told_some, bad_none, bad_some, for_all}
-use Rattle.blif_text.proofs.Bounds.{short_less}
 use Rattle.blif_text.proofs.reader.Reader.feed.Goals as goal
 use Rattle.blif_text.proofs.reader.Reader.feed.Goals.{in-None, in-Some}
 
@@ -29,6 +28,4 @@ invariant_of-self c =
     record {
       lines = omega (arith, fits, c.self.invariant.lines, c.take_piece-fault.ensures.number);
       sound = c.take_piece-fault.ensures.sound c.self.invariant.sound;
-      short = c.take_piece-fault.ensures.short (room - length piece)
-          (λ none. short_less c.self.inside.lines c.self.inside.progress room (length piece + (room - length piece)) (omega (arith, fits)) (c.self.invariant.short none));
     }

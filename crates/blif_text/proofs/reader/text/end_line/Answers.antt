@@ -1,5 +1,4 @@
 use Rattle.blif_text.proofs.Taken.{after_line, refused_line, joined_line_on, ends_so, joins_so}
-use Rattle.blif_text.proofs.Bounds.{short_text, short_joined, short_line}
 use Rattle.blif_text.proofs.reader.text.end_line.Goals as goal
 
 pub returns-in-Ok-clause-ok : goal.returns-in-Ok-clause-ok
@@ -13,13 +12,3 @@ returns-in-Err-take_joined-clause-bad c = refused_line c.args.lines.now c.end_li
 pub returns-in-Ok-false-clause-ok : goal.returns-in-Ok-false-clause-ok
 returns-in-Ok-false-clause-ok c = joined_line_on c.args.lines.now c.end_line.new.self c.args.progress.now
     (joins_so _ _ c.in-Ok-false.ensures.ended c.in-Ok-false.field-0-test) c.in-Ok-false.ensures.ok
-
-pub returns-in-Ok-clause-short : goal.returns-in-Ok-clause-short
-returns-in-Ok-clause-short c = short_line c.args.lines.now c.end_line.new.self c.take_joined.new.lines c.args.progress.now c.take_joined.new.progress
-    c.in-Ok-true.ensures.ok c.in-Ok.ensures.begun c.in-Ok.ensures.taken
-
-pub returns-in-Ok-false-clause-short : goal.returns-in-Ok-false-clause-short
-returns-in-Ok-false-clause-short c = short_joined c.args.lines.now c.end_line.new.self c.args.progress.now c.in-Ok-false.ensures.ok
-
-pub take_joined-requires-clause-text : goal.take_joined-requires-clause-text
-take_joined-requires-clause-text c = short_text c.args.lines.now c.end_line.new.self c.args.progress.now c.in-Ok-true.ensures.ok c.requires.short

@@ -1,7 +1,6 @@
-use Rattle.std.proofs.Common.{◌+◌, ◌-◌, ◌++◌, length, take, subst, arith}
+use Rattle.std.proofs.Common.{◌++◌, take, subst, arith}
 use Rattle.blif_text.specs.Private.Stands.{Stands}
 use Rattle.blif_text.proofs.Taken.{part_taken, bad_left, rest_long, passed_on}
-use Rattle.blif_text.proofs.Bounds.{short_less}
 use Rattle.blif_text.proofs.reader.text.take_bytes.Goals as goal
 
 pub loop-taken-preserved : goal.loop-taken-preserved
@@ -11,8 +10,6 @@ loop-taken-preserved c = record {
       subst (λ xs. Stands c.take_front.new.lines c.take_front.new.progress xs) (part_taken given c.args.piece.now c.loop-taken.taken c.in_ok-taken.field-0)
       (c.in_ok-taken.ensures.ok (given ++ take c.loop-taken.taken c.args.piece.now) (c.loop-taken.invariant.stands given s));
   sound = λ h. c.in_ok-taken.ensures.sound (c.loop-taken.invariant.sound h);
-  short = λ more s. c.in_ok-taken.ensures.short more (c.loop-taken.invariant.short (c.in_ok-taken.field-0 + more)
-      (short_less c.args.lines.now c.args.progress.now _ (c.loop-taken.taken + (c.in_ok-taken.field-0 + more)) (omega arith) s));
   number = omega (arith, c.take_front.ensures.number, c.loop-taken.invariant.number, c.in_ok-taken.ensures.some.0);
 }
 
@@ -20,14 +17,3 @@ pub returns-in_err-taken-clause-bad : goal.returns-in_err-taken-clause-bad
 returns-in_err-taken-clause-bad c = passed_on _ _ c.in_err-taken.field-0.0 c.from_residual.ensures.1 (λ given s.
     bad_left given c.args.piece.now c.loop-taken.taken c.in_err-taken.field-0.0
     (c.in_err-taken.ensures.bad (given ++ take c.loop-taken.taken c.args.piece.now) (c.loop-taken.invariant.stands given s)))
-
-pub take_front-requires-clause-short : goal.take_front-requires-clause-short
-take_front-requires-clause-short c =
-    let left = length c.args.piece.now - c.loop-taken.taken in
-    short_less c.loop-taken.lines c.loop-taken.progress left _ (omega (arith, rest_long c.args.piece.now c.loop-taken.taken))
-    (c.loop-taken.invariant.short left
-    (short_less c.args.lines.now c.args.progress.now (length c.args.piece.now) (c.loop-taken.taken + left) (omega (arith, c.loop-taken.invariant.within)) c.requires.short))
-
-pub returns-clause-short : goal.returns-clause-short
-returns-clause-short c = λ more s. c.loop-taken.invariant.short more
-    (short_less c.args.lines.now c.args.progress.now (length c.args.piece.now + more) (c.loop-taken.taken + more) (omega (arith, c.loop-taken.invariant.within)) s)

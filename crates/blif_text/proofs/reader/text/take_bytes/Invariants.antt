@@ -1,7 +1,6 @@
 use Rattle.std.proofs.Common.{◌≤◌, ◌+◌, ◌-◌, ◌++◌, ℕ, List, length, take}
 use Rattle.blif_text.specs.Private.Stands.{Stands}
 use Rattle.blif_text.specs.Private.Sound.{IsSound}
-use Rattle.blif_text.specs.Private.Bounds.{IsShort}
 use Rattle.blif_text.proofs.reader.text.take_bytes.Given as goal
 
 abbrev pub invariant-loop-taken : goal.invariant-loop-taken
@@ -9,7 +8,6 @@ invariant-loop-taken l = record {
   within : l.taken ≤ length l.piece;
   stands : (given : List ℕ) → Stands l.fn.lines l.fn.progress given → Stands l.lines l.progress (given ++ take l.taken l.piece);
   sound : IsSound l.fn.progress → IsSound l.progress;
-  short : (more : ℕ) → IsShort l.fn.lines l.fn.progress (l.taken + more) → IsShort l.lines l.progress more;
   number : l.lines.number ≤ l.fn.lines.number + l.taken;
 }
 

@@ -1,18 +1,10 @@
-use Rattle.std.proofs.Common.{◌≡◌, ◌+◌, ◌++◌, Some, None, length, take, subst, refl, arith}
+use Rattle.std.proofs.Common.{◌≡◌, ◌++◌, Some, None, take, subst, refl}
 use Rattle.std.specs.List.{position}
 use Rattle.blif_text.specs.Text.{is_line_feed}
 use Rattle.blif_text.specs.Private.Pending.{with_bytes}
 use Rattle.blif_text.specs.Private.Stands.{Stands}
-use Rattle.blif_text.proofs.Taken.{found, front_taken, all_taken, line_front, bad_line, passed_on}
-use Rattle.blif_text.proofs.Bounds.{short_front, short_less}
+use Rattle.blif_text.proofs.Taken.{front_taken, all_taken, line_front, bad_line, passed_on}
 use Rattle.blif_text.proofs.reader.text.take_front.Goals as goal
-
-pub take_line-requires-clause-short : goal.take_line-requires-clause-short
-take_line-requires-clause-short c =
-    let e : position is_line_feed c.args.bytes.now ≡ Some c.in-Some.end = cc in
-    let f = found c.args.bytes.now c.in-Some.end e in
-    short_front c.args.lines.now (with_bytes c.args.lines.now (take c.in-Some.end c.args.bytes.now)) c.args.progress.now c.args.bytes.now c.in-Some.end 0 refl
-    (short_less c.args.lines.now c.args.progress.now (length c.args.bytes.now) (c.in-Some.end + 1 + 0) (omega (arith, f.0, f.1)) c.requires.short)
 
 pub returns-in_ok-take_line-in-Some-clause-ok : goal.returns-in_ok-take_line-in-Some-clause-ok
 returns-in_ok-take_line-in-Some-clause-ok c = λ given s.
@@ -33,7 +25,3 @@ pub returns-in_ok-take_inner-in-None-clause-ok : goal.returns-in_ok-take_inner-i
 returns-in_ok-take_inner-in-None-clause-ok c = λ given s.
     let e : position is_line_feed c.args.bytes.now ≡ None = cc in
     all_taken c.args.lines.now c.take_inner.new.lines c.args.progress.now c.args.bytes.now e c.in_ok-take_inner-in-None.ensures.ok given s
-
-pub returns-in_ok-take_line-in-Some-clause-short : goal.returns-in_ok-take_line-in-Some-clause-short
-returns-in_ok-take_line-in-Some-clause-short c = λ more s. c.in_ok-take_line-in-Some.ensures.short more
-    (short_front c.args.lines.now (with_bytes c.args.lines.now (take c.in-Some.end c.args.bytes.now)) c.args.progress.now c.args.bytes.now c.in-Some.end more refl s)
