@@ -1,6 +1,7 @@
 -- The law of 128 times, and what follows for limits.
 use Rattle.std.proofs.Common.{arith}
 use Rattle.std.specs.Prelude.{count_by}
+use Rattle.limits.proofs.MostLaws.{hardened_is}
 use Rattle.flat_net.specs.Net.{Net, IsValid}
 use Rattle.certificate.proofs.Lengths.{text_length}
 use Rattle.blif_writer.proofs.Lengths.{text_sum}
@@ -18,9 +19,10 @@ texts_are_short n valid h k is =
     }
 
 pub texts_keep_limits : (n : Net) → IsValid n → HardenedTextsKeepLimits n
-texts_keep_limits n valid h k f is few =
+texts_keep_limits n valid l h k f is few =
     let short = texts_are_short n valid h k is in
-    record { design = λ g. omega (arith, few, short.design f g); certificate = omega (arith, few, short.certificate f) }
+    let times = hardened_is l in
+    record { design = λ g. omega (arith, times, few, short.design f g); certificate = omega (arith, times, few, short.certificate f) }
 
 pub text_keeps_limit : (n : Net) → IsValid n → FlatTextKeepsLimit n
 text_keeps_limit n valid library limit f is = omega (arith, text_sum n f valid, limit_kept library limit (count_by (λ bit. bit) f) n is.flat)

@@ -1,5 +1,7 @@
 -- How long the texts of a hardened design are, beside the flat text of its original.
 use Rattle.std.specs.Prelude.{ℕ, ◌*◌, ◌<◌, ◌≤◌, Bool, List, length}
+use Rattle.limits.specs.declared.Limits.{Limits}
+use Rattle.limits.specs.Most.{most_original, most_hardened}
 use Rattle.flat_net.specs.Net.{Net, IsValid}
 use Rattle.certificate.specs.Cert.{PlainCert, IsCert}
 use Rattle.certificate.specs.Text.{cert_text}
@@ -15,10 +17,10 @@ pub record AreShort (n h : Net) (k : PlainCert) : Type 0 where
   pub design : (f g : List Bool) → length (free_text h g) ≤ 128 * length (free_text n f)
   pub certificate : (f : List Bool) → length (cert_text n h k) ≤ 128 * length (free_text n f)
 
--- both texts have at most as many bytes as a file of them may have
-pub record KeepLimits (n h : Net) (k : PlainCert) : Type 0 where
-  pub design : (g : List Bool) → length (free_text h g) ≤ 1073741824
-  pub certificate : length (cert_text n h k) ≤ 1073741824
+-- under these limits both texts have at most as many bytes as a file of them may have
+pub record KeepLimits (l : Limits) (n h : Net) (k : PlainCert) : Type 0 where
+  pub design : (g : List Bool) → length (free_text h g) ≤ most_hardened l
+  pub certificate : length (cert_text n h k) ≤ most_hardened l
 
 -- h and k are a hardened form of n: plain or lean, of either version, for some size of partitions and some choice of pins that are voted
 -- besides those that have to be
@@ -38,9 +40,9 @@ pub record IsHardenedFrom (n h : Net) (k : PlainCert) : Type 0 where
 abbrev pub HardenedTextsAreShort : Net → Type 0
 HardenedTextsAreShort n = (h : Net) (k : PlainCert) → IsHardenedFrom n h k → AreShort n h k
 
--- so they keep their limit where the flat text of the original keeps its own
+-- so they keep their limit where the flat text of the original keeps its own, with the usual limits and with the large ones
 abbrev pub HardenedTextsKeepLimits : Net → Type 0
-HardenedTextsKeepLimits n = (h : Net) (k : PlainCert) (f : List Bool) → IsHardenedFrom n h k → length (free_text n f) ≤ 8388608 → KeepLimits n h k
+HardenedTextsKeepLimits n = (l : Limits) (h : Net) (k : PlainCert) (f : List Bool) → IsHardenedFrom n h k → length (free_text n f) ≤ most_original l → KeepLimits l n h k
 
 -- a design that a library is flattened to within a limit has a flat text within it
 abbrev pub FlatTextKeepsLimit : Net → Type 0

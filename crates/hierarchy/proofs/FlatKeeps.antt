@@ -1,8 +1,9 @@
 -- What the flat model keeps.
-use Rattle.std.proofs.Common.{◌≡◌, ℕ, zero, suc, ◌+◌, ◌^◌, ◌<◌, ◌≤◌, List, [], ◌∷◌, length, map, refl, sym, ap, subst, ◌∙◌, arith, Option, None, Some}
+use Rattle.std.proofs.Common.{◌≡◌, Bool, true, false, ◌&&◌, ℕ, zero, suc, ◌+◌, ◌<◌, ◌≤◌, List, [], ◌∷◌, length, map, refl, sym, ap, subst, ◌∙◌, arith, Option, None, Some}
 use Rattle.std.specs.Prelude.{All, slice_get, slice_index_or, flat_map, option_and_then}
 use Rattle.std.specs.Option.{option_map_or}
 use Rattle.std.specs.List.{sum_by}
+use Rattle.std.proofs.lemmas.Bool.{ltb-true}
 use Rattle.std.proofs.lemmas.List.{length-map, length-append, map-append}
 use Rattle.std.proofs.lemmas.List.Elements.{All-cons, All-nil, All-append, All-head, All-tail}
 use Rattle.std.proofs.lemmas.List.Sums.{sum_by-cons}
@@ -13,9 +14,9 @@ use Rattle.blif_text.specs.Library.{FitsPins, IsModel, IsLibrary, Differ}
 use Rattle.flat_net.specs.Draft.{AreDistinct, reads_of}
 use Rattle.flat_net.specs.Faults.{draft_reads}
 use Rattle.library_faults.specs.Graph.{names_of, number_named, model_named}
-use Rattle.library_faults.specs.Flat.{Level, NetElement, NetTable, NetRegister, net_text, resolve, named, main_of, main_level, no_model, elements_with, elements_to, flat_elements, flat_model}
-use Rattle.library_faults.specs.FlatText.{spaced, all_spaced, element_length, text_length}
+use Rattle.library_faults.specs.Flat.{Level, NetElement, net_text, resolve, named, main_of, main_level, no_model, elements_with, elements_to, flat_elements, flat_model}
 use Rattle.hierarchy.specs.Drafted.{drafted, draft_of}
+use Rattle.hierarchy.specs.Private.Countable.{pins_of, is_countable}
 
 as_many : (levels : List Level) (pins : List (List ℕ)) → length (map net_text (map (resolve levels) pins)) ≡ length pins
 as_many levels pins = length-map (map (resolve levels) pins) net_text ∙ length-map pins (resolve levels)
@@ -65,37 +66,34 @@ pub flat_outputs : (library : List PlainModel) → IsLibrary library → Differ 
 unfolding flat_model
 flat_outputs library l = (main_is_model library l.models.each l.some).outputs
 
--- ---- a short text has few nets and pins
+-- ---- the nets and pins of a countable model
 
-few_spaced : (names : List (List ℕ)) → length names ≤ all_spaced names
-few_spaced [] = omega arith
-few_spaced (name ∷ names) = omega (arith, sum_by-cons spaced name names, few_spaced names)
+both : (a b : Bool) → (a && b) ≡ true → (a ≡ true) × (b ≡ true)
+both true b e = (refl, e)
+both false b e = absurd cc
 
-one_cost : (e : PlainElement) → length (drafted e) + length (flat_map reads_of (drafted e)) ≤ element_length e
-one_cost (Table pins out cover) = omega (arith, few_spaced pins, length-append pins [])
-one_cost (Register pin out control init) = omega arith
-one_cost (Instance model bindings) = omega arith
+few_drafted : (es : List PlainElement) → length (flat_map drafted es) ≤ length es
+few_drafted [] = omega arith
+few_drafted (Table pins out cover ∷ es) = omega (arith, few_drafted es)
+few_drafted (Register pin out control init ∷ es) = omega (arith, few_drafted es)
+few_drafted (Instance model bindings ∷ es) = omega (arith, few_drafted es)
 
-all_cost : (es : List PlainElement) → length (flat_map drafted es) + length (flat_map reads_of (flat_map drafted es)) ≤ sum_by element_length es
-all_cost [] = omega arith
-all_cost (e ∷ es) = omega (arith, sum_by-cons element_length e es, one_cost e, all_cost es, length-append (drafted e) (flat_map drafted es), ap length (flat_map-append reads_of (drafted e) (flat_map drafted es)), length-append (flat_map reads_of (drafted e)) (flat_map reads_of (flat_map drafted es)))
+one_reads : (e : PlainElement) → length (flat_map reads_of (drafted e)) ≡ pins_of e
+one_reads (Table pins out cover) = omega (arith, length-append pins [])
+one_reads (Register pin out control init) = refl
+one_reads (Instance model bindings) = refl
 
-pub few_nets : (m : PlainModel) → text_length m ≤ 1073741824 → length (draft_of m).inputs + length (draft_of m).elements < 4294967295
-unfolding text_length draft_of
-few_nets m short = omega (arith, few_spaced m.inputs, all_cost m.elements)
+all_reads : (es : List PlainElement) → length (flat_map reads_of (flat_map drafted es)) ≡ sum_by pins_of es
+all_reads [] = refl
+all_reads (e ∷ es) = omega (arith, sum_by-cons pins_of e es, one_reads e, all_reads es, ap length (flat_map-append reads_of (drafted e) (flat_map drafted es)), length-append (flat_map reads_of (drafted e)) (flat_map reads_of (flat_map drafted es)))
 
-pub few_reads : (m : PlainModel) → text_length m ≤ 1073741824 → length (draft_reads (draft_of m)) < 4294967295
-unfolding text_length draft_of
-few_reads m short = omega (arith, all_cost m.elements)
+pub few_nets : (m : PlainModel) → is_countable m ≡ true → length (draft_of m).inputs + length (draft_of m).elements < 4294967295
+unfolding draft_of is_countable
+few_nets m e = omega (arith, few_drafted m.elements, ltb-true (length m.inputs + length m.elements) 4294967295 (both _ _ e).0)
 
-named_long : (es : List NetElement) → length (map named es) ≤ sum_by element_length (map named es)
-named_long [] = omega arith
-named_long (NetTable pins out cover ∷ es) = omega (arith, sum_by-cons element_length (named (NetTable pins out cover)) (map named es), named_long es)
-named_long (NetRegister pin out control init ∷ es) = omega (arith, sum_by-cons element_length (named (NetRegister pin out control init)) (map named es), named_long es)
-
-pub few_elements : (library : List PlainModel) → text_length (flat_model library) ≤ 1073741824 → length (flat_model library).elements < 2 ^ 32
-unfolding text_length flat_model
-few_elements library short = omega (arith, named_long (flat_elements library))
+pub few_reads : (m : PlainModel) → is_countable m ≡ true → length (draft_reads (draft_of m)) < 4294967295
+unfolding draft_of is_countable
+few_reads m e = omega (arith, all_reads m.elements, ltb-true (sum_by pins_of m.elements) 4294967295 (both _ _ e).1)
 
 pub distinct : (names : List (List ℕ)) → Differ names → AreDistinct names
 distinct names d j k jk kl = d j k [] jk kl

@@ -4,3 +4,4 @@ pub mod Bindings
 pub mod Walk
 pub mod Naming
 pub mod Stages
+pub mod Countable

@@ -6,6 +6,7 @@
 //! from models to a design (`flattened`); each public call hands it the models, copied or its own.
 
 pub(crate) mod copies;
+pub(crate) mod countable;
 pub(crate) mod drafted;
 pub(crate) mod flat_model;
 pub(crate) mod flattening;

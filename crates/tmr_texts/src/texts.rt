@@ -2,7 +2,7 @@
 ghost use Rattle.std.specs.Prelude.{◌≡◌, ◌+◌, ◌≤◌, ◌<◌, ◌∷◌, [], ◌++◌, codes, length, max, IfOk, OnOk};
 ghost use Rattle.std.specs.Fmt.{decimal};
 ghost use Rattle.tmr_words.specs.FileWords.{read_words as read_pieces};
-ghost use Rattle.tmr_texts.specs.Texts.{joined, greatest, open_word, accepted_line, place_text, not_accepted_line, refused_line, load_fault_line, save_fault_line, counted_text, flattened_line, guard_line, aag_line, graph_line, guarded_line, not_guarded_line, line_reason, calls, usage_text, memory_text, certificate_too_long};
+ghost use Rattle.tmr_texts.specs.Texts.{joined, greatest, open_word, accepted_line, place_text, not_accepted_line, refused_line, load_fault_line, save_fault_line, counted_text, flattened_line, guard_line, aag_line, graph_line, guarded_line, not_guarded_line, line_reason, calls, large_line, usage_text, memory_text, certificate_too_long};
 ghost use Rattle.tmr_words.specs.Topics.{call_of};
 ghost use Rattle.flat_net.specs.Net.{Net, net_count};
 ghost use Rattle.validator.specs.Place.{IsPlace};
@@ -60,15 +60,20 @@ fn call_lines(alloc: Global) -> Result<Vec<u8>, OutOfMemory>
     Ok(text)
 }
 
+/// The line of the option that each command has which reads a design.
+fn large_line() -> &'static str
+    ensures { result.now ≡ large_line }
+{
+    "       --large, with each command that reads ORIG or AAG: files may be 16 times as large\n"
+}
+
 /// How the program is called: a line for each command, and one for the option that most of them have.
 #[tactic(auto, unfolding(crate::specs::Texts::usage_text))]
 pub fn usage(alloc: Global) -> Result<Vec<u8>, OutOfMemory>
     ensures { IfOk result (λ text. text.items ≡ usage_text) }
 {
     let mut text = call_lines(alloc)?;
-    text.extend_from_slice(
-        b"       --large, with each command that reads ORIG or AAG: files may be 16 times as large\n".as_slice(),
-    )?;
+    text.extend_from_slice(large_line().as_bytes())?;
     Ok(text)
 }
 

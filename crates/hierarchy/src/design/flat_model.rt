@@ -1,5 +1,6 @@
 //! The flat model of a library: the main model with the flat elements, whose nets have their texts as names.
 ghost use Rattle.std.specs.Prelude.{◌≡◌, ◌≤◌, ◌<◌, true, map, length, All, IfOk, OnOk, IfErr, None};
+ghost use Rattle.limits.specs.Most.{widest_text};
 ghost use Rattle.blif_text.specs.Library.{IsLibrary};
 ghost use Rattle.blif_text.specs.Views.{plain_model, plain_element};
 ghost use Rattle.library_faults.specs.Graph.{names_of};
@@ -155,7 +156,7 @@ pub(crate) fn taken_model(
     limit: u64,
 ) -> Result<BlifModel, FlatFault>
     requires library { IsLibrary (map plain_model models.items) }
-    requires limit { limit ≤ 1073741824 }
+    requires limit { limit ≤ widest_text }
     ensures model { IfOk result (λ flat. IsFlatModel (map plain_model models.items) limit (plain_model flat)) }
     ensures fault { IfErr result (λ fault. IsFlatFault (map plain_model models.items) limit fault) }
 {

@@ -1,5 +1,6 @@
 //! The flat design of a library.
 ghost use Rattle.std.specs.Prelude.{◌≡◌, ◌≢◌, ◌≤◌, ◌+◌, ◌*◌, ◌⊎◌, ℕ, Bool, List, map, All, count_by, IfOk, OnOk, IfErr, IsErrAnd, MatchResult};
+ghost use Rattle.limits.specs.Most.{widest_text};
 ghost use Rattle.blif_text.specs.Library.{IsLibrary, FitsPins, Differ};
 ghost use Rattle.blif_text.specs.Models.{PlainModel};
 ghost use Rattle.blif_text.specs.Views.{plain_model};
@@ -14,6 +15,7 @@ ghost use Rattle.flat_net.specs.Net.{Net, net_count, pin_total};
 ghost use Rattle.flat_net.specs.Faults.{net_of_draft, IsFaultless, IsFaultOf};
 
 use crate::design::copies::copy_models;
+use crate::design::countable::is_countable;
 use crate::design::drafted::{into_draft, open_marks};
 use crate::design::flat_model::taken_model;
 use crate::flat_fault::FlatFault;
@@ -28,17 +30,20 @@ pub struct Flat {
     pub assumed: u32,
 }
 
-/// The design of a flat model, whose names and covers are moved into it.
+/// The design of a flat model, whose names and covers are moved into it. One of more nets or pins than 32 bits count
+/// is answered by want of memory.
 #[tactic(auto, using(crate::proofs::FlatKeeps::draft_laws))]
 fn built(alloc: Global, flat: BlifModel) -> Result<FlatNet, NetFault>
     requires pins { All FitsPins (plain_model flat).elements }
     requires inputs { Differ (plain_model flat).inputs }
     requires outputs { Differ (plain_model flat).outputs }
-    requires short { text_length (plain_model flat) ≤ 1073741824 }
     ensures ok { IfOk result (λ net. net.net ≡ net_of_draft (draft_of_model (plain_model flat))) }
     ensures faultless { OnOk result (IsFaultless (draft_of_model (plain_model flat))) }
     ensures fault { IfErr result (λ fault. IsFaultOf (draft_of_model (plain_model flat)) fault) }
 {
+    if !is_countable(&flat) {
+        return Err(NetFault::Memory);
+    }
     match into_draft(alloc, flat) {
         Ok(draft) => build(alloc, draft),
         Err(_) => Err(NetFault::Memory),
@@ -51,7 +56,6 @@ fn design_of(alloc: Global, flat: BlifModel) -> Result<FlatNet, NetFault>
     requires pins { All FitsPins (plain_model flat).elements }
     requires inputs { Differ (plain_model flat).inputs }
     requires outputs { Differ (plain_model flat).outputs }
-    requires short { text_length (plain_model flat) ≤ 1073741824 }
     ensures ok { IfOk result (λ net. net.net ≡ net_of_draft (draft_of_model (plain_model flat))) }
     ensures faultless { OnOk result (IsFaultless (draft_of_model (plain_model flat))) }
     ensures fault { IfErr result (λ fault. IsFaultOf (draft_of_model (plain_model flat)) fault) }
@@ -72,7 +76,6 @@ fn flat_design(alloc: Global, flat: BlifModel, limit: u64) -> Result<FreeNet, Fl
     requires inputs { Differ (plain_model flat).inputs }
     requires outputs { Differ (plain_model flat).outputs }
     requires short { text_length (plain_model flat) ≤ limit }
-    requires limit { limit ≤ 1073741824 }
     ensures ok { (library : List PlainModel) → IsFlatModel library limit (plain_model flat)
         → IfOk result (λ made. IsFreeFlat library limit made.design.net made.free) }
     ensures fault { (library : List PlainModel) → IsFlatModel library limit (plain_model flat)
@@ -92,7 +95,7 @@ fn flat_design(alloc: Global, flat: BlifModel, limit: u64) -> Result<FreeNet, Fl
 #[tactic(auto, using(crate::proofs::FlatModels::flat_kept))]
 fn taken_flat(alloc: Global, models: Vec<BlifModel>, limit: u64) -> Result<FreeNet, FlatFault>
     requires library { IsLibrary (map plain_model models.items) }
-    requires limit { limit ≤ 1073741824 }
+    requires limit { limit ≤ widest_text }
     ensures ok { IfOk result (λ flat. IsFreeFlat (map plain_model models.items) limit flat.design.net flat.free) }
     ensures fault { IfErr result (λ fault. IsFlatFault (map plain_model models.items) limit fault) }
     ensures nets { IfOk result (λ flat. 2 * (net_count flat.design.net + pin_total flat.design.net) ≤ limit) }
@@ -105,7 +108,7 @@ fn taken_flat(alloc: Global, models: Vec<BlifModel>, limit: u64) -> Result<FreeN
 /// The same design, or the same fault. It is the only answer: this is the one way, and each public call goes it.
 fn flattened(alloc: Global, models: Vec<BlifModel>, limit: u64) -> Result<FreeNet, FlatFault>
     requires library { IsLibrary (map plain_model models.items) }
-    requires limit { limit ≤ 1073741824 }
+    requires limit { limit ≤ widest_text }
     ensures ok { IfOk result (λ flat. IsFreeFlat (map plain_model models.items) limit flat.design.net flat.free) }
     ensures ok_only { (n : Net) (free : List Bool) → IsFreeFlat (map plain_model models.items) limit n free
         → MatchResult result (λ flat. (flat.design.net ≡ n) × (flat.free ≡ free)) (λ fault. fault ≡ Memory) }
@@ -133,10 +136,11 @@ fn models_of(lib: Library) -> Vec<BlifModel>
 ///
 /// Where the library has a flat design, that design is the answer. Where it has a fault, the first one is,
 /// of which a loop may be told by any list that is one. It never has both. `Memory` may come in place of
-/// either. Nets and pins of a design are together at most half of `limit`, and the rows of all covers,
-/// each of the cover's width plus 1, at most `limit`. The library is not changed: its models are copied first.
+/// either, and comes where the nets of the flat text, or its pins, are more than 32 bits count. Nets and pins of a
+/// design are together at most half of `limit`, and the rows of all covers, each of the cover's width plus 1, at
+/// most `limit`. The library is not changed: its models are copied first.
 pub fn flatten_free(alloc: Global, lib: &Library, limit: u64) -> Result<FreeNet, FlatFault>
-    requires { limit ≤ 1073741824 }
+    requires { limit ≤ widest_text }
     ensures ok { IfOk result (λ flat. IsFreeFlat lib.now limit flat.design.net flat.free) }
     ensures ok_only { (n : Net) (free : List Bool) → IsFreeFlat lib.now limit n free
         → MatchResult result (λ flat. (flat.design.net ≡ n) × (flat.free ≡ free)) (λ fault. fault ≡ Memory) }
@@ -153,7 +157,7 @@ pub fn flatten_free(alloc: Global, lib: &Library, limit: u64) -> Result<FreeNet,
 /// moved into the design, and nothing of it is copied. Of what the library holds nothing is left when the design
 /// is made.
 pub fn flatten_owned(alloc: Global, lib: Library, limit: u64) -> Result<FreeNet, FlatFault>
-    requires { limit ≤ 1073741824 }
+    requires { limit ≤ widest_text }
     ensures ok { IfOk result (λ flat. IsFreeFlat lib limit flat.design.net flat.free) }
     ensures ok_only { (n : Net) (free : List Bool) → IsFreeFlat lib limit n free
         → MatchResult result (λ flat. (flat.design.net ≡ n) × (flat.free ≡ free)) (λ fault. fault ≡ Memory) }
@@ -180,7 +184,7 @@ fn unmarked(flat: FreeNet) -> Flat
 
 /// The same design, and the number of its registers whose initial value is left open. It is read as 0.
 pub fn flatten(alloc: Global, lib: &Library, limit: u64) -> Result<Flat, FlatFault>
-    requires { limit ≤ 1073741824 }
+    requires { limit ≤ widest_text }
     ensures ok { IfOk result (λ flat. IsFlat lib.now limit flat.net.net flat.assumed) }
     ensures ok_only { (n : Net) (open_values : ℕ) → IsFlat lib.now limit n open_values
         → MatchResult result (λ flat. (flat.net.net ≡ n) × (flat.assumed ≡ open_values)) (λ fault. fault ≡ Memory) }
