@@ -1,5 +1,6 @@
 -- What a plan is made of is what a hardened design can be made from.
 use Rattle.std.proofs.Common.{◌≡◌, ◌+◌, ◌≤◌, length, arith}
+use Rattle.limits.specs.Most.{widest_nets}
 use Rattle.tmr_base.specs.Parts.{PlainParts, AreParts}
 use Rattle.flat_net.specs.Net.{Net, net_count, pin_total, IsValid}
 use Rattle.recovery_depth.specs.Depths.{PlainDepths, AreDepths}
@@ -12,7 +13,7 @@ use Rattle.triplicate.specs.Given.{IsGiven}
 use Rattle.triplicate.proofs.Votes.{votes, labels}
 use Rattle.triplicate.proofs.Sizes.{roles_counted, few_voters, few_hardened_pins, outputs_few}
 
-abbrev pub given_of : (kind : Form) (n : Net) (parts : PlainParts) (vs : PlainVotes) (t : PlainDepths) → IsValid n → net_count n + pin_total n ≤ 16777216 → length parts.of ≡ length n.nodes → AreParts parts → parts.count ≤ 4294967295
+abbrev pub given_of : (kind : Form) (n : Net) (parts : PlainParts) (vs : PlainVotes) (t : PlainDepths) → IsValid n → net_count n + pin_total n ≤ widest_nets → length parts.of ≡ length n.nodes → AreParts parts → parts.count ≤ 4294967295
     → IsCutOf kind n parts vs.cut → AreDepths n parts (is_cut_or_extra vs.cut vs.marks) t → IsGiven n parts (pin_is_voted n parts vs) (labeling vs.inputs t)
 given_of kind n parts vs t valid few long range few_parts meets depths = record {
   valid = valid;

@@ -1,5 +1,6 @@
 //! What a hardened form is made of.
 ghost use Rattle.std.specs.Prelude.{◌≡◌, ◌+◌, ◌*◌, ◌<◌, ◌≤◌, ◌^◌, All, length, IfOk, OnOk};
+ghost use Rattle.limits.specs.Most.{widest_nets};
 ghost use Rattle.flat_net.specs.Net.{net_count, pin_total};
 ghost use Rattle.feedback_cut.specs.Inner.{node_pins};
 ghost use Rattle.triplicate.specs.Blocks.{hardened_roles};
@@ -119,7 +120,7 @@ pub fn make_plan(
 ) -> Result<Plan, OutOfMemory>
     requires size { 0 < size }
     requires most { 0 < most }
-    requires few { net_count n.now.net + pin_total n.now.net ≤ 16777216 }
+    requires few { net_count n.now.net + pin_total n.now.net ≤ widest_nets }
     ensures { IfOk result (λ p. IsPlan form n.now.net size inputs most p) }
 {
     let survey = survey_of(alloc, n)?;
@@ -141,7 +142,7 @@ pub fn plan_from(
     requires survey { IsSurvey n.now.net survey }
     requires size { 0 < size }
     requires most { 0 < most }
-    requires few { net_count n.now.net + pin_total n.now.net ≤ 16777216 }
+    requires few { net_count n.now.net + pin_total n.now.net ≤ widest_nets }
     ensures plan { IfOk result (λ p. IsPlan form n.now.net size inputs most p.plan) }
     ensures survey { IfOk result (λ p. IsSurvey n.now.net p.survey) }
 {
@@ -165,7 +166,7 @@ fn plan_of(
 ) -> Result<Plan, OutOfMemory>
     requires chosen { AreChosen form n.now.net size refined }
     requires most { 0 < most }
-    requires few { net_count n.now.net + pin_total n.now.net ≤ 16777216 }
+    requires few { net_count n.now.net + pin_total n.now.net ≤ widest_nets }
     ensures { IfOk result (λ p. IsPlan form n.now.net size inputs most p) }
 {
     let _nodes = nodes_of(n);
