@@ -9,7 +9,7 @@ use tmr_base::OutOfMemory;
 #[derive(Debug, Drop)]
 pub enum GraphFault {
     /// The first line that is not of its form. Where the file ends too early, it is the number of its lines plus 1.
-    Line(u32),
+    Line(u64),
     /// The first variable that is defined a second time.
     Doubled(u32),
     /// The first variable of a next, output or gate literal, in file order, that is not 0 and is not defined.

@@ -27,7 +27,6 @@ pub struct Graph {
 /// come in place of any answer. Loops of gates are not looked for.
 #[tactic(auto, using(crate::proofs::GraphFaults::graph_faults))]
 pub fn graph_of(alloc: Global, bytes: &[u8]) -> Result<Graph, GraphFault>
-    requires { length bytes.now + 1 < 2 ^ 32 }
     ensures file { IfOk result (λ g. IsFile bytes.now (plain_aig g.aig)) }
     ensures once { IfOk result (λ g. IsDefinedOnce (plain_aig g.aig)) }
     ensures known { IfOk result (λ g. IsDefined (plain_aig g.aig)) }

@@ -108,7 +108,6 @@ fn check_symbols(alloc: Global, lines: &mut Lines<'_>, h: &Header) -> Result<(),
 /// The graph of a file, or its first bad line.
 #[tactic(auto, using(crate::proofs::FileLaws::faults))]
 pub fn aig_of_text(alloc: Global, bytes: &[u8]) -> Result<Aig, GraphFault>
-    requires { length bytes.now + 1 < 2 ^ 32 }
     ensures file { IfOk result (λ a. IsFile bytes.now (plain_aig a)) }
     ensures fault { IfErr result (IsLineFault bytes.now) }
 {

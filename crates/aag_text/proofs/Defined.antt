@@ -5,6 +5,7 @@ use Rattle.std.specs.List.{range_with_len, flat_map}
 use Rattle.std.proofs.lemmas.Bool.{ne_eqb, eq-eqb}
 use Rattle.std.proofs.lemmas.List.{length-map}
 use Rattle.std.proofs.lemmas.List.Concat.{flat_map-cons}
+use Rattle.limits.specs.Most.{widest_nets}
 use Rattle.flat_net.specs.First.{HasNone}
 use Rattle.flat_net.specs.Net.{net_count, IsValid}
 use Rattle.flat_net.specs.Free.{FreeDesign}
@@ -134,7 +135,7 @@ greater_all next [] s k d lt = absurd (omega (arith, lt))
 greater_all next (g ∷ gates) s zero d lt = s.3
 greater_all next (g ∷ gates) s (suc k) d lt = greater_all (suc next) gates s.4 k d (omega (arith, lt))
 
-module _ (n : FreeDesign) (a : PlainAig) (v : IsValid n.design.net) (g : IsMadeGraph n a) (few : net_count n.design.net ≤ 16777216) (small : row_total n.design.net ≤ 16777216) where
+module _ (n : FreeDesign) (a : PlainAig) (v : IsValid n.design.net) (g : IsMadeGraph n a) (few : net_count n.design.net ≤ widest_nets) (small : row_total n.design.net ≤ widest_nets) where
   abbrev m : ℕ
   m = length a.inputs + length a.latches + length a.gates
 

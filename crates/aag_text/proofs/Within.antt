@@ -7,6 +7,7 @@ use Rattle.std.proofs.lemmas.List.{length-map}
 use Rattle.std.proofs.lemmas.List.Sums.{sum_by-cons}
 use Rattle.std.proofs.lemmas.List.FromFn.{length-map-range_with_len, get_or-map-range_with_len}
 use Rattle.std.proofs.lemmas.Option.{slice_get-get_or, slice_get_within}
+use Rattle.limits.specs.Most.{widest_nets}
 use Rattle.tmr_base.specs.Names.{is_name, is_name_byte}
 use Rattle.flat_net.specs.Net.{Net, Node, Table, Register, net_count, name_of, is_register, IsValid}
 use Rattle.flat_net.specs.Free.{FreeDesign}
@@ -106,7 +107,7 @@ gates_from m next [] some within stacked = tt
 gates_from m next (g ∷ gates) some within stacked =
     (omega (arith, some, stacked.0), omega (arith, within, stacked.0), omega (arith, within, stacked.1), omega (arith, within, stacked.2), gates_from m (suc next) gates (omega (arith, some)) (omega (arith, within)) stacked.4)
 
-module _ (n : FreeDesign) (a : PlainAig) (v : IsValid n.design.net) (g : IsMadeGraph n a) (few : net_count n.design.net ≤ 16777216) (small : row_total n.design.net ≤ 16777216) where
+module _ (n : FreeDesign) (a : PlainAig) (v : IsValid n.design.net) (g : IsMadeGraph n a) (few : net_count n.design.net ≤ widest_nets) (small : row_total n.design.net ≤ widest_nets) where
   abbrev m : ℕ
   m = length a.inputs + length a.latches + length a.gates
 

@@ -2,6 +2,7 @@
 ghost use Rattle.std.specs.Prelude.{◌≡◌, ◌↔◌, ◌+◌, ◌<◌, ◌≤◌, ℕ, Some, map, length, slice_get, OnOk, IfOk, IsTrue};
 ghost use Rattle.std.specs.Prelude.{◌++◌, if◌then◌else◌};
 ghost use Rattle.std.specs.List.{range_with_len};
+ghost use Rattle.limits.specs.Most.{widest_nets};
 ghost use Rattle.flat_net.specs.Net.{net_count, node_of, pins_at, IsTable, IsRegister};
 ghost use Rattle.flat_net.specs.Free.{node_bit};
 ghost use Rattle.aag_text.specs.Same.{registers, register_start};
@@ -272,8 +273,8 @@ fn inputs_of(alloc: Global, count: u32) -> Result<Vec<u32>, AllocError>
 
 /// The literals of all nets, and the gates that they take.
 fn all_literals(alloc: Global, n: &FlatNet) -> Result<(Vec<Literal>, Gates), OutOfMemory>
-    requires few { net_count n.now.net ≤ 16777216 }
-    requires small { row_total n.now.net ≤ 16777216 }
+    requires few { net_count n.now.net ≤ widest_nets }
+    requires small { row_total n.now.net ≤ widest_nets }
     ensures { IfOk result (λ r. HasLiterals n.now r.0.items r.1) }
 {
     let inputs = n.input_count();
@@ -285,8 +286,8 @@ fn all_literals(alloc: Global, n: &FlatNet) -> Result<(Vec<Literal>, Gates), Out
 
 /// The graph of a design.
 pub fn aig_of(alloc: Global, n: &FreeNet) -> Result<Aig, OutOfMemory>
-    requires few { net_count n.now.design.net ≤ 16777216 }
-    requires small { row_total n.now.design.net ≤ 16777216 }
+    requires few { net_count n.now.design.net ≤ widest_nets }
+    requires small { row_total n.now.design.net ≤ widest_nets }
     ensures { IfOk result (λ a. IsMadeGraph n.now (plain_aig a)) }
 {
     let net = n.net();

@@ -1,5 +1,6 @@
 //! Writing the file of a design.
 ghost use Rattle.std.specs.Prelude.{◌≡◌, ◌+◌, ◌≤◌, length, IfOk};
+ghost use Rattle.limits.specs.Most.{widest_nets};
 ghost use Rattle.flat_net.specs.Net.{net_count, pin_total};
 ghost use Rattle.hierarchy.specs.Sizes.{row_total};
 ghost use Rattle.aag_text.specs.Aig.{plain_aig};
@@ -31,8 +32,8 @@ fn gate_count(a: &Aig) -> u64
 /// design's on outputs and registers. One pass over the tables; nothing is simplified or shared. `OutOfMemory`
 /// says that there was no memory.
 pub fn write_counted(alloc: Global, n: &FreeNet) -> Result<CountedFile, OutOfMemory>
-    requires few { net_count n.now.design.net + pin_total n.now.design.net ≤ 16777216 }
-    requires small { row_total n.now.design.net ≤ 16777216 }
+    requires few { net_count n.now.design.net + pin_total n.now.design.net ≤ widest_nets }
+    requires small { row_total n.now.design.net ≤ widest_nets }
     ensures { IfOk result (λ file. IsCountedFile n.now file.bytes.items file.gates) }
 {
     let net = n.net();
@@ -47,8 +48,8 @@ pub fn write_counted(alloc: Global, n: &FreeNet) -> Result<CountedFile, OutOfMem
 
 /// The same without the number.
 pub fn write_aag(alloc: Global, n: &FreeNet) -> Result<Vec<u8>, OutOfMemory>
-    requires few { net_count n.now.design.net + pin_total n.now.design.net ≤ 16777216 }
-    requires small { row_total n.now.design.net ≤ 16777216 }
+    requires few { net_count n.now.design.net + pin_total n.now.design.net ≤ widest_nets }
+    requires small { row_total n.now.design.net ≤ widest_nets }
     ensures { IfOk result (λ bytes. IsFileOf n.now bytes.items) }
 {
     let file = write_counted(alloc, n)?;

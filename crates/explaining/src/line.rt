@@ -17,7 +17,7 @@ fn line_at(bytes: &[u8], index: usize) -> Option<&[u8]>
 /// The line with this number, counted from 1, as it stands between line feeds, cut at 200 bytes. There is nothing at number 0 and
 /// past the last line. One pass over the bytes up to that line.
 #[tactic(auto, using(crate::proofs::Shown::lines_shown))]
-pub fn line_of(bytes: &[u8], number: u32) -> &[u8]
+pub fn line_of(bytes: &[u8], number: u64) -> &[u8]
     ensures { result.now ≡ shown_line bytes.now number }
 {
     if number == 0 {

@@ -6,6 +6,7 @@ use Rattle.std.proofs.lemmas.List.{append-nil}
 use Rattle.std.proofs.lemmas.List.Concat.{flat_map-append}
 use Rattle.std.proofs.lemmas.List.Folds.{flat_map-map}
 use Rattle.std.proofs.lemmas.Option.{slice_get_within}
+use Rattle.limits.specs.Most.{widest_nets}
 use Rattle.tmr_base.specs.declared.ids.Edge.{Edge}
 use Rattle.flat_net.specs.Net.{Net, Node, Table, Register, Design, net_count, pin_total, name_of, IsValid, IsWired, IsDesign}
 use Rattle.blif_writer.specs.Text.{with_marks, clock_words, control_words, init_word, start_of, row_lines, net_words, node_lines, line_text, lines_text, flat_text}
@@ -79,7 +80,7 @@ alarm_regroup : (first names last rows : List ℕ) → ((first ++ (names ++ (32 
 alarm_regroup first names last rows = simp (append_assoc, append-nil)
 
 -- the guarded design is a valid one
-pub guarded_valid : (d : Design) → net_count d.net + pin_total d.net ≤ 16777216 → IsDesign d → IsValid (guard_net d.net)
+pub guarded_valid : (d : Design) → net_count d.net + pin_total d.net ≤ widest_nets → IsDesign d → IsValid (guard_net d.net)
 guarded_valid d few is = is_valid d.net is.valid few (guard_order d.net d.order) (is_order d.net is.valid d.order is.order)
 
 module _ (n : Net) (valid : IsValid n) where

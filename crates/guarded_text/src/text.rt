@@ -1,5 +1,6 @@
 //! The flat text of the guarded design.
 ghost use Rattle.std.specs.Prelude.{◌≡◌, ◌≤◌, ◌+◌, ℕ, length, IfOk};
+ghost use Rattle.limits.specs.Most.{widest_nets};
 ghost use Rattle.flat_net.specs.Net.{IsValid, net_count, pin_total};
 ghost use Rattle.blif_writer.specs.Length.{flat_length};
 ghost use Rattle.blif_writer.specs.NetOf.{IsNetOf};
@@ -17,7 +18,7 @@ use tmr_base::OutOfMemory;
 
 /// How many nodes the guarded design has.
 pub fn guarded_nodes(n: &FlatNet) -> u32
-    requires { net_count n.now.net + pin_total n.now.net ≤ 16777216 }
+    requires { net_count n.now.net + pin_total n.now.net ≤ widest_nets }
     ensures { result ≡ length (guard_net n.now.net).nodes }
 {
     let _inputs = n.input_count();
@@ -41,7 +42,7 @@ fn lines_of(alloc: Global, n: &FlatNet) -> Result<Vec<u8>, AllocError>
 /// The flat text of the guarded design: each input and node twice, a comparator for each output, and an alarm, which is
 /// on exactly where the two copies of some output differ. One pass over the original. The one refusal is want of memory.
 pub fn guard_text(alloc: Global, n: &FlatNet) -> Result<Vec<u8>, OutOfMemory>
-    requires { net_count n.now.net + pin_total n.now.net ≤ 16777216 }
+    requires { net_count n.now.net + pin_total n.now.net ≤ widest_nets }
     ensures text { IfOk result (λ bytes. bytes.items ≡ flat_text (guard_net n.now.net)) }
     // Its length, node by node and pin by pin.
     ensures length { IfOk result (λ bytes. length bytes.items ≡ flat_length (guard_net n.now.net)) }

@@ -209,6 +209,7 @@ hints_none n size p i gains hints is begun none =
       kept = begun.kept;
       within = omega (arith, begun.none, is.gained.within);
       few = λ q. omega (arith, none q);
+      above = λ q. omega (arith, none q);
       near = λ q l room. at q;
     }
   where
@@ -256,6 +257,7 @@ hinted_hints n size p i row gains hints j at is = record {
   kept = is.kept;
   within = omega (arith, is.counted, is.within, ap length at);
   few = is.few;
+  above = is.most.above;
   near = λ q l room. omega (arith, is.near q l room, ap (λ (k : ℕ). count_by (is_near n p.of.items i q) (take k row)) is.counted, ap (λ (xs : List ℕ). count_by (is_near n p.of.items i q) (take (gains.counted + hints.counted) xs)) at);
 }
 
@@ -268,3 +270,13 @@ hinted_loss n size p i q gains hints is are l room =
     let both = count_both (λ x. is_fresh n p.of.items i x q) (take all row) in
     let long = length-take all row in
     omega (arith, missed_in_all n p i q gains is.gained, are.near q l room, are.few q, are.within, both, long, one_of_two (is_wanted n p.of.items i q), loss_at_least n p.of.items i q row all (is.tracks.sources i is.node))
+
+-- nor less than the highest counts leave
+pub hinted_least : (n : Net) (size : ℕ) (p : Partitioning) (i q : ℕ) (gains hints : Gains) → IsCounted n p i gains → AreHints n size p i gains hints → q < p.count → has_room size (held_parts p) q ≡ true
+    → (gains.counted + 1 + hints.counted) - (gains.most + hints.most) ≤ loss n p.of.items i q
+hinted_least n size p i q gains hints is are l room =
+    let row : List ℕ = get_or p.sources i [] in
+    let all = gains.counted + hints.counted in
+    let both = count_both (λ x. is_fresh n p.of.items i x q) (take all row) in
+    let long = length-take all row in
+    omega (arith, is.gained.most.above q, are.above q, are.near q l room, are.within, both, long, one_of_two (is_wanted n p.of.items i q), loss_at_least n p.of.items i q row all (is.tracks.sources i is.node))

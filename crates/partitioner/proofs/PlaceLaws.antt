@@ -79,6 +79,10 @@ pub settled_at_once : (n : Net) (size : ℕ) (p : Partitioning) (i least : ℕ) 
 settled_at_once n size p i least lead tracks l is low settled =
     place_is n size p i lead.place tracks l (record { reached = is.reached; best = λ c h room. settled_leads n size p i least c lead is settled (low c) })
 
+pub settled_open : (n : Net) (size : ℕ) (p : Partitioning) (i least : ℕ) (lead : Lead) → Tracks n p → i < length n.nodes → IsLead n size p i lead → ((q : ℕ) → q < p.count → has_room size (held_parts p) q ≡ true → least ≤ loss n p.of.items i q) → is_settled lead (start_of p i) least ≡ true → lead.place ≡ place n size (held_parts p) i
+settled_open n size p i least lead tracks l is low settled =
+    place_is n size p i lead.place tracks l (record { reached = is.reached; best = λ c h room. settled_leads n size p i least c lead is settled (low c h room) })
+
 pub exhausted_place : (n : Net) (size : ℕ) (p : Partitioning) (i j : ℕ) (row : List ℕ) (lead : Lead) → Tracks n p → i < length n.nodes → IsPermutation (other_sources n i) row → IsLead n size p i lead → LeadsOrMissed n size p i lead.place row j → length row ≤ j → lead.place ≡ place n size (held_parts p) i
 exhausted_place n size p i j row lead tracks l perm is tried past =
     place_is n size p i lead.place tracks l (record { reached = is.reached; best = λ c h room. at c (tried c h room) })

@@ -22,7 +22,7 @@ copy_lines n byte None = []
 copy_lines n byte (Some (Table name cover pins)) = (codes ".names" ∷ (all_tailed n byte pins ++ tailed name byte ∷ [])) ∷ row_lines cover
 copy_lines n byte (Some (Register name init pin)) =
     (codes ".latch" ∷ tailed (name_of n pin) byte ∷ tailed name byte
-        ∷ (control_words (guarded_clock n.clock) ++ init_word (start_of false init) ∷ [])) ∷ []
+    ∷ (control_words (guarded_clock n.clock) ++ init_word (start_of false init) ∷ [])) ∷ []
 
 abbrev pub copy_text : Net → ℕ → Option Node → List ℕ
 copy_text n byte node = lines_text (copy_lines n byte node)

@@ -14,6 +14,7 @@ pub record AreHints (n : Net) (size : ℕ) (p : Partitioning) (i : ℕ) (gains h
   pub kept : AreKept p.count hints
   pub within : gains.counted + hints.counted ≤ length (slice_index_or p.sources i [])
   pub few : (q : ℕ) → near_in hints q ≤ hints.counted
+  pub above : (q : ℕ) → near_in hints q ≤ hints.most
   pub near : (q : ℕ) → q < p.count → has_room size (held_parts p) q ≡ true →
       one_if (is_wanted n p.of.items i q) + count_by (is_near n p.of.items i q) (take (gains.counted + hints.counted) (slice_index_or p.sources i []))
       ≤ near_in gains q + near_in hints q

@@ -1,5 +1,5 @@
 //! What a node loses at least in partitions with room, counted where the wide nodes that it reads are read.
-ghost use Rattle.std.specs.Prelude.{◌≡◌, ◌<◌, ◌≤◌, ◌+◌, ℕ, true, length, IfOk};
+ghost use Rattle.std.specs.Prelude.{◌≡◌, ◌<◌, ◌≤◌, ◌+◌, ◌-◌, ℕ, true, length, IfOk};
 ghost use Rattle.flat_net.specs.Net.{Net};
 ghost use Rattle.node_reads.specs.Sources.{is_wide};
 ghost use Rattle.partitioner.specs.Below.{one_if};
@@ -115,4 +115,57 @@ pub fn least_in(
     ensures { has_room size (held_parts p.now) q ≡ true → result ≤ loss n.now.net p.now.of.items i q }
 {
     u64::from(missed_in(n, p, gains, i, q)) + u64::from(hints.counted - near_in(hints, q))
+}
+
+/// No more than node i loses in any partition with room, by the highest counts.
+pub fn least_hinted(
+    n: &FlatNet,
+    p: &Partitioning,
+    gains: &Gains,
+    hints: &Gains,
+    size: u32,
+    i: u32,
+) -> u64
+    requires counted { IsCounted n.now.net p.now i gains.now }
+    requires hints { AreHints n.now.net size p.now i gains.now hints.now }
+    ensures { (q : ℕ) → q < p.now.count → has_room size (held_parts p.now) q ≡ true → result ≤ loss n.now.net p.now.of.items i q }
+{
+    let counted = u64::from(gains.counted).saturating_add(u64::from(hints.counted));
+    let all = counted.saturating_add(1);
+    let left = all.saturating_sub(u64::from(gains.most));
+    left.saturating_sub(u64::from(hints.most))
+}
+
+/// How many steps it takes to count hints for all that is not counted yet, up to `most`.
+fn steps_to_hint(mover: &Mover, most: usize) -> usize
+    requires counted { IsCounted mover.now.net.now.net mover.now.parts.now mover.now.node mover.now.gains.now }
+    requires spots { AreSpots mover.now.net.now.net mover.now.size (held_parts mover.now.parts.now) mover.now.spots.now }
+{
+    let (p, spots) = (mover.parts, mover.spots);
+    let _nodes = nodes_of(mover.net);
+    let row = p.sources.row(mover.node);
+    let mut steps: usize = 0;
+    for j in mover.gains.counted as usize..row.len() {
+        if steps > most {
+            return steps;
+        }
+        steps = steps.saturating_add(spots.free.set(row[j]).len());
+    }
+    steps
+}
+
+/// Counts hints for all that is not counted yet, where that takes less time than to count all partitions, 64 at once: where two nodes or
+/// more are not counted, and few partitions with room read them.
+pub fn hint_early(mover: &Mover, hints: &mut Gains)
+    requires counted { IsCounted mover.now.net.now.net mover.now.parts.now mover.now.node mover.now.gains.now }
+    requires spots { AreSpots mover.now.net.now.net mover.now.size (held_parts mover.now.parts.now) mover.now.spots.now }
+    requires hints { AreHints mover.now.net.now.net mover.now.size mover.now.parts.now mover.now.node mover.now.gains.now hints.old }
+    ensures { AreHints mover.now.net.now.net mover.now.size mover.now.parts.now mover.now.node mover.now.gains.now hints.new }
+{
+    let _nodes = nodes_of(mover.net);
+    let left = mover.parts.sources.row(mover.node).len() - mover.gains.counted as usize;
+    let most = ((mover.parts.count / 128) as usize).saturating_mul(left);
+    if left > 1 && steps_to_hint(mover, most) <= most {
+        count_hints(mover, hints, usize::MAX);
+    }
 }

@@ -13,7 +13,7 @@ ghost use Rattle.partitioner.specs.Private.Loss.{IsContent};
 ghost use Rattle.partitioner.specs.Private.Leading.{HasNoRoom, IsFixed, IsLead, Leads, LeadsOpen, LeadsOrLoses, LeadsReaders, is_better, is_settled, start_of};
 
 use crate::costs::gains::{Gains, begin, count_gains, least_loss};
-use crate::costs::hints::{Tallies, count_hints, least_in, no_hints};
+use crate::costs::hints::{Tallies, count_hints, hint_early, least_hinted, least_in, no_hints};
 use crate::costs::losses::loss_up_to;
 use crate::counts::partitioning::{Partitioning, Placed};
 use crate::counts::spots::Spots;
@@ -271,6 +271,26 @@ fn best_place(mover: &Mover, hints: &mut Gains, lead: Lead) -> u32
     lead.place
 }
 
+/// The same. Where few partitions with room read what the node reads, it is counted first how much of that they read: so nearly all nodes
+/// stay in a later pass, and no partition is tried for them.
+fn hinted_place(mover: &Mover, hints: &mut Gains, lead: Lead) -> u32
+    requires counted { IsCounted mover.now.net.now.net mover.now.parts.now mover.now.node mover.now.gains.now }
+    requires spots { AreSpots mover.now.net.now.net mover.now.size (held_parts mover.now.parts.now) mover.now.spots.now }
+    requires hints { AreHints mover.now.net.now.net mover.now.size mover.now.parts.now mover.now.node mover.now.gains.now hints.old }
+    requires lead { IsLead mover.now.net.now.net mover.now.size mover.now.parts.now mover.now.node lead }
+    ensures place { result ≡ place mover.now.net.now.net mover.now.size (held_parts mover.now.parts.now) mover.now.node }
+    ensures hints { AreHints mover.now.net.now.net mover.now.size mover.now.parts.now mover.now.node mover.now.gains.now hints.new }
+{
+    let (n, p, i) = (mover.net, mover.parts, mover.node);
+    let start = part_of(n, p, i);
+    hint_early(mover, hints);
+    let least = least_hinted(n, p, mover.gains, hints, mover.size, i);
+    if is_settled(lead, start, least) {
+        return lead.place;
+    }
+    best_place(mover, hints, lead)
+}
+
 /// The partition that node i goes to, which is its own where no move lowers the cost.
 ///
 /// What it gains in each partition is counted once, rather than in each partition that is tried. Where it gains most
@@ -312,7 +332,7 @@ pub fn place_of(
         node: i,
     };
     Found {
-        place: best_place(&mover, &mut tallies.hints, lead),
+        place: hinted_place(&mover, &mut tallies.hints, lead),
         content: false,
     }
 }
