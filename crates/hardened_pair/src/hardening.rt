@@ -1,5 +1,6 @@
 //! Hardening.
 ghost use Rattle.std.specs.Prelude.{◌≡◌, ◌+◌, ◌<◌, ◌≤◌, ◌⊎◌, length, IfOk};
+ghost use Rattle.limits.specs.Most.{widest_nets};
 ghost use Rattle.flat_net.specs.Net.{net_count, pin_total};
 ghost use Rattle.triplicate.specs.Construction.{hardened_net};
 ghost use Rattle.triplicate.specs.Given.{IsGiven};
@@ -57,7 +58,7 @@ fn build(
 ) -> Result<Hardened, OutOfMemory>
     requires size { 0 < size }
     requires most { 0 < most }
-    requires few { net_count n.now.net + pin_total n.now.net ≤ 16777216 }
+    requires few { net_count n.now.net + pin_total n.now.net ≤ widest_nets }
     ensures { IfOk result (λ r. IsBuilt form n.now.net size inputs most r) }
 {
     let _nodes = nodes_of(n);
@@ -78,7 +79,7 @@ fn build(
 /// certificate, of version 1. `size` is the size of partitions. The one refusal is want of memory.
 pub fn harden(alloc: Global, n: &FlatNet, size: u32) -> Result<Hardened, OutOfMemory>
     requires size { 0 < size }
-    requires few { net_count n.now.net + pin_total n.now.net ≤ 16777216 }
+    requires few { net_count n.now.net + pin_total n.now.net ≤ widest_nets }
     ensures { IfOk result (λ r. IsHardenedPair n.now.net size r) }
 {
     let hardened = build(alloc, n, Form::Plain, size, false, NO_BOUND)?;
@@ -99,7 +100,7 @@ pub fn harden_form(
     requires size { 0 < size }
     requires version { (version ≡ 1) ⊎ (version ≡ 2) }
     requires most { 0 < most }
-    requires few { net_count n.now.design.net + pin_total n.now.design.net ≤ 16777216 }
+    requires few { net_count n.now.design.net + pin_total n.now.design.net ≤ widest_nets }
     ensures { IfOk result (λ r. IsBoundedPair form n.now size version most r) }
 {
     let original = n.net();
@@ -126,7 +127,7 @@ pub fn harden_deep(
     requires size { 0 < size }
     requires version { (version ≡ 1) ⊎ (version ≡ 2) }
     requires most { 0 < most }
-    requires few { net_count n.now.design.net + pin_total n.now.design.net ≤ 16777216 }
+    requires few { net_count n.now.design.net + pin_total n.now.design.net ≤ widest_nets }
     ensures { IfOk result (λ r. IsBoundedPair Form.Plain n.now size version most r) }
 {
     let hardened = harden_form(alloc, n, Form::Plain, size, version, most)?;
@@ -136,7 +137,7 @@ pub fn harden_deep(
 /// The plain form in version 2, without a bound. The one refusal is want of memory.
 pub fn harden_free(alloc: Global, n: &FreeNet, size: u32) -> Result<HardenedFree, OutOfMemory>
     requires size { 0 < size }
-    requires few { net_count n.now.design.net + pin_total n.now.design.net ≤ 16777216 }
+    requires few { net_count n.now.design.net + pin_total n.now.design.net ≤ widest_nets }
     ensures { IfOk result (λ r. IsFreeHardenedPair n.now size r) }
 {
     let hardened = harden_deep(alloc, n, size, 2, NO_BOUND)?;

@@ -1,5 +1,6 @@
 //! Both texts, and what is told of the pair.
 ghost use Rattle.std.specs.Prelude.{◌≡◌, ◌+◌, ◌<◌, ◌≤◌, ◌⊎◌, IfOk};
+ghost use Rattle.limits.specs.Most.{widest_nets};
 ghost use Rattle.flat_net.specs.Net.{net_count, pin_total};
 ghost use Rattle.hardened_text.specs.Texts.{AreTexts};
 
@@ -47,7 +48,7 @@ pub fn harden_texts(
     requires size { 0 < size }
     requires version { (version ≡ 1) ⊎ (version ≡ 2) }
     requires most { 0 < most }
-    requires few { net_count n.now.design.net + pin_total n.now.design.net ≤ 16777216 }
+    requires few { net_count n.now.design.net + pin_total n.now.design.net ≤ widest_nets }
     ensures { IfOk result (λ t. AreTexts form n.now size version most t) }
 {
     let net = n.net();

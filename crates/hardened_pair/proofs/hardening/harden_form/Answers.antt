@@ -1,5 +1,6 @@
 use Rattle.std.proofs.Common.{◌+◌, ◌≤◌, List, Bool, refl, sym, ◌∙◌, ap, subst}
 use Rattle.std.specs.Prelude.{◌==◌}
+use Rattle.limits.specs.Most.{widest_nets}
 use Rattle.flat_net.specs.Net.{Design, net_count, pin_total}
 use Rattle.flat_net.specs.Free.{FreeDesign, AreMarks}
 use Rattle.hardened_pair.specs.Private.Built.{IsBuilt}
@@ -8,7 +9,7 @@ use Rattle.triplicate.proofs.Whole.{bounded_is}
 use Rattle.hardened_pair.proofs.hardening.harden_form.Goals as goal
 
 pub build-requires-clause-few : goal.build-requires-clause-few
-build-requires-clause-few c = subst (λ (d : Design). net_count d.net + pin_total d.net ≤ 16777216) (sym c.net-original.ensures.net) c.requires.few
+build-requires-clause-few c = subst (λ (d : Design). net_count d.net + pin_total d.net ≤ widest_nets) (sym c.net-original.ensures.net) c.requires.few
 
 pub hardened_marks-requires : goal.hardened_marks-requires
 hardened_marks-requires c =
