@@ -1,5 +1,5 @@
 //! The graph of a file.
-ghost use Rattle.std.specs.Prelude.{◌≡◌, ◌+◌, ◌<◌, ◌^◌, length, IfOk, IfErr};
+ghost use Rattle.std.specs.Prelude.{◌≡◌, IfOk, IfErr};
 ghost use Rattle.aag_text.specs.Lines.{IsFile};
 ghost use Rattle.aag_reader.specs.Faults.{IsGraphFault};
 ghost use Rattle.aag_text.specs.Variables.{defined, IsDefinedOnce, IsDefined};

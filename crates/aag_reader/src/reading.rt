@@ -1,5 +1,5 @@
 //! Reading a file, section by section.
-ghost use Rattle.std.specs.Prelude.{◌≡◌, ◌+◌, ◌<◌, ◌^◌, length, true, OnOk, IfOk, IfErr};
+ghost use Rattle.std.specs.Prelude.{◌≡◌, ◌<◌, length, true, OnOk, IfOk, IfErr};
 ghost use Rattle.aag_text.specs.Aig.{plain_aig};
 ghost use Rattle.aag_reader.specs.Private.Words.{texts};
 ghost use Rattle.aag_text.specs.Lines.{header_of, IsFile};

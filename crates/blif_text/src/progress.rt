@@ -1,5 +1,5 @@
 //! The models so far, and the open one.
-ghost use Rattle.std.specs.Prelude.{◌≡◌, ◌<◌, ◌++◌, ◌∷◌, [], ◌==◌, List, ℕ, Some, None, true, map, OnOk, IfOk, length};
+ghost use Rattle.std.specs.Prelude.{◌≡◌, ◌++◌, ◌∷◌, [], ◌==◌, List, ℕ, Some, None, true, map, OnOk, IfOk, length};
 ghost use Rattle.blif_text.specs.Private.Answers.{Answers, plain};
 ghost use Rattle.blif_text.specs.Private.Progress.{nothing, with_model, kind_in, after, all_models, ended};
 ghost use Rattle.blif_text.specs.Kind.{model_kind};

@@ -1,10 +1,9 @@
 //! Reading a certificate's text, kind of line by kind of line.
-ghost use Rattle.std.specs.Prelude.{◌≡◌, ◌+◌, ◌<◌, ◌≤◌, ℕ, [], Some, None, map, length, IfOk, OnOk, replicate};
-ghost use Rattle.flat_net.specs.Net.{net_count, IsDesign};
+ghost use Rattle.std.specs.Prelude.{◌≡◌, ◌+◌, ◌<◌, ◌≤◌, [], Some, None, length, IfOk, OnOk, replicate};
+ghost use Rattle.flat_net.specs.Net.{IsDesign};
 ghost use Rattle.certificate.specs.Gives.{Gives};
 ghost use Rattle.certificate.specs.Draft.{cert_of_draft};
-ghost use Rattle.certificate.specs.Plain.{IsNode, AreNodes};
-ghost use Rattle.certificate.specs.Threes.{three_of, three_ids};
+ghost use Rattle.certificate.specs.Threes.{three_ids};
 ghost use Rattle.certificate.specs.Tables.{depths_read, nodes_read, roles_read};
 ghost use Rattle.certificate.specs.Folding.{give, give_copies, part_step, node_step, voter_step, repeat, fold_of_text};
 ghost use Rattle.std.specs.Prelude.{◌^◌, IfErr};

@@ -1,5 +1,5 @@
 //! A certificate's text: `cert_text` says how it is spelled, `cert_of_text` what a text must be, and its first fault.
-ghost use Rattle.std.specs.Prelude.{◌≡◌, ◌≤◌, length, IfOk, Ok};
+ghost use Rattle.std.specs.Prelude.{◌≡◌, length, IfOk, Ok};
 ghost use Rattle.certificate.specs.Cert.{PlainCert, IsCert, Fits};
 ghost use Rattle.certificate.specs.Gives.{Gives};
 ghost use Rattle.certificate.specs.Length.{cert_length};

@@ -1,5 +1,5 @@
 //! The lines of a text, one by one.
-ghost use Rattle.std.specs.Prelude.{◌≡◌, ◌==◌, ◌+◌, ◌<◌, ◌^◌, length, is_none, IfSome, OnSome};
+ghost use Rattle.std.specs.Prelude.{◌≡◌, ◌==◌, length, is_none, IfSome, OnSome};
 ghost use Rattle.std.specs.List.{position, before_first};
 ghost use Rattle.text_lines.specs.Lines.{is_line_feed, has_line_feed, behind_line};
 

@@ -1,9 +1,9 @@
 //! The open model: what its statements have given so far.
-ghost use Rattle.std.specs.Prelude.{◌≡◌, ◌≢◌, ◌<◌, ◌++◌, ◌∷◌, [], length, map, OnOk, IfOk, is_ok, None, true, List, ℕ, option_map};
+ghost use Rattle.std.specs.Prelude.{◌≡◌, ◌≢◌, ◌∷◌, map, OnOk, IfOk, is_ok, None, true, List, ℕ, option_map};
 ghost use Rattle.blif_text.specs.declared.statements.word.Word.TheVariants.{Row};
 ghost use Rattle.blif_text.specs.Private.Answers.{Answers, plain};
 ghost use Rattle.blif_text.specs.Kind.{kind_here, row_kind};
-ghost use Rattle.blif_text.specs.Private.Progress.{fresh, here_in, more_of, with_table, without_table, ended_model, all_elements, shape_of, with_row, with_elements};
+ghost use Rattle.blif_text.specs.Private.Progress.{fresh, here_in, more_of, with_table, without_table, ended_model, all_elements, shape_of, with_row};
 ghost use Rattle.blif_text.specs.Text.{statement_by};
 ghost use Rattle.blif_text.specs.Word.{is_inner};
 ghost use Rattle.blif_text.specs.Views.{plain_element, plain_model};

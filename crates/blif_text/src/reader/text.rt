@@ -1,5 +1,5 @@
 //! Takes the bytes of a text, its lines and their statements.
-ghost use Rattle.std.specs.Prelude.{◌≡◌, ◌≤◌, ◌<◌, ◌+◌, ◌-◌, ◌^◌, ◌++◌, ◌∷◌, [], List, ℕ, Ok, length, map, take, OnOk, IfOk, IfErr, IfSome, IsOkUnless, Some, None};
+ghost use Rattle.std.specs.Prelude.{◌≡◌, ◌≤◌, ◌<◌, ◌+◌, ◌-◌, ◌^◌, ◌++◌, ◌∷◌, [], List, ℕ, Ok, length, take, OnOk, IfOk, IfErr, IfSome, IsOkUnless, Some, None};
 ghost use Rattle.blif_text.specs.Private.Stands.{Stands, Takes, Refuses, IsBadOf, reading_in};
 ghost use Rattle.blif_text.specs.Reading.{Reads, reading};
 ghost use Rattle.blif_text.specs.Private.Sound.{IsSound};

@@ -1,5 +1,5 @@
 //! Rows of a table.
-ghost use Rattle.std.specs.Prelude.{◌≡◌, ◌<◌, ◌∷◌, ◌++◌, [], map, option_map, option_to_list, length, OnOk, OnErr};
+ghost use Rattle.std.specs.Prelude.{◌≡◌, ◌∷◌, ◌++◌, [], option_map, option_to_list, OnOk, OnErr};
 ghost use Rattle.table_cover.specs.Pushing as pushing;
 ghost use Rattle.blif_text.specs.Private.Answers.{Answers, plain};
 ghost use Rattle.blif_text.specs.Kind.{Marks, row_wide, row_parts, row_in, row_of, marks_kind};

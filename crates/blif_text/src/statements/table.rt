@@ -1,5 +1,5 @@
 //! A table whose rows are being read.
-ghost use Rattle.std.specs.Prelude.{◌≡◌, ◌<◌, ◌∷◌, ◌++◌, [], true, None, length};
+ghost use Rattle.std.specs.Prelude.{◌≡◌, ◌∷◌, ◌++◌, [], None, length};
 ghost use Rattle.blif_text.specs.Private.Answers.{Answers, plain};
 ghost use Rattle.blif_text.specs.Kind.{◌or_else◌, name_kind, names_kind, table_kind, row_kind};
 ghost use Rattle.blif_text.specs.Models.{table};
