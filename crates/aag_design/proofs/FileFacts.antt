@@ -2,6 +2,7 @@
 use Rattle.std.proofs.Common.{◌≡◌, ℕ, ◌+◌, ◌*◌, ◌^◌, ◌<◌, ◌≤◌, Bool, true, false, List, length, map, refl, sym, ap, ◌∙◌, subst, arith}
 use Rattle.std.specs.Prelude.{nat_le}
 use Rattle.std.proofs.lemmas.Bool.{leb-true, leb-false}
+use Rattle.limits.specs.Most.{widest_original}
 use Rattle.flat_net.specs.Net.{Net, IsOrder, IsValid}
 use Rattle.blif_writer.specs.Text.{free_text}
 use Rattle.flat_net.specs.Free.{FreeDesign, AreMarks}
@@ -25,7 +26,7 @@ use Rattle.aag_design.proofs.Bounds.{few_entries, variables_are, inputs_distinct
 use Rattle.aag_design.proofs.Designs.{same_meaning, are_free_marks}
 
 -- a file's graph is sound
-pub file_sound : (bytes : List ℕ) (a : PlainAig) → length bytes ≤ 8388608 → IsFile bytes a → IsDefinedOnce a → IsDefined a → IsSound a
+pub file_sound : (bytes : List ℕ) (a : PlainAig) → length bytes ≤ widest_original → IsFile bytes a → IsDefinedOnce a → IsDefined a → IsSound a
 file_sound bytes a short file once known = record {
   few = let few = few_entries bytes a file in omega (arith, few, short);
   once = once;
@@ -33,7 +34,7 @@ file_sound bytes a short file once known = record {
   variables = λ p u e. variables_are bytes a file p u e;
 }
 
-pub graph_is : (bytes : List ℕ) (g : Graph) → length bytes ≤ 8388608 → IsFile bytes (plain_aig g.aig) → g.variables.keys ≡ defined (plain_aig g.aig) → IsGraph g
+pub graph_is : (bytes : List ℕ) (g : Graph) → length bytes ≤ widest_original → IsFile bytes (plain_aig g.aig) → g.variables.keys ≡ defined (plain_aig g.aig) → IsGraph g
 graph_is bytes g short file keys =
     let few = few_entries bytes (plain_aig g.aig) file in
     record { inputs = omega (arith, few, short); latches = omega (arith, few, short); outputs = omega (arith, few, short); variables = keys }

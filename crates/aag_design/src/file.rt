@@ -1,5 +1,6 @@
 //! The design of a file.
 ghost use Rattle.std.specs.Prelude.{◌≡◌, ◌≤◌, ℕ, IfOk, IfErr, length};
+ghost use Rattle.limits.specs.Most.{widest_original};
 ghost use Rattle.flat_net.specs.Faults.{net_of_draft};
 ghost use Rattle.aag_text.specs.Aig.{PlainAig, plain_aig};
 ghost use Rattle.aag_design.specs.Draft.{aig_draft, aig_marks};
@@ -28,7 +29,7 @@ pub struct CountedDesign {
 /// The graph of a file, or the first fault of its lines or variables.
 #[tactic(auto, using(crate::proofs::FileFacts::file_facts))]
 fn sound_graph(alloc: Global, bytes: &[u8]) -> Result<Graph, AagFault>
-    requires { length bytes.now ≤ 8388608 }
+    requires { length bytes.now ≤ widest_original }
     ensures graph { IfOk result IsGraph }
     ensures sound { IfOk result (λ g. IsSound (plain_aig g.aig)) }
     ensures of { IfOk result (λ g. IsGraphOf bytes.now (plain_aig g.aig)) }
@@ -72,12 +73,12 @@ fn is_within(alloc: Global, net: &FreeNet, limit: u64) -> Result<bool, OutOfMemo
 /// `Line` comes for the first line that is not of its form; then `Doubled` for the first variable that is defined a second time;
 /// then `Undefined` for the first that is read and nowhere defined; then `Loop` where gates read each other in a loop; then
 /// `TooLarge` where the flat text of the design has more than `limit` bytes. `Memory` may come in place of any answer. The file
-/// has at most 8,388,608 bytes, which the caller knows. Nothing is sized by the numbers that the file names.
+/// is not longer than the large limits allow, which the caller knows. Nothing is sized by the numbers that the file names.
 ///
 /// The counts are the numbers of the header, and how many latches are free.
 #[tactic(auto, using(crate::proofs::FileFacts::file_facts))]
 pub fn read_counted(alloc: Global, bytes: &[u8], limit: u64) -> Result<CountedDesign, AagFault>
-    requires { length bytes.now ≤ 8388608 }
+    requires { length bytes.now ≤ widest_original }
     ensures design { IfOk result (IsReadCounted bytes.now limit) }
     ensures fault { IfErr result (IsFaultOf bytes.now limit) }
 {
@@ -102,7 +103,7 @@ pub fn read_counted(alloc: Global, bytes: &[u8], limit: u64) -> Result<CountedDe
 
 /// The same without the counts.
 pub fn read_aag(alloc: Global, bytes: &[u8], limit: u64) -> Result<FreeNet, AagFault>
-    requires { length bytes.now ≤ 8388608 }
+    requires { length bytes.now ≤ widest_original }
     ensures design { IfOk result (IsReadAs bytes.now limit) }
     ensures fault { IfErr result (IsFaultOf bytes.now limit) }
 {

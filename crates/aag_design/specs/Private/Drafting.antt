@@ -1,5 +1,6 @@
 -- A graph as it is drafted.
 use Rattle.std.specs.Prelude.{◌≡◌, ℕ, ◌+◌, ◌^◌, ◌<◌, ◌≤◌, Bool, false, codes, List, [], ◌∷◌, Option, Some, None, map, length, slice_get, slice_index}
+use Rattle.limits.specs.Most.{widest_original}
 use Rattle.tmr_base.specs.Numbers.{number_of}
 use Rattle.flat_net.specs.Draft.{PlainDraft}
 use Rattle.graph.specs.Turned.{IsTurned}
@@ -43,7 +44,7 @@ pub record IsTurnedFrom (named : List (Option ℕ)) (found : List ℕ) : Type 0 
 
 -- what is known of a file's graph: few entries, each variable defined once, and each that is read defined; variables begin with 1, and fit
 pub record IsSound (a : PlainAig) : Type 0 where
-  pub few : length a.inputs + length a.latches + length a.outputs + length a.gates ≤ 8388608
+  pub few : length a.inputs + length a.latches + length a.outputs + length a.gates ≤ widest_original
   pub once : IsDefinedOnce a
   pub known : IsDefined a
   pub variables : (p u : ℕ) → slice_get (defined a) p ≡ Some u → (0 < u) × (u < 2 ^ 32)
