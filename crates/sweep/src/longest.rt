@@ -1,5 +1,6 @@
 //! How many tables stand on the longest path of a design.
 ghost use Rattle.std.specs.Prelude.{◌≡◌, ◌+◌, ◌<◌, ◌≤◌, ◌⊎◌, ℕ, length, slice_index, IfOk};
+ghost use Rattle.limits.specs.Most.{widest_nets};
 ghost use Rattle.flat_net.specs.Net.{net_count, pin_total, node_of, IsRegister};
 ghost use Rattle.sweep.specs.Levels.{AreLevels};
 ghost use Rattle.sweep.specs.Private.Reaching.{voted_by, HasTaps, along, kept, IsMostOut, IsMostKept, AreVotedLevels};
@@ -56,7 +57,7 @@ fn most_kept(n: &FlatNet, votes: &Votes, reach: &[u32]) -> u32
 /// The most tables on a path from an input or a register to a register or an output, where a voted pin counts one table more.
 pub fn voted_levels(alloc: Global, n: &FlatNet, votes: &Votes) -> Result<u32, OutOfMemory>
     requires taps { HasTaps n.now.net votes.now }
-    requires few { net_count n.now.net + pin_total n.now.net ≤ 16777216 }
+    requires few { net_count n.now.net + pin_total n.now.net ≤ widest_nets }
     ensures { IfOk result (λ levels. AreVotedLevels n.now.net (voted_by n.now.net votes.now) levels) }
 {
     let _nodes = nodes_of(n);
@@ -68,7 +69,7 @@ pub fn voted_levels(alloc: Global, n: &FlatNet, votes: &Votes) -> Result<u32, Ou
 
 /// The most tables on a path from an input or a register to a register or an output. The one refusal is want of memory.
 pub fn levels(alloc: Global, n: &FlatNet) -> Result<u32, OutOfMemory>
-    requires { net_count n.now.net + pin_total n.now.net ≤ 16777216 }
+    requires { net_count n.now.net + pin_total n.now.net ≤ widest_nets }
     ensures { IfOk result (λ levels. AreLevels n.now.net levels) }
 {
     let levels = voted_levels(alloc, n, &Votes::Absent)?;

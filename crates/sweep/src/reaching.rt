@@ -1,6 +1,7 @@
 //! For each net the most tables on a path to it.
 ghost use Rattle.std.specs.Prelude.{◌≡◌, ◌==◌, ◌+◌, ◌-◌, ◌<◌, ◌≤◌, ℕ, max, length, map, slice_index, IfOk, if◌then◌else◌};
 ghost use Rattle.std.specs.List.{range_with_len};
+ghost use Rattle.limits.specs.Most.{widest_nets};
 ghost use Rattle.flat_net.specs.Net.{net_count, pin_total, node_of, IsTable};
 ghost use Rattle.feedback_cut.specs.Inner.{node_pins};
 ghost use Rattle.sweep.specs.Private.Reaching.{voted_by, HasTaps, passed, along, first_reach, IsMostAt, IsNextReach, AreReached};
@@ -127,7 +128,7 @@ fn first_reaches(alloc: Global, n: &FlatNet) -> Result<Vec<u32>, OutOfMemory>
 /// For each net one more than the most tables on a path to it, or 0 where none leads to it. A voted pin counts one table more.
 pub fn reached(alloc: Global, n: &FlatNet, votes: &Votes) -> Result<Vec<u32>, OutOfMemory>
     requires taps { HasTaps n.now.net votes.now }
-    requires few { net_count n.now.net + pin_total n.now.net ≤ 16777216 }
+    requires few { net_count n.now.net + pin_total n.now.net ≤ widest_nets }
     ensures { IfOk result (λ reach. AreReached n.now.net (voted_by n.now.net votes.now) n.now.order (length n.now.net.nodes) reach.items) }
 {
     let count = nodes_of(n);

@@ -1,5 +1,6 @@
 //! All sizes, and the text of a sweep.
 ghost use Rattle.std.specs.Prelude.{◌≡◌, ◌+◌, ◌<◌, ◌≤◌, ◌⊎◌, length, IfOk};
+ghost use Rattle.limits.specs.Most.{widest_nets};
 ghost use Rattle.flat_net.specs.Net.{net_count, pin_total};
 ghost use Rattle.triplicate.specs.Surveyed.{IsSurvey};
 ghost use Rattle.sweep.specs.Sweep.{IsSweep, IsSweepText};
@@ -31,7 +32,7 @@ fn all_swept(
 ) -> Result<Vec<Swept>, OutOfMemory>
     requires version { (version ≡ 1) ⊎ (version ≡ 2) }
     requires most { 0 < most }
-    requires few { net_count n.now.design.net + pin_total n.now.design.net ≤ 16777216 }
+    requires few { net_count n.now.design.net + pin_total n.now.design.net ≤ widest_nets }
     ensures { IfOk result (λ lines. IsSweep form n.now version most lines.items) }
 {
     let nodes = nodes_of(n.net());
@@ -61,7 +62,7 @@ pub fn sweep(
 ) -> Result<Vec<u8>, OutOfMemory>
     requires version { (version ≡ 1) ⊎ (version ≡ 2) }
     requires most { 0 < most }
-    requires few { net_count n.now.design.net + pin_total n.now.design.net ≤ 16777216 }
+    requires few { net_count n.now.design.net + pin_total n.now.design.net ≤ widest_nets }
     ensures { IfOk result (λ text. IsSweepText form n.now version most text.items) }
 {
     let net = n.net();

@@ -1,5 +1,6 @@
 //! What the hardened form of one size has.
 ghost use Rattle.std.specs.Prelude.{◌≡◌, ◌+◌, ◌<◌, ◌≤◌, ◌⊎◌, length, nat_eq, IfOk};
+ghost use Rattle.limits.specs.Most.{widest_nets};
 ghost use Rattle.flat_net.specs.Net.{net_count, pin_total};
 ghost use Rattle.triplicate.specs.Planned.{IsPlan};
 ghost use Rattle.triplicate.specs.Surveyed.{IsSurvey};
@@ -70,7 +71,7 @@ fn swept_of(
     requires version { (asked.version ≡ 1) ⊎ (asked.version ≡ 2) }
     requires same { net.now ≡ n.now.design }
     requires plan { IsPlan asked.form net.now.net asked.size (nat_eq asked.version 2) most plan.now }
-    requires few { net_count net.now.net + pin_total net.now.net ≤ 16777216 }
+    requires few { net_count net.now.net + pin_total net.now.net ≤ widest_nets }
     ensures { IfOk result (λ s. IsSwept asked.form n.now asked.size asked.version most s) }
 {
     let count = nodes_of(net);
@@ -104,7 +105,7 @@ pub fn sweep_size(
     requires size { 0 < size }
     requires version { (version ≡ 1) ⊎ (version ≡ 2) }
     requires most { 0 < most }
-    requires few { net_count n.now.design.net + pin_total n.now.design.net ≤ 16777216 }
+    requires few { net_count n.now.design.net + pin_total n.now.design.net ≤ widest_nets }
     ensures swept { IfOk result (λ s. IsSwept form n.now size version most s.swept) }
     ensures survey { IfOk result (λ s. IsSurvey n.now.design.net s.survey) }
 {

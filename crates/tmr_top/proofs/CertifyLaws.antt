@@ -8,6 +8,7 @@ use Rattle.certificate.specs.Text.{cert_text}
 use Rattle.certifying.specs.Certified.{IsAccepted}
 use Rattle.certifying.specs.Finest.{IsFinest}
 use Rattle.certifying.specs.Least.{AreLeastLabels}
+use Rattle.limits.specs.Most.{most_hardened}
 use Rattle.tmr_texts.specs.Texts.{accepted_line}
 use Rattle.tmr_top.specs.Designs.{HoldsDesign}
 use Rattle.tmr_outside.specs.Contents.{Contents}
@@ -18,7 +19,7 @@ use Rattle.tmr_top.specs.Certified.{certified_pair, IsCertified}
 use Rattle.tmr_top.specs.Private.Refused.{AreRefused}
 
 -- the first of the two files that is no design
-pub none_read : (w : Certifying) (line : List ℕ) (held : Contents) → AreRefused (original_file w.original) (hardened_file w.hardened) line held → IsOriginalUnread (certified_pair w) held line ⊎ IsHardenedUnread (certified_pair w) held line
+pub none_read : (w : Certifying) (line : List ℕ) (held : Contents) → AreRefused (original_file w.limits w.original) (hardened_file w.limits w.hardened) line held → IsOriginalUnread (certified_pair w) held line ⊎ IsHardenedUnread (certified_pair w) held line
 none_read w line held (inl first) = inl (record { reason = first.reason; unread = first.unread; says = first.says })
 none_read w line held (inr second) = inr (record {
   original = second.design;
@@ -30,7 +31,7 @@ none_read w line held (inr second) = inr (record {
 })
 
 -- a certificate that is found, saved and told of
-pub found_is : (w : Certifying) (held : Contents) (n h : Net) (f g : List Bool) (k : PlainCert) (bytes text : List ℕ) → HoldsDesign held (original_file w.original) n f → HoldsDesign held (hardened_file w.hardened) h g → IsAccepted n f h g w.version k → IsFinest n f h g k → AreLeastLabels h k → bytes ≡ cert_text n h k → cert_of_text n h bytes ≡ Ok k → length bytes ≤ 1073741824 → text ≡ accepted_line k (count_by (λ bit. bit) f) (count_by (λ bit. bit) g) → IsCertified w held (bytes ∷ []) text
+pub found_is : (w : Certifying) (held : Contents) (n h : Net) (f g : List Bool) (k : PlainCert) (bytes text : List ℕ) → HoldsDesign held (original_file w.limits w.original) n f → HoldsDesign held (hardened_file w.limits w.hardened) h g → IsAccepted n f h g w.version k → IsFinest n f h g k → AreLeastLabels h k → bytes ≡ cert_text n h k → cert_of_text n h bytes ≡ Ok k → length bytes ≤ most_hardened w.limits → text ≡ accepted_line k (count_by (λ bit. bit) f) (count_by (λ bit. bit) g) → IsCertified w held (bytes ∷ []) text
 found_is w held n h f g k bytes text one other accepted finest least written read short says = record {
   designs = record { original = n; free = f; original_read = one; hardened = h; hardened_free = g; hardened_read = other };
   certificate = k;
@@ -38,7 +39,7 @@ found_is w held n h f g k bytes text one other accepted finest least written rea
   finest = finest;
   least = least;
   saves = ap (λ (b : List ℕ). b ∷ []) written;
-  short = subst (λ (b : List ℕ). length b ≤ 1073741824) written short;
+  short = subst (λ (b : List ℕ). length b ≤ most_hardened w.limits) written short;
   read = subst (λ (b : List ℕ). cert_of_text n h b ≡ Ok k) written read;
   says = says;
 }

@@ -28,7 +28,7 @@ module _ (w : Certifying) (held now : Contents) (text : List ℕ) (one : w.certi
   certificate_there : get now w.certificate ≡ Some certificate
   certificate_there = ap (λ (m : Contents). get m w.certificate) saved ∙ get-insert_same held w.certificate certificate
 
-  certificate_read : HoldsCertificate now (certificate_file w.certificate) is.outcome.designs.original is.outcome.designs.hardened is.outcome.certificate
+  certificate_read : HoldsCertificate now (certificate_file w.limits w.certificate) is.outcome.designs.original is.outcome.designs.hardened is.outcome.certificate
   certificate_read = record { bytes = certificate; there = certificate_there; short = is.outcome.short; fact = is.outcome.read }
 
   original_there : get now w.original ≡ Some is.outcome.designs.original_read.bytes
@@ -41,7 +41,7 @@ module _ (w : Certifying) (held now : Contents) (text : List ℕ) (one : w.certi
       ap (λ (m : Contents). get m w.hardened) saved
       ∙ (get-insert_other held w.certificate certificate w.hardened (λ same. other (sym same)) ∙ is.outcome.designs.hardened_read.there)
 
-  original_read : HoldsDesign now (original_file w.original) is.outcome.designs.original is.outcome.designs.free
+  original_read : HoldsDesign now (original_file w.limits w.original) is.outcome.designs.original is.outcome.designs.free
   original_read = record {
     bytes = is.outcome.designs.original_read.bytes;
     there = original_there;
@@ -49,7 +49,7 @@ module _ (w : Certifying) (held now : Contents) (text : List ℕ) (one : w.certi
     fact = is.outcome.designs.original_read.fact;
   }
 
-  hardened_read : HoldsDesign now (hardened_file w.hardened) is.outcome.designs.hardened is.outcome.designs.hardened_free
+  hardened_read : HoldsDesign now (hardened_file w.limits w.hardened) is.outcome.designs.hardened is.outcome.designs.hardened_free
   hardened_read = record {
     bytes = is.outcome.designs.hardened_read.bytes;
     there = hardened_there;

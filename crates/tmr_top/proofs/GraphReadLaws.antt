@@ -7,6 +7,8 @@ use Rattle.aag_design.specs.declared.file.CountedDesign.{CountedDesign}
 use Rattle.aag_design.specs.declared.fault.AagFault.{AagFault}
 use Rattle.aag_design.specs.declared.fault.AagFault.TheVariants.{Memory}
 use Rattle.aag_design.proofs.OneAnswer.{design_or_fault}
+use Rattle.limits.specs.declared.Limits.{Limits}
+use Rattle.limits.specs.Most.{most_original}
 use Rattle.tmr_outside.specs.Contents.{Contents}
 use Rattle.tmr_top.specs.declared.decision.Verdict.{Verdict}
 use Rattle.tmr_top.specs.declared.decision.Verdict.TheVariants.{Done, NotAccepted, Refused}
@@ -37,16 +39,16 @@ holds_no_graph held load bytes fault holds is = record {
 }
 
 -- a refusal for a fault
-pub graph_refusal : (name bytes : List ℕ) (fault : AagFault) (why : Stop) → IsFaultOf bytes 8388608 fault → RefusesGraph name fault why → IsRefusal (λ held. HoldsBytes held (graph_file name) bytes) (IsRefusedGraph name) why
-graph_refusal name bytes fault (stop.Failed other) first is = absurd is
-graph_refusal name bytes fault (stop.TooLong other) first is = absurd is
-graph_refusal name bytes fault (stop.Refused line) first is = λ held holds. record {
+pub graph_refusal : (l : Limits) (name bytes : List ℕ) (fault : AagFault) (why : Stop) → IsFaultOf bytes (most_original l) fault → RefusesGraph name fault why → IsRefusal (λ held. HoldsBytes held (graph_file l name) bytes) (IsRefusedGraph l name) why
+graph_refusal l name bytes fault (stop.Failed other) first is = absurd is
+graph_refusal l name bytes fault (stop.TooLong other) first is = absurd is
+graph_refusal l name bytes fault (stop.Refused line) first is = λ held holds. record {
   fault = fault;
   caused = is.0;
-  first = holds_no_graph held (graph_file name) bytes fault holds first;
+  first = holds_no_graph held (graph_file l name) bytes fault holds first;
   says = is.1;
 }
-graph_refusal name bytes fault stop.Memory first is = tt
+graph_refusal l name bytes fault stop.Memory first is = tt
 
 -- ---- one verdict
 
@@ -62,8 +64,8 @@ graph_or_none held load n fault one caused none =
 pub one_graph_read : (w : GraphReading) (held : Contents) (u v : Verdict) (s t : List (List ℕ)) (x y : List ℕ) → GraphRead w held u s x → GraphRead w held v t y → u ≡ v
 one_graph_read w held Done Done s t x y one other = refl
 one_graph_read w held Refused Refused s t x y one other = refl
-one_graph_read w held Done Refused s t x y one other = absurd (graph_or_none held (graph_file w.graph) one.design other.fault one.holds other.caused other.first)
-one_graph_read w held Refused Done s t x y one other = absurd (graph_or_none held (graph_file w.graph) other.design one.fault other.holds one.caused one.first)
+one_graph_read w held Done Refused s t x y one other = absurd (graph_or_none held (graph_file w.limits w.graph) one.design other.fault one.holds other.caused other.first)
+one_graph_read w held Refused Done s t x y one other = absurd (graph_or_none held (graph_file w.limits w.graph) other.design one.fault other.holds one.caused one.first)
 one_graph_read w held NotAccepted v s t x y one other = absurd one
 one_graph_read w held Done NotAccepted s t x y one other = absurd other
 one_graph_read w held Refused NotAccepted s t x y one other = absurd other

@@ -7,6 +7,7 @@ use Rattle.blif_writer.specs.Text.{flat_text}
 use Rattle.dwc.specs.Answer.{BreaksFirst}
 use Rattle.dwc.specs.Guard.{guard_net}
 use Rattle.dwc.specs.Tells.{Guards}
+use Rattle.limits.specs.Most.{most_hardened}
 use Rattle.tmr_outside.specs.Contents.{Contents}
 use Rattle.tmr_words.specs.Line.{Guarding}
 use Rattle.tmr_top.specs.Guarded.{IsGuarded, IsUnguarded, IsGuardUnread}
@@ -15,7 +16,7 @@ use Rattle.tmr_top.specs.Loads.{original_file, hardened_file}
 use Rattle.tmr_top.specs.Designs.{HoldsDesign}
 use Rattle.tmr_texts.specs.Texts.{guard_line}
 
-pub guarded_outcome : (held : Contents) (w : Guarding) (n : Net) (a : List Bool) (bytes text : List ℕ) → HoldsDesign held (original_file w.original) n a → Guards n (guard_net n) → bytes ≡ flat_text (guard_net n) → length bytes ≤ 1073741824 → IsNetOf bytes 1073741824 (guard_net n) 0
+pub guarded_outcome : (held : Contents) (w : Guarding) (n : Net) (a : List Bool) (bytes text : List ℕ) → HoldsDesign held (original_file w.limits w.original) n a → Guards n (guard_net n) → bytes ≡ flat_text (guard_net n) → length bytes ≤ most_hardened w.limits → IsNetOf bytes (most_hardened w.limits) (guard_net n) 0
     → text ≡ guard_line n (guard_net n) (count_by (λ bit. bit) a) → IsGuarded w held (bytes ∷ []) text
 guarded_outcome held w n a bytes text holds guards same keeps read says = record {
   original = n;
@@ -23,13 +24,13 @@ guarded_outcome held w n a bytes text holds guards same keeps read says = record
   holds = holds;
   guards = guards;
   saves = ap (λ (t : List ℕ). t ∷ []) same;
-  keeps = subst (λ (t : List ℕ). length t ≤ 1073741824) same keeps;
-  read = subst (λ (t : List ℕ). IsNetOf t 1073741824 (guard_net n) 0) same read;
+  keeps = subst (λ (t : List ℕ). length t ≤ most_hardened w.limits) same keeps;
+  read = subst (λ (t : List ℕ). IsNetOf t (most_hardened w.limits) (guard_net n) 0) same read;
   says = says;
 }
 
 -- the first of the two files that is no design
-pub none_read : (w : Guarding) (line : List ℕ) (held : Contents) → AreRefused (original_file w.original) (hardened_file w.guarded) line held → IsUnguarded w held line ⊎ IsGuardUnread w held line
+pub none_read : (w : Guarding) (line : List ℕ) (held : Contents) → AreRefused (original_file w.limits w.original) (hardened_file w.limits w.guarded) line held → IsUnguarded w held line ⊎ IsGuardUnread w held line
 none_read w line held (inl first) = inl (record { reason = first.reason; unread = first.unread; says = first.says })
 none_read w line held (inr second) = inr (record {
   original = second.design;

@@ -10,6 +10,7 @@ use Rattle.hierarchy.proofs.Marks.{marks_counted}
 use Rattle.blif_writer.specs.NetOf.{IsNetOf, IsFreeNetOf}
 use Rattle.blif_writer.specs.Text.{flat_text}
 use Rattle.dwc.specs.Guard.{guard_net}
+use Rattle.limits.specs.Most.{most_hardened}
 use Rattle.tmr_outside.specs.Contents.{Contents}
 use Rattle.tmr_outside.specs.Seen.{FilesSeen}
 use Rattle.tmr_outside.proofs.ContentsLemmas.{get-insert_other, get-insert_same}
@@ -47,19 +48,19 @@ module _ (w : Guarding) (held now : Contents) (text : List ℕ) (is : IsDone (Gu
   guarded_there : get now w.guarded ≡ Some design
   guarded_there = ap (λ (m : Contents). get m w.guarded) saved ∙ get-insert_same held w.guarded design
 
-  guarded_read : HoldsDesign now (hardened_file w.guarded) (guard_net is.outcome.original) marks
+  guarded_read : HoldsDesign now (hardened_file w.limits w.guarded) (guard_net is.outcome.original) marks
   guarded_read = record {
     bytes = design;
     there = guarded_there;
     short = is.outcome.keeps;
-    fact = free_read design 1073741824 (guard_net is.outcome.original) 0 is.outcome.read;
+    fact = free_read design (most_hardened w.limits) (guard_net is.outcome.original) 0 is.outcome.read;
   }
 
   module _ (other : w.original ≢ w.guarded) where
     original_there : get now w.original ≡ Some is.outcome.holds.bytes
     original_there = ap (λ (m : Contents). get m w.original) saved ∙ (get-insert_other held w.guarded design w.original other ∙ is.outcome.holds.there)
 
-    original_read : HoldsDesign now (original_file w.original) is.outcome.original is.outcome.free
+    original_read : HoldsDesign now (original_file w.limits w.original) is.outcome.original is.outcome.free
     original_read = record { bytes = is.outcome.holds.bytes; there = original_there; short = is.outcome.holds.short; fact = is.outcome.holds.fact }
 
     checks : Succeeds (CheckGuard w) now

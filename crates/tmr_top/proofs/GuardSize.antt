@@ -18,6 +18,9 @@ use Rattle.hardened_size.proofs.Original.{limit_kept}
 use Rattle.dwc.specs.Guard.{twin, twin_text, twofold, node_twin, differ_cover, comparator, any_cover, alarm, alarm_net, guard_net}
 use Rattle.dwc.proofs.Texts.{twin_tailed, comparator_tailed, alarm_tailed}
 use Rattle.dwc.proofs.Nodes.{twin_name, comparator_name, alarm_name}
+use Rattle.limits.specs.declared.Limits.{Limits}
+use Rattle.limits.specs.Most.{most_original, most_hardened}
+use Rattle.limits.proofs.MostLaws.{hardened_is}
 use Rattle.tmr_top.specs.Private.FlatWithin.{IsFlatWithin}
 
 -- ---- the parts of a guarded design
@@ -182,5 +185,5 @@ module _ (n : Net) (valid : IsValid n) where
   guarded_long = omega (arith, ap spaced (model_is n), inputs_long, ap (λ (c : Option (Edge × List ℕ)). all_spaced (clock_words c)) (clock_is n), clock_long n.clock, outputs_long, nodes_long)
 
 -- the flat text of a guarded design keeps the limit of its file, where the original was flattened within its own
-pub guarded_within : (n : Net) (f : List Bool) → IsValid n → IsFlatWithin 8388608 n f → flat_length (guard_net n) ≤ 1073741824
-guarded_within n f valid within = omega (arith, guarded_long n valid, limit_kept within.library 8388608 (count_by (λ bit. bit) f) n within.flat.flat)
+pub guarded_within : (l : Limits) (n : Net) (f : List Bool) → IsValid n → IsFlatWithin (most_original l) n f → flat_length (guard_net n) ≤ most_hardened l
+guarded_within l n f valid within = omega (arith, guarded_long n valid, hardened_is l, limit_kept within.library (most_original l) (count_by (λ bit. bit) f) n within.flat.flat)

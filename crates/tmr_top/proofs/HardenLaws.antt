@@ -8,6 +8,8 @@ use Rattle.certificate.specs.Cert.{PlainCert, IsCert}
 use Rattle.certificate.specs.Starts.{counted}
 use Rattle.recovery_depth.specs.Extra.{is_extra}
 use Rattle.hardened_size.specs.Size.{AreShort, IsHardenedFrom, FlatTextKeepsLimit, HardenedTextsKeepLimits, KeepLimits}
+use Rattle.limits.specs.declared.Limits.{Limits}
+use Rattle.limits.specs.Most.{most_original, most_hardened, widest_nets}
 use Rattle.tmr_top.specs.Private.FlatWithin.{IsFlatWithin}
 use Rattle.certificate.specs.Reading.{cert_of_text}
 use Rattle.certificate.specs.Text.{cert_text}
@@ -32,10 +34,7 @@ no_trial w t e = cc
 pub no_check : (w : Hardening) (p : Pair) → Harden w ≡ Validate p → ⊥
 no_check w p e = cc
 
-pub few_pins : (x : ℕ) → 2 * x ≤ 8388608 → x ≤ 16777216
-few_pins x few = omega (arith, few)
-
-pub hardened_outcome : (held : Contents) (w : Hardening) (n h : Net) (f g : List Bool) (k : PlainCert) (minimal : Bool) (d e text : List ℕ) → HoldsDesign held (original_file w.original) n f → BoundedForm w.form n f w.size w.version w.most h g k → (length n.nodes < w.most → HasNoExtra w n f h g k) → net_count n + pin_total n ≤ 16777216 → AreShort n h k → (IsTrue minimal ↔ IsMinimal n w.size (parts_of k)) → d ≡ free_text h g → length d ≤ 1073741824 → IsFreeNetOf d 1073741824 h g → e ≡ cert_text n h k → length e ≤ 1073741824 → cert_of_text n h e ≡ Ok k → text ≡ hardened_lines (form_numbers n w.size h k minimal) k.version (count_by (λ bit. bit) f) → IsHardened w held (d ∷ e ∷ []) text
+pub hardened_outcome : (held : Contents) (w : Hardening) (n h : Net) (f g : List Bool) (k : PlainCert) (minimal : Bool) (d e text : List ℕ) → HoldsDesign held (original_file w.limits w.original) n f → BoundedForm w.form n f w.size w.version w.most h g k → (length n.nodes < w.most → HasNoExtra w n f h g k) → net_count n + pin_total n ≤ widest_nets → AreShort n h k → (IsTrue minimal ↔ IsMinimal n w.size (parts_of k)) → d ≡ free_text h g → length d ≤ most_hardened w.limits → IsFreeNetOf d (most_hardened w.limits) h g → e ≡ cert_text n h k → length e ≤ most_hardened w.limits → cert_of_text n h e ≡ Ok k → text ≡ hardened_lines (form_numbers n w.size h k minimal) k.version (count_by (λ bit. bit) f) → IsHardened w held (d ∷ e ∷ []) text
 hardened_outcome held w n h f g k minimal d e text holds form unbounded few short is_minimal d_is d_short d_read e_is e_short e_read says = record {
   original = n;
   free = f;
@@ -49,9 +48,9 @@ hardened_outcome held w n h f g k minimal d e text holds form unbounded few shor
   short = short;
   saves = both;
   read = record {
-    design_short = subst (λ (t : List ℕ). length t ≤ 1073741824) d_is d_short;
-    design_read = subst (λ (t : List ℕ). IsFreeNetOf t 1073741824 h g) d_is d_read;
-    certificate_short = subst (λ (t : List ℕ). length t ≤ 1073741824) e_is e_short;
+    design_short = subst (λ (t : List ℕ). length t ≤ most_hardened w.limits) d_is d_short;
+    design_read = subst (λ (t : List ℕ). IsFreeNetOf t (most_hardened w.limits) h g) d_is d_read;
+    certificate_short = subst (λ (t : List ℕ). length t ≤ most_hardened w.limits) e_is e_short;
     certificate_read = subst (λ (t : List ℕ). cert_of_text n h t ≡ Ok k) e_is e_read;
   };
   minimal = minimal;
@@ -89,7 +88,7 @@ hardened_from kind n h f g size version most k valid certificate some form = rec
 }
 
 -- the texts of a hardened form keep the limits of their files, where the original was flattened within its own
-pub limits_kept : (n h : Net) (f : List Bool) (k : PlainCert) → IsHardenedFrom n h k → IsFlatWithin 8388608 n f → FlatTextKeepsLimit n → HardenedTextsKeepLimits n → KeepLimits n h k
-limits_kept n h f k from within original law = law h k f from (original within.library 8388608 f within.flat)
+pub limits_kept : (l : Limits) (n h : Net) (f : List Bool) (k : PlainCert) → IsHardenedFrom n h k → IsFlatWithin (most_original l) n f → FlatTextKeepsLimit n → HardenedTextsKeepLimits n → KeepLimits l n h k
+limits_kept l n h f k from within original law = law l h k f from (original within.library (most_original l) f within.flat)
 
 pub ruleset versions = (known_version)

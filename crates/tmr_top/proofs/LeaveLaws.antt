@@ -39,10 +39,10 @@ module _ (w : Hardening) (held now : Contents) (text : List ℕ) (differ : w.har
       ap (λ (m : Contents). get m w.hardened) saved
       ∙ (get-insert_other first w.certificate certificate w.hardened differ ∙ get-insert_same held w.hardened design)
 
-  hardened_read : HoldsDesign now (hardened_file w.hardened) is.outcome.hardened is.outcome.marks
+  hardened_read : HoldsDesign now (hardened_file w.limits w.hardened) is.outcome.hardened is.outcome.marks
   hardened_read = record { bytes = design; there = hardened_there; short = is.outcome.read.design_short; fact = is.outcome.read.design_read }
 
-  certificate_read : HoldsCertificate now (certificate_file w.certificate) is.outcome.original is.outcome.hardened is.outcome.certificate
+  certificate_read : HoldsCertificate now (certificate_file w.limits w.certificate) is.outcome.original is.outcome.hardened is.outcome.certificate
   certificate_read = record { bytes = certificate; there = certificate_there; short = is.outcome.read.certificate_short; fact = is.outcome.read.certificate_read }
 
   module _ (one : w.original ≢ w.hardened) (other : w.original ≢ w.certificate) where
@@ -52,7 +52,7 @@ module _ (w : Hardening) (held now : Contents) (text : List ℕ) (differ : w.har
         ∙ (get-insert_other first w.certificate certificate w.original other
         ∙ (get-insert_other held w.hardened design w.original one ∙ is.outcome.holds.there))
 
-    original_read : HoldsDesign now (original_file w.original) is.outcome.original is.outcome.free
+    original_read : HoldsDesign now (original_file w.limits w.original) is.outcome.original is.outcome.free
     original_read = record { bytes = is.outcome.holds.bytes; there = original_there; short = is.outcome.holds.short; fact = is.outcome.holds.fact }
 
     abbrev pair : ReadPair

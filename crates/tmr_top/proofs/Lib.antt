@@ -4,6 +4,7 @@ pub mod SaveLaws
 pub mod DesignLaws
 pub mod PairLaws
 pub mod ShownLaws
+pub mod LimitLaws
 pub mod PerformLaws
 pub mod RoomLaws
 pub mod ReplayLaws

@@ -51,8 +51,8 @@ one_validated p held Refused NotAccepted s t x y one other = absurd (unread_pair
 one_hardened : (h : Hardening) (held : Contents) (v w : Verdict) (s t : List (List ℕ)) (x y : List ℕ) → Hardened h held v s x → Hardened h held w t y → v ≡ w
 one_hardened h held Done Done s t x y one other = refl
 one_hardened h held Refused Refused s t x y one other = refl
-one_hardened h held Done Refused s t x y one other = absurd (design_or_none held (original_file h.original) one.original one.free other.reason one.holds other.unread)
-one_hardened h held Refused Done s t x y one other = absurd (design_or_none held (original_file h.original) other.original other.free one.reason other.holds one.unread)
+one_hardened h held Done Refused s t x y one other = absurd (design_or_none held (original_file h.limits h.original) one.original one.free other.reason one.holds other.unread)
+one_hardened h held Refused Done s t x y one other = absurd (design_or_none held (original_file h.limits h.original) other.original other.free one.reason other.holds one.unread)
 one_hardened h held NotAccepted w s t x y one other = absurd one
 one_hardened h held Done NotAccepted s t x y one other = absurd other
 one_hardened h held Refused NotAccepted s t x y one other = absurd other
@@ -60,8 +60,8 @@ one_hardened h held Refused NotAccepted s t x y one other = absurd other
 one_flattened : (f : Flattening) (held : Contents) (v w : Verdict) (s t : List (List ℕ)) (x y : List ℕ) → Flattened f held v s x → Flattened f held w t y → v ≡ w
 one_flattened f held Done Done s t x y one other = refl
 one_flattened f held Refused Refused s t x y one other = refl
-one_flattened f held Done Refused s t x y one other = absurd (design_or_none held (original_file f.original) one.design one.free other.reason one.holds other.unread)
-one_flattened f held Refused Done s t x y one other = absurd (design_or_none held (original_file f.original) other.design other.free one.reason other.holds one.unread)
+one_flattened f held Done Refused s t x y one other = absurd (design_or_none held (original_file f.limits f.original) one.design one.free other.reason one.holds other.unread)
+one_flattened f held Refused Done s t x y one other = absurd (design_or_none held (original_file f.limits f.original) other.design other.free one.reason other.holds one.unread)
 one_flattened f held NotAccepted w s t x y one other = absurd one
 one_flattened f held Done NotAccepted s t x y one other = absurd other
 one_flattened f held Refused NotAccepted s t x y one other = absurd other
@@ -140,8 +140,8 @@ module _ (w : Replaying) (held : Contents) where
 one_guarded : (g : Guarding) (held : Contents) (v w : Verdict) (s t : List (List ℕ)) (x y : List ℕ) → Guarded g held v s x → Guarded g held w t y → v ≡ w
 one_guarded g held Done Done s t x y one other = refl
 one_guarded g held Refused Refused s t x y one other = refl
-one_guarded g held Done Refused s t x y one other = absurd (design_or_none held (original_file g.original) one.original one.free other.reason one.holds other.unread)
-one_guarded g held Refused Done s t x y one other = absurd (design_or_none held (original_file g.original) other.original other.free one.reason other.holds one.unread)
+one_guarded g held Done Refused s t x y one other = absurd (design_or_none held (original_file g.limits g.original) one.original one.free other.reason one.holds other.unread)
+one_guarded g held Refused Done s t x y one other = absurd (design_or_none held (original_file g.limits g.original) other.original other.free one.reason other.holds one.unread)
 one_guarded g held NotAccepted w s t x y one other = absurd one
 one_guarded g held Done NotAccepted s t x y one other = absurd other
 one_guarded g held Refused NotAccepted s t x y one other = absurd other
@@ -149,14 +149,14 @@ one_guarded g held Refused NotAccepted s t x y one other = absurd other
 module _ (w : Guarding) (held : Contents) where
   -- files that are read are not refused
   guard_or_unread : (text : List ℕ) (one : ReadGuard w held) → IsUnguarded w held text ⊎ IsGuardUnread w held text → ⊥
-  guard_or_unread text one (inl unread) = design_or_none held (original_file w.original) one.original one.free unread.reason one.original_read unread.unread
-  guard_or_unread text one (inr unread) = design_or_none held (hardened_file w.guarded) one.guarded one.guarded_free unread.reason one.guarded_read unread.unread
+  guard_or_unread text one (inl unread) = design_or_none held (original_file w.limits w.original) one.original one.free unread.reason one.original_read unread.unread
+  guard_or_unread text one (inr unread) = design_or_none held (hardened_file w.limits w.guarded) one.guarded one.guarded_free unread.reason one.guarded_read unread.unread
 
   -- a guarded design is no other one
   guard_or_other : (one other : ReadGuard w held) (rule place : ℕ) → guard_net one.original ≡ one.guarded → BreaksFirst (guard_net other.original) other.guarded rule place → ⊥
   guard_or_other one other rule place is fails =
-      let original = one_design held (original_file w.original) one.original other.original one.free other.free one.original_read other.original_read in
-      let guarded = one_design held (hardened_file w.guarded) one.guarded other.guarded one.guarded_free other.guarded_free one.guarded_read other.guarded_read in
+      let original = one_design held (original_file w.limits w.original) one.original other.original one.free other.free one.original_read other.original_read in
+      let guarded = one_design held (hardened_file w.limits w.guarded) one.guarded other.guarded one.guarded_free other.guarded_free one.guarded_read other.guarded_read in
       no_failure (guard_net other.original) other.guarded rule place (sym (ap guard_net original.0) ∙ (is ∙ guarded.0)) fails
 
   one_checked : (v u : Verdict) (s t : List (List ℕ)) (x y : List ℕ) → GuardChecked w held v s x → GuardChecked w held u t y → v ≡ u
@@ -173,8 +173,8 @@ module _ (w : Guarding) (held : Contents) where
 one_graphed : (g : Graphing) (held : Contents) (v w : Verdict) (s t : List (List ℕ)) (x y : List ℕ) → Graphed g held v s x → Graphed g held w t y → v ≡ w
 one_graphed g held Done Done s t x y one other = refl
 one_graphed g held Refused Refused s t x y one other = refl
-one_graphed g held Done Refused s t x y one other = absurd (design_or_none held (original_file g.original) one.original.design.net one.original.free other.reason one.holds other.unread)
-one_graphed g held Refused Done s t x y one other = absurd (design_or_none held (original_file g.original) other.original.design.net other.original.free one.reason other.holds one.unread)
+one_graphed g held Done Refused s t x y one other = absurd (design_or_none held (original_file g.limits g.original) one.original.design.net one.original.free other.reason one.holds other.unread)
+one_graphed g held Refused Done s t x y one other = absurd (design_or_none held (original_file g.limits g.original) other.original.design.net other.original.free one.reason other.holds one.unread)
 one_graphed g held NotAccepted w s t x y one other = absurd one
 one_graphed g held Done NotAccepted s t x y one other = absurd other
 one_graphed g held Refused NotAccepted s t x y one other = absurd other
@@ -193,8 +193,8 @@ one_exposed p held Refused NotAccepted s t x y one other = absurd (unread_pair h
 one_swept : (q : Sweeping) (held : Contents) (v w : Verdict) (s t : List (List ℕ)) (x y : List ℕ) → SweptOver q held v s x → SweptOver q held w t y → v ≡ w
 one_swept q held Done Done s t x y one other = refl
 one_swept q held Refused Refused s t x y one other = refl
-one_swept q held Done Refused s t x y one other = absurd (design_or_none held (original_file q.original) one.0.design.design.net one.0.design.free other.reason one.0.holds other.unread)
-one_swept q held Refused Done s t x y one other = absurd (design_or_none held (original_file q.original) other.0.design.design.net other.0.design.free one.reason other.0.holds one.unread)
+one_swept q held Done Refused s t x y one other = absurd (design_or_none held (original_file q.limits q.original) one.0.design.design.net one.0.design.free other.reason one.0.holds other.unread)
+one_swept q held Refused Done s t x y one other = absurd (design_or_none held (original_file q.limits q.original) other.0.design.design.net other.0.design.free one.reason other.0.holds one.unread)
 one_swept q held NotAccepted w s t x y one other = absurd one
 one_swept q held Done NotAccepted s t x y one other = absurd other
 one_swept q held Refused NotAccepted s t x y one other = absurd other
@@ -238,8 +238,8 @@ one_pictured q held Refused NotAccepted s t x y one other = absurd (unread_pair 
 
 -- two designs are read, or one of the two files is refused
 designs_or_refused : (q : Certifying) (held : Contents) (d : HeldDesigns q held) (y : List ℕ) → IsOriginalUnread (certified_pair q) held y ⊎ IsHardenedUnread (certified_pair q) held y → ⊥
-designs_or_refused q held d y (inl none) = design_or_none held (original_file q.original) d.original d.free none.reason d.original_read none.unread
-designs_or_refused q held d y (inr none) = design_or_none held (hardened_file q.hardened) d.hardened d.hardened_free none.reason d.hardened_read none.unread
+designs_or_refused q held d y (inl none) = design_or_none held (original_file q.limits q.original) d.original d.free none.reason d.original_read none.unread
+designs_or_refused q held d y (inr none) = design_or_none held (hardened_file q.limits q.hardened) d.hardened d.hardened_free none.reason d.hardened_read none.unread
 
 certified_or_refused : (q : Certifying) (held : Contents) (v : Verdict) (s t : List (List ℕ)) (x y : List ℕ) → Certified q held v s x → Certified q held Refused t y → v ≡ Refused
 certified_or_refused q held Done s t x y one other = absurd (designs_or_refused q held one.designs y other)

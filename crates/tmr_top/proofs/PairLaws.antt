@@ -9,6 +9,9 @@ use Rattle.flat_net.specs.Free.{FreeDesign}
 use Rattle.flat_net.specs.Net.{Net, net_count, pin_total}
 use Rattle.certificate.specs.Cert.{PlainCert}
 use Rattle.certificate.specs.Reading.{cert_of_text}
+use Rattle.limits.specs.declared.Limits.{Limits}
+use Rattle.limits.specs.Most.{most_original, widest_nets}
+use Rattle.limits.proofs.MostLaws.{original_within}
 use Rattle.tmr_outside.specs.Contents.{Contents}
 use Rattle.tmr_words.specs.Line.{Pair}
 use Rattle.tmr_top.specs.Loads.{Load, original_file, hardened_file, certificate_file}
@@ -60,8 +63,8 @@ ok_or_err x y e k f g h = cc
 
 pub one_pair : (held : Contents) (p : Pair) (r s : ReadPair) → HoldsPair held p r → HoldsPair held p s → r ≡ s
 one_pair held p r s one other =
-    let original = one_design held (original_file p.original) r.original s.original r.free s.free one.original_read other.original_read in
-    let hardened = one_design held (hardened_file p.hardened) r.hardened s.hardened r.hardened_free s.hardened_free one.hardened_read other.hardened_read in
+    let original = one_design held (original_file p.limits p.original) r.original s.original r.free s.free one.original_read other.original_read in
+    let hardened = one_design held (hardened_file p.limits p.hardened) r.hardened s.hardened r.hardened_free s.hardened_free one.hardened_read other.hardened_read in
     let bytes = same_bytes (get held p.certificate) one.certificate_read.bytes other.certificate_read.bytes one.certificate_read.there other.certificate_read.there in
     let text = same_text r.original s.original r.hardened s.hardened one.certificate_read.bytes other.certificate_read.bytes original.0 hardened.0 bytes in
     let certificate = same_ok (cert_of_text r.original r.hardened one.certificate_read.bytes) (cert_of_text s.original s.hardened other.certificate_read.bytes) r.certificate s.certificate text one.certificate_read.fact other.certificate_read.fact in
@@ -72,11 +75,11 @@ pub unread_pair : (held : Contents) (p : Pair) (text : List ℕ) (r : ReadPair) 
 unread_pair held p text r unread read = go unread
   where
     go : IsPairUnread p held text → ⊥
-    go (inl says) = design_or_none held (original_file p.original) r.original r.free says.reason read.original_read says.unread
-    go (inr (inl says)) = design_or_none held (hardened_file p.hardened) r.hardened r.hardened_free says.reason read.hardened_read says.unread
+    go (inl says) = design_or_none held (original_file p.limits p.original) r.original r.free says.reason read.original_read says.unread
+    go (inr (inl says)) = design_or_none held (hardened_file p.limits p.hardened) r.hardened r.hardened_free says.reason read.hardened_read says.unread
     go (inr (inr says)) =
-        let original = one_design held (original_file p.original) says.original r.original says.free r.free says.original_read read.original_read in
-        let hardened = one_design held (hardened_file p.hardened) says.hardened r.hardened says.hardened_free r.hardened_free says.hardened_read read.hardened_read in
+        let original = one_design held (original_file p.limits p.original) says.original r.original says.free r.free says.original_read read.original_read in
+        let hardened = one_design held (hardened_file p.limits p.hardened) says.hardened r.hardened says.hardened_free r.hardened_free says.hardened_read read.hardened_read in
         let bytes = same_bytes (get held p.certificate) says.unread.bytes read.certificate_read.bytes says.unread.there read.certificate_read.there in
         let same = same_text says.original r.original says.hardened r.hardened says.unread.bytes read.certificate_read.bytes original.0 hardened.0 bytes in
         ok_or_err (cert_of_text says.original says.hardened says.unread.bytes) (cert_of_text r.original r.hardened read.certificate_read.bytes) says.fault r.certificate same says.unread.fact read.certificate_read.fact
@@ -89,26 +92,26 @@ agrees held p r text holds accepts differs =
 
 -- ---- a pair that is read, and its refusals
 
-pub pair_read : (p : Pair) (held : Contents) (designs : Designs) (k : PlainCert) (read : PairRead) → read.original ≡ designs.original → read.hardened ≡ designs.hardened → read.certificate ≡ k → AreDesigns p.original p.hardened designs held → HoldsCertificate held (certificate_file p.certificate) designs.original.design.net designs.hardened.design.net k → HoldsPair held p (pair_of read)
+pub pair_read : (p : Pair) (held : Contents) (designs : Designs) (k : PlainCert) (read : PairRead) → read.original ≡ designs.original → read.hardened ≡ designs.hardened → read.certificate ≡ k → AreDesigns p.limits p.original p.hardened designs held → HoldsCertificate held (certificate_file p.limits p.certificate) designs.original.design.net designs.hardened.design.net k → HoldsPair held p (pair_of read)
 pair_read p held designs k read one two three are holds = record {
-  original_read = subst (λ (n : FreeDesign). HoldsDesign held (original_file p.original) n.design.net n.free) (sym one) are.original_read;
-  hardened_read = subst (λ (n : FreeDesign). HoldsDesign held (hardened_file p.hardened) n.design.net n.free) (sym two) are.hardened_read;
+  original_read = subst (λ (n : FreeDesign). HoldsDesign held (original_file p.limits p.original) n.design.net n.free) (sym one) are.original_read;
+  hardened_read = subst (λ (n : FreeDesign). HoldsDesign held (hardened_file p.limits p.hardened) n.design.net n.free) (sym two) are.hardened_read;
   certificate_read =
-      subst (λ (n : FreeDesign). HoldsCertificate held (certificate_file p.certificate) n.design.net read.hardened.design.net read.certificate) (sym one)
-      (subst (λ (n : FreeDesign). HoldsCertificate held (certificate_file p.certificate) designs.original.design.net n.design.net read.certificate) (sym two)
-      (subst (λ (c : PlainCert). HoldsCertificate held (certificate_file p.certificate) designs.original.design.net designs.hardened.design.net c) (sym three) holds));
+      subst (λ (n : FreeDesign). HoldsCertificate held (certificate_file p.limits p.certificate) n.design.net read.hardened.design.net read.certificate) (sym one)
+      (subst (λ (n : FreeDesign). HoldsCertificate held (certificate_file p.limits p.certificate) designs.original.design.net n.design.net read.certificate) (sym two)
+      (subst (λ (c : PlainCert). HoldsCertificate held (certificate_file p.limits p.certificate) designs.original.design.net designs.hardened.design.net c) (sym three) holds));
 }
 
-pub fit_pair : (designs : Designs) (k : PlainCert) (read : PairRead) → read.original ≡ designs.original → read.hardened ≡ designs.hardened → read.certificate ≡ k → Fits designs.original.design.net designs.hardened.design.net k → 2 * (net_count designs.original.design.net + pin_total designs.original.design.net) ≤ 8388608 → IsFit read
-fit_pair designs k read one two three fits few = record {
+pub fit_pair : (l : Limits) (designs : Designs) (k : PlainCert) (read : PairRead) → read.original ≡ designs.original → read.hardened ≡ designs.hardened → read.certificate ≡ k → Fits designs.original.design.net designs.hardened.design.net k → 2 * (net_count designs.original.design.net + pin_total designs.original.design.net) ≤ most_original l → IsFit read
+fit_pair l designs k read one two three fits few = record {
   fits =
       subst (λ (n : FreeDesign). Fits n.design.net read.hardened.design.net read.certificate) (sym one)
       (subst (λ (n : FreeDesign). Fits designs.original.design.net n.design.net read.certificate) (sym two)
       (subst (λ (c : PlainCert). Fits designs.original.design.net designs.hardened.design.net c) (sym three) fits));
-  small = subst (λ (n : FreeDesign). net_count n.design.net ≤ 4194304) (sym one) (omega (arith, few));
+  small = subst (λ (n : FreeDesign). 4 * net_count n.design.net ≤ widest_nets) (sym one) (omega (arith, few, original_within l));
 }
 
-pub designs_unread : (p : Pair) (line : List ℕ) (held : Contents) → AreRefused (original_file p.original) (hardened_file p.hardened) line held → IsPairUnread p held line
+pub designs_unread : (p : Pair) (line : List ℕ) (held : Contents) → AreRefused (original_file p.limits p.original) (hardened_file p.limits p.hardened) line held → IsPairUnread p held line
 designs_unread p line held (inl first) = inl (record { reason = first.reason; unread = first.unread; says = first.says })
 designs_unread p line held (inr second) = inr (inl (record {
   original = second.design;
@@ -119,7 +122,7 @@ designs_unread p line held (inr second) = inr (inl (record {
   says = second.refused.says;
 }))
 
-pub certificate_unread : (p : Pair) (line : List ℕ) (held : Contents) (designs : Designs) → AreDesigns p.original p.hardened designs held → IsRefusedCertificate p.certificate designs.original.design.net designs.hardened.design.net line held → IsPairUnread p held line
+pub certificate_unread : (p : Pair) (line : List ℕ) (held : Contents) (designs : Designs) → AreDesigns p.limits p.original p.hardened designs held → IsRefusedCertificate p.limits p.certificate designs.original.design.net designs.hardened.design.net line held → IsPairUnread p held line
 certificate_unread p line held designs are refused = inr (inr (record {
   original = designs.original.design.net;
   free = designs.original.free;

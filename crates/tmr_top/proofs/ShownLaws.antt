@@ -12,6 +12,8 @@ use Rattle.certificate.specs.declared.fault.CertFault.{CertFault}
 use Rattle.explaining.specs.Lines.{shown_line}
 use Rattle.flat_net.specs.Free.{FreeDesign}
 use Rattle.flat_net.specs.Net.{Net}
+use Rattle.limits.specs.declared.Limits.{Limits}
+use Rattle.limits.specs.Most.{most_hardened}
 use Rattle.tmr_outside.specs.Contents.{Contents}
 use Rattle.tmr_texts.specs.Reasons.{kind_text, cert_reason}
 use Rattle.tmr_texts.specs.Texts.{refused_line, line_reason}
@@ -109,16 +111,16 @@ netlist_gives name limit items bytes models answer same read gives = go answer g
         (λ text held holds refused. none_shown held name limit bytes (now held holds) models text read refused)
 
 -- the faulty line of a certificate is shown
-pub fault_shown : (held : Contents) (name : List ℕ) (n h : Net) (bytes : List ℕ) (fault : CertFault) (text : List ℕ) → HoldsBytes held (certificate_file name) bytes → cert_of_text n h bytes ≡ Err fault → text ≡ refused_line name (cert_reason fault) ++ line_shown bytes (faulty_line fault) → IsShownCertificate name n h text held
-fault_shown held name n h bytes fault text holds unread says = record {
+pub fault_shown : (l : Limits) (held : Contents) (name : List ℕ) (n h : Net) (bytes : List ℕ) (fault : CertFault) (text : List ℕ) → HoldsBytes held (certificate_file l name) bytes → cert_of_text n h bytes ≡ Err fault → text ≡ refused_line name (cert_reason fault) ++ line_shown bytes (faulty_line fault) → IsShownCertificate l name n h text held
+fault_shown l held name n h bytes fault text holds unread says = record {
   refusal = refused_line name (cert_reason fault);
-  refused = record { fault = fault; unread = holds_no_certificate held (certificate_file name) bytes n h fault holds unread; says = refl };
-  shows = record { bytes = bytes; there = holds.there ∙ ap Some holds.fact; short = subst (λ (b : List ℕ). length b ≤ 1073741824) holds.fact holds.short; fact = says };
+  refused = record { fault = fault; unread = holds_no_certificate held (certificate_file l name) bytes n h fault holds unread; says = refl };
+  shows = record { bytes = bytes; there = holds.there ∙ ap Some holds.fact; short = subst (λ (b : List ℕ). length b ≤ most_hardened l) holds.fact holds.short; fact = says };
 }
 
 -- ---- the refusals of a pair
 
-pub designs_shown : (p : Pair) (text : List ℕ) (held : Contents) → AreShown (original_file p.original) (hardened_file p.hardened) text held → IsPairShown p held text
+pub designs_shown : (p : Pair) (text : List ℕ) (held : Contents) → AreShown (original_file p.limits p.original) (hardened_file p.limits p.hardened) text held → IsPairShown p held text
 designs_shown p text held (inl first) = inl (record {
   refusal = first.refusal;
   unread = record { reason = first.refused.reason; unread = first.refused.unread; says = first.refused.says };
@@ -137,7 +139,7 @@ designs_shown p text held (inr second) = inr (inl (record {
   shows = second.shown.shows;
 }))
 
-pub certificate_shown : (p : Pair) (text : List ℕ) (held : Contents) (designs : Designs) → AreDesigns p.original p.hardened designs held → IsShownCertificate p.certificate designs.original.design.net designs.hardened.design.net text held → IsPairShown p held text
+pub certificate_shown : (p : Pair) (text : List ℕ) (held : Contents) (designs : Designs) → AreDesigns p.limits p.original p.hardened designs held → IsShownCertificate p.limits p.certificate designs.original.design.net designs.hardened.design.net text held → IsPairShown p held text
 certificate_shown p text held designs are shown = inr (inr (record {
   refusal = shown.refusal;
   unread = record {

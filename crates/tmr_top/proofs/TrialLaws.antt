@@ -7,6 +7,7 @@ use Rattle.certificate.specs.Rules.{IsFirstFailure}
 use Rattle.partitioner.specs.Refining.{IsMinimal}
 use Rattle.triplicate.specs.Form.{HardenedForm, parts_of}
 use Rattle.schedule_replay.proofs.Quiet.{three_outputs}
+use Rattle.limits.specs.Most.{widest_nets}
 use Rattle.tmr_trial.specs.Designs.{design_of}
 use Rattle.tmr_trial.proofs.NodeLaws.{pins_few}
 use Rattle.tmr_trial.proofs.Valid.{count_is}
@@ -19,7 +20,7 @@ use Rattle.tmr_top.specs.Tried.{IsTried, trial_lines}
 -- ---- the design and its hardened form
 
 -- a drawn design is small enough to be hardened
-pub few_enough : (number nodes : ℕ) → nodes ≤ 100000 → net_count (design_of number nodes) + pin_total (design_of number nodes) ≤ 16777216
+pub few_enough : (number nodes : ℕ) → nodes ≤ 100000 → net_count (design_of number nodes) + pin_total (design_of number nodes) ≤ widest_nets
 unfolding design_of
 few_enough number nodes few = omega (arith, few, count_is number nodes few, pins_few number nodes)
 

@@ -15,6 +15,7 @@ use Rattle.schedule_replay.specs.Outcome.{outputs_in, outputs_until, output_at}
 use Rattle.schedules.specs.Schedule.{PlainSchedule}
 use Rattle.schedule_replay.specs.Waves.{waves, wave_of, AreFreeWaves}
 use Rattle.vcd_text.specs.Text.{vcd_text}
+use Rattle.limits.specs.Most.{widest_nets}
 use Rattle.tmr_texts.specs.ReplayText.{output_name, waves_of, waves_at, output_waves}
 use Rattle.tmr_top.specs.Replayed.{AreSaved, is_too_large}
 
@@ -133,7 +134,7 @@ module _ (n : Net) (valid : IsValid n) (names : List (List ℕ)) (are : names �
       let both = two_alike _ (36 ∷ 101 ∷ []) 126 110 (wave_byte one.wave) 100 (sym one.is ∙ e) in
       not_d one.wave both.2
 
-  pub waves_few : net_count n ≤ 4194304 → length names ≤ 16777216
+  pub waves_few : 4 * net_count n ≤ widest_nets → length names ≤ widest_nets
   waves_few few = let a = outputs_few n valid in let b = length-waves n n.outputs in let e = ap length are in omega arith
 
 -- ---- values

@@ -11,6 +11,7 @@ use Rattle.certifying.specs.Certified.{IsAccepted}
 use Rattle.certifying.specs.Finest.{IsFinest}
 use Rattle.certifying.specs.Least.{AreLeastLabels}
 use Rattle.certifying.specs.Lines.{no_certificate_text}
+use Rattle.limits.specs.Most.{most_hardened}
 use Rattle.tmr_outside.specs.Contents.{Contents}
 use Rattle.tmr_top.specs.declared.decision.Verdict.{Verdict}
 use Rattle.tmr_top.specs.declared.decision.Verdict.TheVariants.{Done, NotAccepted, Refused}
@@ -20,18 +21,18 @@ use Rattle.tmr_top.specs.Designs.{HoldsDesign}
 use Rattle.tmr_top.specs.Validated.{IsOriginalUnread, IsHardenedUnread}
 use Rattle.tmr_texts.specs.Texts.{accepted_line, certificate_too_long}
 
--- the same three files
+-- the same three files, with the same limits
 abbrev pub certified_pair : Certifying → Pair
-certified_pair w = record { original = w.original; hardened = w.hardened; certificate = w.certificate }
+certified_pair w = record { original = w.original; hardened = w.hardened; certificate = w.certificate; limits = w.limits }
 
 -- both designs, each with its marks, as the two files hold them
 pub record HeldDesigns (w : Certifying) (held : Contents) : Type 0 where
   pub original : Net
   pub free : List Bool
-  pub original_read : HoldsDesign held (original_file w.original) original free
+  pub original_read : HoldsDesign held (original_file w.limits w.original) original free
   pub hardened : Net
   pub hardened_free : List Bool
-  pub hardened_read : HoldsDesign held (hardened_file w.hardened) hardened hardened_free
+  pub hardened_read : HoldsDesign held (hardened_file w.limits w.hardened) hardened hardened_free
 
 -- done: both designs are read, and a certificate of the version asked for is saved. The eight rules hold of it, it is the finest for its
 -- roles, and no labels and depths are smaller. Its text is within the limit of a certificate, and is read back as it. What `validate` would
@@ -43,7 +44,7 @@ pub record IsCertified (w : Certifying) (held : Contents) (saved : List (List �
   pub finest : IsFinest designs.original designs.free designs.hardened designs.hardened_free certificate
   pub least : AreLeastLabels designs.hardened certificate
   pub saves : saved ≡ cert_text designs.original designs.hardened certificate ∷ []
-  pub short : length (cert_text designs.original designs.hardened certificate) ≤ 1073741824
+  pub short : length (cert_text designs.original designs.hardened certificate) ≤ most_hardened w.limits
   pub read : cert_of_text designs.original designs.hardened (cert_text designs.original designs.hardened certificate) ≡ Ok certificate
   pub says : text ≡ accepted_line certificate (count_by (λ bit. bit) designs.free) (count_by (λ bit. bit) designs.hardened_free)
 
@@ -52,7 +53,7 @@ pub record IsTooLong (w : Certifying) (held : Contents) (text : List ℕ) : Type
   pub designs : HeldDesigns w held
   pub certificate : PlainCert
   pub accepted : IsAccepted designs.original designs.free designs.hardened designs.hardened_free w.version certificate
-  pub long : 1073741824 < length (cert_text designs.original designs.hardened certificate)
+  pub long : most_hardened w.limits < length (cert_text designs.original designs.hardened certificate)
   pub says : text ≡ certificate_too_long
 
 -- none is found, and the line names a place

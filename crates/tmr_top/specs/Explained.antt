@@ -49,19 +49,19 @@ faulty_line fault.Memory = 0
 pub record IsOriginalShown (p : Pair) (held : Contents) (text : List ℕ) : Type 0 where
   pub refusal : List ℕ
   pub unread : IsOriginalUnread p held refusal
-  pub shows : Holds held (original_file p.original) (λ bytes. text ≡ refusal ++ behind_netlist bytes)
+  pub shows : Holds held (original_file p.limits p.original) (λ bytes. text ≡ refusal ++ behind_netlist bytes)
 
 -- the same of the hardened file
 pub record IsHardenedShown (p : Pair) (held : Contents) (text : List ℕ) : Type 0 where
   pub refusal : List ℕ
   pub unread : IsHardenedUnread p held refusal
-  pub shows : Holds held (hardened_file p.hardened) (λ bytes. text ≡ refusal ++ behind_netlist bytes)
+  pub shows : Holds held (hardened_file p.limits p.hardened) (λ bytes. text ≡ refusal ++ behind_netlist bytes)
 
 -- the same of the certificate
 pub record IsCertificateShown (p : Pair) (held : Contents) (text : List ℕ) : Type 0 where
   pub refusal : List ℕ
   pub unread : IsCertificateUnread p held refusal
-  pub shows : Holds held (certificate_file p.certificate) (λ bytes. text ≡ refusal ++ line_shown bytes (faulty_line unread.fault))
+  pub shows : Holds held (certificate_file p.limits p.certificate) (λ bytes. text ≡ refusal ++ line_shown bytes (faulty_line unread.fault))
 
 -- refused: what `validate` prints, and behind it the line that it names, where it names one
 abbrev pub IsPairShown : Pair → Contents → List ℕ → Type 0

@@ -14,14 +14,14 @@ use Rattle.tmr_texts.specs.Texts.{flattened_line, refused_line}
 pub record IsFlattened (f : Flattening) (held : Contents) (saved : List (List ℕ)) (text : List ℕ) : Type 0 where
   pub design : Net
   pub free : List Bool
-  pub holds : HoldsDesign held (original_file f.original) design free
+  pub holds : HoldsDesign held (original_file f.limits f.original) design free
   pub saves : saved ≡ flat_text design ∷ []
   pub says : text ≡ flattened_line design (count_by (λ bit. bit) free)
 
 -- refused: the original is no design
 pub record IsUnflattened (f : Flattening) (held : Contents) (text : List ℕ) : Type 0 where
   pub reason : List ℕ
-  pub unread : HoldsNoDesign held (original_file f.original) reason
+  pub unread : HoldsNoDesign held (original_file f.limits f.original) reason
   pub says : text ≡ refused_line f.original reason
 
 abbrev pub Flattened : Flattening → Contents → Verdict → List (List ℕ) → List ℕ → Type 0

@@ -26,7 +26,7 @@ HoldsNoGraph held load fault = Holds held load (λ bytes. IsFaultOf bytes load.l
 -- done: the flat text of the design, with its marks, is saved, and the numbers of the graph of which the bytes are a file are told
 pub record IsGraphRead (w : GraphReading) (held : Contents) (saved : List (List ℕ)) (text : List ℕ) : Type 0 where
   pub design : FreeDesign
-  pub holds : HoldsGraph held (graph_file w.graph) design
+  pub holds : HoldsGraph held (graph_file w.limits w.graph) design
   pub saves : saved ≡ free_text design.design.net design.free ∷ []
   pub says : text ≡ aag_line (counts_of holds.fact.graph)
 
@@ -34,7 +34,7 @@ pub record IsGraphRead (w : GraphReading) (held : Contents) (saved : List (List 
 pub record IsGraphUnread (w : GraphReading) (held : Contents) (text : List ℕ) : Type 0 where
   pub fault : AagFault
   pub caused : fault ≢ Memory
-  pub first : HoldsNoGraph held (graph_file w.graph) fault
+  pub first : HoldsNoGraph held (graph_file w.limits w.graph) fault
   pub says : text ≡ refused_line w.graph (aag_reason fault)
 
 abbrev pub GraphRead : GraphReading → Contents → Verdict → List (List ℕ) → List ℕ → Type 0

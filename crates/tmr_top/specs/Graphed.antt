@@ -13,7 +13,7 @@ use Rattle.tmr_texts.specs.Texts.{graph_line, refused_line}
 -- done: the original is a design, a file of it is saved, and its numbers are told, among them how many gates that file's graph has
 pub record IsGraphed (w : Graphing) (held : Contents) (saved : List (List ℕ)) (text : List ℕ) : Type 0 where
   pub original : FreeDesign
-  pub holds : HoldsDesign held (original_file w.original) original.design.net original.free
+  pub holds : HoldsDesign held (original_file w.limits w.original) original.design.net original.free
   pub bytes : List ℕ
   pub gates : ℕ
   pub file : IsCountedFile original bytes gates
@@ -23,7 +23,7 @@ pub record IsGraphed (w : Graphing) (held : Contents) (saved : List (List ℕ)) 
 -- refused: the original is no design
 pub record IsUngraphed (w : Graphing) (held : Contents) (text : List ℕ) : Type 0 where
   pub reason : List ℕ
-  pub unread : HoldsNoDesign held (original_file w.original) reason
+  pub unread : HoldsNoDesign held (original_file w.limits w.original) reason
   pub says : text ≡ refused_line w.original reason
 
 abbrev pub Graphed : Graphing → Contents → Verdict → List (List ℕ) → List ℕ → Type 0

@@ -6,6 +6,7 @@ use Rattle.blif_writer.specs.Text.{flat_text}
 use Rattle.dwc.specs.Answer.{BreaksFirst}
 use Rattle.dwc.specs.Guard.{guard_net}
 use Rattle.dwc.specs.Tells.{Guards}
+use Rattle.limits.specs.Most.{most_hardened}
 use Rattle.tmr_outside.specs.Contents.{Contents}
 use Rattle.tmr_top.specs.declared.decision.Verdict.{Verdict}
 use Rattle.tmr_top.specs.declared.decision.Verdict.TheVariants.{Done, NotAccepted, Refused}
@@ -19,17 +20,17 @@ use Rattle.tmr_texts.specs.Texts.{guard_line, guarded_line, not_guarded_line, re
 pub record IsGuarded (w : Guarding) (held : Contents) (saved : List (List ℕ)) (text : List ℕ) : Type 0 where
   pub original : Net
   pub free : List Bool
-  pub holds : HoldsDesign held (original_file w.original) original free
+  pub holds : HoldsDesign held (original_file w.limits w.original) original free
   pub guards : Guards original (guard_net original)
   pub saves : saved ≡ flat_text (guard_net original) ∷ []
-  pub keeps : length (flat_text (guard_net original)) ≤ 1073741824
-  pub read : IsNetOf (flat_text (guard_net original)) 1073741824 (guard_net original) 0
+  pub keeps : length (flat_text (guard_net original)) ≤ most_hardened w.limits
+  pub read : IsNetOf (flat_text (guard_net original)) (most_hardened w.limits) (guard_net original) 0
   pub says : text ≡ guard_line original (guard_net original) (count_by (λ bit. bit) free)
 
 -- the original is no design
 pub record IsUnguarded (w : Guarding) (held : Contents) (text : List ℕ) : Type 0 where
   pub reason : List ℕ
-  pub unread : HoldsNoDesign held (original_file w.original) reason
+  pub unread : HoldsNoDesign held (original_file w.limits w.original) reason
   pub says : text ≡ refused_line w.original reason
 
 abbrev pub Guarded : Guarding → Contents → Verdict → List (List ℕ) → List ℕ → Type 0
@@ -41,10 +42,10 @@ Guarded w held Refused saved text = IsUnguarded w held text
 pub record ReadGuard (w : Guarding) (held : Contents) : Type 0 where
   pub original : Net
   pub free : List Bool
-  pub original_read : HoldsDesign held (original_file w.original) original free
+  pub original_read : HoldsDesign held (original_file w.limits w.original) original free
   pub guarded : Net
   pub guarded_free : List Bool
-  pub guarded_read : HoldsDesign held (hardened_file w.guarded) guarded guarded_free
+  pub guarded_read : HoldsDesign held (hardened_file w.limits w.guarded) guarded guarded_free
 
 -- `guarded` is done: the second file holds the guarded design of the first one, and its alarm tells
 pub record IsGuard (w : Guarding) (held : Contents) (text : List ℕ) : Type 0 where
@@ -65,9 +66,9 @@ pub record IsNoGuard (w : Guarding) (held : Contents) (text : List ℕ) : Type 0
 pub record IsGuardUnread (w : Guarding) (held : Contents) (text : List ℕ) : Type 0 where
   pub original : Net
   pub free : List Bool
-  pub original_read : HoldsDesign held (original_file w.original) original free
+  pub original_read : HoldsDesign held (original_file w.limits w.original) original free
   pub reason : List ℕ
-  pub unread : HoldsNoDesign held (hardened_file w.guarded) reason
+  pub unread : HoldsNoDesign held (hardened_file w.limits w.guarded) reason
   pub says : text ≡ refused_line w.guarded reason
 
 abbrev pub GuardChecked : Guarding → Contents → Verdict → List (List ℕ) → List ℕ → Type 0

@@ -11,6 +11,8 @@ use Rattle.certificate.specs.Starts.{counted}
 use Rattle.hardened_size.specs.Size.{AreShort}
 use Rattle.triplicate.specs.Form.{HasForm, BoundedForm, parts_of}
 use Rattle.triplicate.specs.Voting.{none_extra}
+use Rattle.limits.specs.declared.Limits.{Limits}
+use Rattle.limits.specs.Most.{most_hardened}
 use Rattle.tmr_outside.specs.Contents.{Contents}
 use Rattle.tmr_top.specs.declared.decision.Verdict.{Verdict}
 use Rattle.tmr_top.specs.declared.decision.Verdict.TheVariants.{Done, NotAccepted, Refused}
@@ -21,10 +23,10 @@ use Rattle.tmr_texts.specs.FormText.{form_numbers, hardened_lines}
 use Rattle.tmr_texts.specs.Texts.{refused_line}
 
 -- the texts of a design and its certificate are within the limits of their files, and are read as these
-pub record AreRead (design_text certificate_text : List ℕ) (original hardened : Net) (marks : List Bool) (k : PlainCert) : Type 0 where
-  pub design_short : length design_text ≤ 1073741824
-  pub design_read : IsFreeNetOf design_text 1073741824 hardened marks
-  pub certificate_short : length certificate_text ≤ 1073741824
+pub record AreRead (l : Limits) (design_text certificate_text : List ℕ) (original hardened : Net) (marks : List Bool) (k : PlainCert) : Type 0 where
+  pub design_short : length design_text ≤ most_hardened l
+  pub design_read : IsFreeNetOf design_text (most_hardened l) hardened marks
+  pub certificate_short : length certificate_text ≤ most_hardened l
   pub certificate_read : cert_of_text original hardened certificate_text ≡ Ok k
 
 -- no pin is voted but those that have to be
@@ -37,7 +39,7 @@ HasNoExtra w n f h g k = HasForm w.form n (counted k f) w.size h (counted k g) k
 pub record IsHardened (w : Hardening) (held : Contents) (saved : List (List ℕ)) (text : List ℕ) : Type 0 where
   pub original : Net
   pub free : List Bool
-  pub holds : HoldsDesign held (original_file w.original) original free
+  pub holds : HoldsDesign held (original_file w.limits w.original) original free
   pub hardened : Net
   pub marks : List Bool
   pub certificate : PlainCert
@@ -46,7 +48,7 @@ pub record IsHardened (w : Hardening) (held : Contents) (saved : List (List ℕ)
   pub unbounded : length original.nodes < w.most → HasNoExtra w original free hardened marks certificate
   pub short : AreShort original hardened certificate
   pub saves : saved ≡ free_text hardened marks ∷ cert_text original hardened certificate ∷ []
-  pub read : AreRead (free_text hardened marks) (cert_text original hardened certificate) original hardened marks certificate
+  pub read : AreRead w.limits (free_text hardened marks) (cert_text original hardened certificate) original hardened marks certificate
   pub minimal : Bool
   pub is_minimal : IsTrue minimal ↔ IsMinimal original w.size (parts_of certificate)
   pub says : text ≡ hardened_lines (form_numbers original w.size hardened certificate minimal) certificate.version (count_by (λ bit. bit) free)
@@ -54,7 +56,7 @@ pub record IsHardened (w : Hardening) (held : Contents) (saved : List (List ℕ)
 -- refused: the original is no design
 pub record IsUnhardened (w : Hardening) (held : Contents) (text : List ℕ) : Type 0 where
   pub reason : List ℕ
-  pub unread : HoldsNoDesign held (original_file w.original) reason
+  pub unread : HoldsNoDesign held (original_file w.limits w.original) reason
   pub says : text ≡ refused_line w.original reason
 
 abbrev pub Hardened : Hardening → Contents → Verdict → List (List ℕ) → List ℕ → Type 0

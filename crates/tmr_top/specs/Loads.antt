@@ -1,5 +1,7 @@
--- The files that a command loads, and those that it saves.
+-- The files that a command loads, and those that it saves. How large they may be is said by the limits of the command's words.
 use Rattle.std.specs.Prelude.{ℕ, List, [], ◌∷◌, ◌++◌, map, Option, Some, None}
+use Rattle.limits.specs.declared.Limits.{Limits}
+use Rattle.limits.specs.Most.{most_original, most_hardened}
 use Rattle.tmr_words.specs.Line.{Command, Pair, Replaying, Validate, Harden, Flatten, Replay, Report, Guard, CheckGuard, WriteGraph, ReadGraph, TryOut, Help, Version}
 use Rattle.tmr_words.specs.Line.{Certify, Exposure, Sweep, Explain, Campaign, Picture}
 
@@ -14,29 +16,29 @@ pub record Load : Type 0 where
   pub limit : ℕ
   pub kind : FileKind
 
--- an original design has at most 8 MiB
-abbrev pub original_file : List ℕ → Load
-original_file name = record { name = name; limit = 8388608; kind = Netlist }
+-- an original design
+abbrev pub original_file : Limits → List ℕ → Load
+original_file l name = record { name = name; limit = most_original l; kind = Netlist }
 
--- a hardened design, and a guarded one, has at most 1 GiB
-abbrev pub hardened_file : List ℕ → Load
-hardened_file name = record { name = name; limit = 1073741824; kind = Netlist }
+-- a hardened design, and a guarded one
+abbrev pub hardened_file : Limits → List ℕ → Load
+hardened_file l name = record { name = name; limit = most_hardened l; kind = Netlist }
 
--- and so has a certificate
-abbrev pub certificate_file : List ℕ → Load
-certificate_file name = record { name = name; limit = 1073741824; kind = Bytes }
+-- a certificate
+abbrev pub certificate_file : Limits → List ℕ → Load
+certificate_file l name = record { name = name; limit = most_hardened l; kind = Bytes }
 
--- a schedule has at most 16 MiB
+-- a schedule has at most 16 MiB, whatever the limits
 abbrev pub schedule_file : List ℕ → Load
 schedule_file name = record { name = name; limit = 16777216; kind = Bytes }
 
--- an AIGER file has at most 8 MiB
-abbrev pub graph_file : List ℕ → Load
-graph_file name = record { name = name; limit = 8388608; kind = Bytes }
+-- an AIGER file
+abbrev pub graph_file : Limits → List ℕ → Load
+graph_file l name = record { name = name; limit = most_original l; kind = Bytes }
 
 -- the three files of a pair
 abbrev pub pair_files : Pair → List Load
-pair_files p = original_file p.original ∷ hardened_file p.hardened ∷ certificate_file p.certificate ∷ []
+pair_files p = original_file p.limits p.original ∷ hardened_file p.limits p.hardened ∷ certificate_file p.limits p.certificate ∷ []
 
 -- and with them the schedule
 abbrev pub replay_files : Replaying → List Load
@@ -48,7 +50,7 @@ kept_file load = record { name = load.name; limit = load.limit; kind = Bytes }
 
 -- the three files of a pair, all kept, so that a line of them can be shown
 abbrev pub kept_pair_files : Pair → List Load
-kept_pair_files p = kept_file (original_file p.original) ∷ kept_file (hardened_file p.hardened) ∷ certificate_file p.certificate ∷ []
+kept_pair_files p = kept_file (original_file p.limits p.original) ∷ kept_file (hardened_file p.limits p.hardened) ∷ certificate_file p.limits p.certificate ∷ []
 
 -- the name that waves are saved under, where there is one
 abbrev pub wave_names : Option (List ℕ) → List (List ℕ)
@@ -58,18 +60,18 @@ wave_names (Some name) = name ∷ []
 -- the files that a command loads, in this order
 abbrev pub loads_of : Command → List Load
 loads_of (Validate p) = pair_files p
-loads_of (Harden w) = original_file w.original ∷ []
-loads_of (Flatten f) = original_file f.original ∷ []
+loads_of (Harden w) = original_file w.limits w.original ∷ []
+loads_of (Flatten f) = original_file f.limits f.original ∷ []
 loads_of (Replay w) = replay_files w
 loads_of (Report p) = pair_files p
-loads_of (Guard w) = original_file w.original ∷ []
-loads_of (CheckGuard w) = original_file w.original ∷ hardened_file w.guarded ∷ []
-loads_of (WriteGraph w) = original_file w.original ∷ []
-loads_of (ReadGraph w) = graph_file w.graph ∷ []
+loads_of (Guard w) = original_file w.limits w.original ∷ []
+loads_of (CheckGuard w) = original_file w.limits w.original ∷ hardened_file w.limits w.guarded ∷ []
+loads_of (WriteGraph w) = original_file w.limits w.original ∷ []
+loads_of (ReadGraph w) = graph_file w.limits w.graph ∷ []
 loads_of (TryOut t) = []
-loads_of (Certify w) = original_file w.original ∷ hardened_file w.hardened ∷ []
+loads_of (Certify w) = original_file w.limits w.original ∷ hardened_file w.limits w.hardened ∷ []
 loads_of (Exposure p) = pair_files p
-loads_of (Sweep w) = original_file w.original ∷ []
+loads_of (Sweep w) = original_file w.limits w.original ∷ []
 loads_of (Explain p) = kept_pair_files p
 loads_of (Campaign w) = pair_files w.pair
 loads_of (Picture w) = pair_files w.pair

@@ -32,9 +32,9 @@ HoldsNoCertificate held load n h fault = Holds held load (λ bytes. cert_of_text
 
 -- the three files hold these
 pub record HoldsPair (held : Contents) (p : Pair) (r : ReadPair) : Type 0 where
-  pub original_read : HoldsDesign held (original_file p.original) r.original r.free
-  pub hardened_read : HoldsDesign held (hardened_file p.hardened) r.hardened r.hardened_free
-  pub certificate_read : HoldsCertificate held (certificate_file p.certificate) r.original r.hardened r.certificate
+  pub original_read : HoldsDesign held (original_file p.limits p.original) r.original r.free
+  pub hardened_read : HoldsDesign held (hardened_file p.limits p.hardened) r.hardened r.hardened_free
+  pub certificate_read : HoldsCertificate held (certificate_file p.limits p.certificate) r.original r.hardened r.certificate
 
 -- the eight rules hold
 abbrev pub Accepts : ReadPair → Type 0

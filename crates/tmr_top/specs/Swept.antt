@@ -13,13 +13,13 @@ use Rattle.tmr_texts.specs.Texts.{refused_line}
 -- done: the original is a design, and the text tells of one hardened form of it for each size
 pub record IsSweptOver (w : Sweeping) (held : Contents) (text : List ℕ) : Type 0 where
   pub design : FreeDesign
-  pub holds : HoldsDesign held (original_file w.original) design.design.net design.free
+  pub holds : HoldsDesign held (original_file w.limits w.original) design.design.net design.free
   pub says : IsSweepText w.form design w.version w.most text
 
 -- refused: the original is no design
 pub record IsUnswept (w : Sweeping) (held : Contents) (text : List ℕ) : Type 0 where
   pub reason : List ℕ
-  pub unread : HoldsNoDesign held (original_file w.original) reason
+  pub unread : HoldsNoDesign held (original_file w.limits w.original) reason
   pub says : text ≡ refused_line w.original reason
 
 abbrev pub SweptOver : Sweeping → Contents → Verdict → List (List ℕ) → List ℕ → Type 0

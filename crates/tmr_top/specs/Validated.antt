@@ -32,28 +32,28 @@ pub record IsNotAccepted (p : Pair) (held : Contents) (text : List ℕ) : Type 0
 -- the original is no design
 pub record IsOriginalUnread (p : Pair) (held : Contents) (text : List ℕ) : Type 0 where
   pub reason : List ℕ
-  pub unread : HoldsNoDesign held (original_file p.original) reason
+  pub unread : HoldsNoDesign held (original_file p.limits p.original) reason
   pub says : text ≡ refused_line p.original reason
 
 -- the original is read, and the hardened file is no design
 pub record IsHardenedUnread (p : Pair) (held : Contents) (text : List ℕ) : Type 0 where
   pub original : Net
   pub free : List Bool
-  pub original_read : HoldsDesign held (original_file p.original) original free
+  pub original_read : HoldsDesign held (original_file p.limits p.original) original free
   pub reason : List ℕ
-  pub unread : HoldsNoDesign held (hardened_file p.hardened) reason
+  pub unread : HoldsNoDesign held (hardened_file p.limits p.hardened) reason
   pub says : text ≡ refused_line p.hardened reason
 
 -- both designs are read, and the certificate is none of them
 pub record IsCertificateUnread (p : Pair) (held : Contents) (text : List ℕ) : Type 0 where
   pub original : Net
   pub free : List Bool
-  pub original_read : HoldsDesign held (original_file p.original) original free
+  pub original_read : HoldsDesign held (original_file p.limits p.original) original free
   pub hardened : Net
   pub hardened_free : List Bool
-  pub hardened_read : HoldsDesign held (hardened_file p.hardened) hardened hardened_free
+  pub hardened_read : HoldsDesign held (hardened_file p.limits p.hardened) hardened hardened_free
   pub fault : CertFault
-  pub unread : HoldsNoCertificate held (certificate_file p.certificate) original hardened fault
+  pub unread : HoldsNoCertificate held (certificate_file p.limits p.certificate) original hardened fault
   pub says : text ≡ refused_line p.certificate (cert_reason fault)
 
 -- refused: the first file that is not read is told

@@ -1,17 +1,19 @@
 //! Designs, read from what was loaded of their files.
 ghost use Rattle.std.specs.Prelude.{◌≡◌, ◌≢◌, ◌≤◌, ◌∷◌, [], ℕ, IfOk, OnOk, Ok, Err};
 ghost use Rattle.flat_net.specs.Net.{IsDesign};
+ghost use Rattle.limits.specs.Most.{most_original, most_hardened, widest_text};
 ghost use Rattle.tmr_texts.specs.Reasons.{flat_reason as reason_of_flat};
 ghost use Rattle.tmr_texts.specs.Texts.{refused_line};
 ghost use Rattle.tmr_top.specs.Designs.{HoldsDesign};
-ghost use Rattle.tmr_top.specs.Loads.{original_file};
+ghost use Rattle.tmr_top.specs.Loads.{original_file, hardened_file};
 ghost use Rattle.tmr_top.specs.Private.Opened.{netlist_file, HoldsText, IsRefusal, Gives, Opens};
 ghost use Rattle.tmr_top.specs.Private.Refused.{IsRefusedNetlist, IsWithin, Refuses, RefusesFor};
 
-use crate::loads::{Netlist, ORIGINAL_LIMIT, Stop, load_netlist};
+use crate::loads::{Netlist, Stop, load_original};
 use blif_text::{Library, TextFault};
 use flat_net::{FlatNet, FreeNet};
 use hierarchy::{FlatFault, flatten_owned};
+use limits::Limits;
 use std::alloc::Global;
 use tmr_base::OutOfMemory;
 use tmr_outside::Files;
@@ -70,7 +72,7 @@ pub fn design_of<'a>(
     library: Library,
     limit: u64,
 ) -> Result<FreeNet, Stop<'a>>
-    requires { limit ≤ 1073741824 }
+    requires { limit ≤ widest_text }
     ensures gives { Gives (λ held. HoldsText held (netlist_file name.now limit) (Ok library))
         (λ n held. HoldsDesign held (netlist_file name.now limit) n.design.net n.free)
         (IsRefusedNetlist (netlist_file name.now limit)) result }
@@ -94,13 +96,13 @@ fn refuse_text<'a>(alloc: Global, name: &str, fault: TextFault) -> Stop<'a>
 }
 
 /// The design that a netlist gives which was read so. Its names become the design's.
-pub fn read_netlist<'a>(
+fn read_netlist<'a>(
     alloc: Global,
     name: &str,
     text: Netlist,
     limit: u64,
 ) -> Result<FreeNet, Stop<'a>>
-    requires { limit ≤ 1073741824 }
+    requires { limit ≤ widest_text }
     ensures gives { Gives (λ held. HoldsText held (netlist_file name.now limit) text)
         (λ n held. HoldsDesign held (netlist_file name.now limit) n.design.net n.free)
         (IsRefusedNetlist (netlist_file name.now limit)) result }
@@ -112,20 +114,51 @@ pub fn read_netlist<'a>(
     }
 }
 
+/// The original design that a netlist gives which was read so.
+pub fn read_original<'a>(
+    alloc: Global,
+    name: &str,
+    text: Netlist,
+    limits: Limits,
+) -> Result<FreeNet, Stop<'a>>
+    ensures gives { Gives (λ held. HoldsText held (original_file limits name.now) text)
+        (λ n held. HoldsDesign held (original_file limits name.now) n.design.net n.free)
+        (IsRefusedNetlist (original_file limits name.now)) result }
+    ensures within { IfOk result (IsWithin (most_original limits)) }
+{
+    read_netlist(alloc, name, text, limits.original())
+}
+
+/// The hardened or guarded design that a netlist gives which was read so.
+pub fn read_hardened<'a>(
+    alloc: Global,
+    name: &str,
+    text: Netlist,
+    limits: Limits,
+) -> Result<FreeNet, Stop<'a>>
+    ensures gives { Gives (λ held. HoldsText held (hardened_file limits name.now) text)
+        (λ n held. HoldsDesign held (hardened_file limits name.now) n.design.net n.free)
+        (IsRefusedNetlist (hardened_file limits name.now)) result }
+    ensures within { IfOk result (IsWithin (most_hardened limits)) }
+{
+    read_netlist(alloc, name, text, limits.hardened())
+}
+
 /// Loads and reads an original design.
 pub fn open_original<'a, F: Files>(
     alloc: Global,
     name: &'a str,
+    limits: Limits,
     files: &mut F,
 ) -> Result<FreeNet, Stop<'a>>
-    ensures opens { Opens (original_file name.now ∷ [])
-        (λ n held. HoldsDesign held (original_file name.now) n.design.net n.free)
-        (IsRefusedNetlist (original_file name.now))
+    ensures opens { Opens (original_file limits name.now ∷ [])
+        (λ n held. HoldsDesign held (original_file limits name.now) n.design.net n.free)
+        (IsRefusedNetlist (original_file limits name.now))
         (F.seen files.old) (F.seen files.new) (F.steady files.old) (F.steady files.new) result }
-    ensures within { IfOk result (IsWithin 8388608) }
+    ensures within { IfOk result (IsWithin (most_original limits)) }
 {
-    match load_netlist(alloc, name, ORIGINAL_LIMIT, files) {
-        Ok(text) => read_netlist(alloc, name, text, ORIGINAL_LIMIT),
+    match load_original(alloc, name, limits, files) {
+        Ok(text) => read_original(alloc, name, text, limits),
         Err(stop) => Err(stop),
     }
 }

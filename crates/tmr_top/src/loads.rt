@@ -1,34 +1,25 @@
 //! Files, loaded each as its kind wants it.
 ghost use Rattle.std.specs.Prelude.{◌≡◌, ◌≤◌, ◌∷◌, [], length, IfOk, IfErr, IfSome, OnOk, IsOk};
 ghost use Rattle.blif_text.specs.Reader.{StandsFor, most_bytes};
+ghost use Rattle.limits.specs.Most.{widest_original, widest_text};
 ghost use Rattle.tmr_outside.specs.Counts.{NoneRose};
 ghost use Rattle.tmr_outside.specs.Pieces.{TakesFile};
 ghost use Rattle.tmr_outside.specs.Seen.{IsTold};
 ghost use Rattle.tmr_top.specs.Changes.{ChangesOnly};
+ghost use Rattle.tmr_top.specs.Loads.{original_file, hardened_file, kept_file};
 ghost use Rattle.tmr_top.specs.Private.Opened.{netlist_file, bytes_file, HoldsText, HoldsBytes, Never, Opens, IsStop, IsSteadyStop, IsStopped};
 
 use crate::Status;
 use crate::decision::Decision;
 use crate::taker::TextTaker;
 use blif_text::{Library, TextFault};
+use limits::Limits;
 use std::alloc::Global;
 use tmr_base::OutOfMemory;
 use tmr_outside::{Files, LoadFault};
 use tmr_texts::{load_fault, refused};
 
-/// The most bytes of an original design, and of its flat text.
-pub const ORIGINAL_LIMIT: u64 = 8_388_608;
-
-/// The most bytes of an AIGER file, and of the flat text of its design.
-pub const GRAPH_LIMIT: u64 = 8_388_608;
-
-/// The most bytes of a hardened design, and of its flat text.
-pub const HARDENED_LIMIT: u64 = 1_073_741_824;
-
-/// The most bytes of a certificate.
-pub const CERTIFICATE_LIMIT: u64 = 1_073_741_824;
-
-/// The most bytes of a schedule.
+/// The most bytes of a schedule, whatever the limits.
 pub const SCHEDULE_LIMIT: u64 = 16_777_216;
 
 /// What was read of a netlist while it was loaded: its library, or its first bad line.
@@ -111,7 +102,7 @@ fn take_netlist<'a, F: Files>(
 
 /// Loads a netlist in pieces, and reads it meanwhile. A netlist that is refused is loaded all the
 /// same.
-pub fn load_netlist<'a, F: Files>(
+fn load_netlist<'a, F: Files>(
     alloc: Global,
     name: &'a str,
     limit: u64,
@@ -123,6 +114,34 @@ pub fn load_netlist<'a, F: Files>(
         (F.seen files.old) (F.seen files.new) (F.steady files.old) (F.steady files.new) result }
 {
     take_netlist(alloc, name, limit, files)
+}
+
+/// Loads an original design, and reads it meanwhile.
+pub fn load_original<'a, F: Files>(
+    alloc: Global,
+    name: &'a str,
+    limits: Limits,
+    files: &mut F,
+) -> Result<Netlist, Stop<'a>>
+    ensures { Opens (original_file limits name.now ∷ [])
+        (λ text held. HoldsText held (original_file limits name.now) text) Never
+        (F.seen files.old) (F.seen files.new) (F.steady files.old) (F.steady files.new) result }
+{
+    load_netlist(alloc, name, limits.original(), files)
+}
+
+/// Loads a hardened design or a guarded one, and reads it meanwhile.
+pub fn load_hardened<'a, F: Files>(
+    alloc: Global,
+    name: &'a str,
+    limits: Limits,
+    files: &mut F,
+) -> Result<Netlist, Stop<'a>>
+    ensures { Opens (hardened_file limits name.now ∷ [])
+        (λ text held. HoldsText held (hardened_file limits name.now) text) Never
+        (F.seen files.old) (F.seen files.new) (F.steady files.old) (F.steady files.new) result }
+{
+    load_netlist(alloc, name, limits.hardened(), files)
 }
 
 /// Loads a file whole.
@@ -167,6 +186,36 @@ pub fn load_bytes<'a, F: Files>(
     ensures short { IfOk result (λ bytes. length bytes.items ≤ limit) }
 {
     take_bytes(alloc, name, limit, files)
+}
+
+/// Loads a file whole that has the limit of an original design, and keeps its bytes.
+pub fn keep_original<'a, F: Files>(
+    alloc: Global,
+    name: &'a str,
+    limits: Limits,
+    files: &mut F,
+) -> Result<Vec<u8>, Stop<'a>>
+    ensures opens { Opens (kept_file (original_file limits name.now) ∷ [])
+        (λ bytes held. HoldsBytes held (kept_file (original_file limits name.now)) bytes.items) Never
+        (F.seen files.old) (F.seen files.new) (F.steady files.old) (F.steady files.new) result }
+    ensures short { IfOk result (λ bytes. length bytes.items ≤ widest_original) }
+{
+    load_bytes(alloc, name, limits.original(), files)
+}
+
+/// Loads a file whole that has the limit of a hardened design, and keeps its bytes.
+pub fn keep_hardened<'a, F: Files>(
+    alloc: Global,
+    name: &'a str,
+    limits: Limits,
+    files: &mut F,
+) -> Result<Vec<u8>, Stop<'a>>
+    ensures opens { Opens (kept_file (hardened_file limits name.now) ∷ [])
+        (λ bytes held. HoldsBytes held (kept_file (hardened_file limits name.now)) bytes.items) Never
+        (F.seen files.old) (F.seen files.new) (F.steady files.old) (F.steady files.new) result }
+    ensures short { IfOk result (λ bytes. length bytes.items ≤ widest_text) }
+{
+    load_bytes(alloc, name, limits.hardened(), files)
 }
 
 /// The decision where files were not all loaded and read.

@@ -1,5 +1,6 @@
 //! Pairs of designs: loaded, read in the order of the words, and checked.
 ghost use Rattle.std.specs.Prelude.{◌≡◌, ◌≤◌, ◌∷◌, [], length, count_by, IfOk, IfErr};
+ghost use Rattle.limits.specs.Most.{most_original, widest_text};
 ghost use Rattle.tmr_texts.specs.Texts.{accepted_line, not_accepted_line};
 ghost use Rattle.tmr_words.specs.FileWords.{pair_in};
 ghost use Rattle.validator.specs.Place.{IsPlace};
@@ -14,12 +15,11 @@ ghost use Rattle.tmr_top.specs.Private.Refused.{AreRefused, IsRefusedCertificate
 ghost use Rattle.tmr_top.specs.Private.Works.{IsDeniedWith};
 
 use crate::decision::{Work, denying};
-use crate::designs::{read_netlist, refuse_for};
-use crate::loads::{
-    CERTIFICATE_LIMIT, HARDENED_LIMIT, ORIGINAL_LIMIT, Stop, load_bytes, load_netlist,
-};
+use crate::designs::{read_hardened, read_original, refuse_for};
+use crate::loads::{Stop, keep_hardened, load_hardened, load_original};
 use crate::pair_files::{DesignFiles, Designs, PairFiles, PairRead};
 use certificate::{Certificate, read_cert};
+use limits::Limits;
 use std::alloc::Global;
 use tmr_base::OutOfMemory;
 use tmr_outside::Files;
@@ -32,14 +32,15 @@ fn load_designs<'a, F: Files>(
     alloc: Global,
     original: &'a str,
     hardened: &'a str,
+    limits: Limits,
     files: &mut F,
 ) -> Result<DesignFiles, Stop<'a>>
-    ensures { Opens (original_file original.now ∷ hardened_file hardened.now ∷ [])
-        (AreDesignFiles original.now hardened.now) Never
+    ensures { Opens (original_file limits original.now ∷ hardened_file limits hardened.now ∷ [])
+        (AreDesignFiles limits original.now hardened.now) Never
         (F.seen files.old) (F.seen files.new) (F.steady files.old) (F.steady files.new) result }
 {
-    match load_netlist(alloc, original, ORIGINAL_LIMIT, files) {
-        Ok(first) => match load_netlist(alloc, hardened, HARDENED_LIMIT, files) {
+    match load_original(alloc, original, limits, files) {
+        Ok(first) => match load_hardened(alloc, hardened, limits, files) {
             Ok(second) => Ok(DesignFiles {
                 original: first,
                 hardened: second,
@@ -58,10 +59,11 @@ pub fn load_pair<'a, F: Files>(
 ) -> Result<PairFiles, Stop<'a>>
     ensures opens { Opens (pair_files (pair_in words.now)) (ArePairFiles (pair_in words.now)) Never
         (F.seen files.old) (F.seen files.new) (F.steady files.old) (F.steady files.new) result }
-    ensures short { IfOk result (λ loaded. length loaded.certificate.items ≤ 1073741824) }
+    ensures short { IfOk result (λ loaded. length loaded.certificate.items ≤ widest_text) }
 {
-    match load_designs(alloc, words.original, words.hardened, files) {
-        Ok(designs) => match load_bytes(alloc, words.certificate, CERTIFICATE_LIMIT, files) {
+    let limits = words.limits;
+    match load_designs(alloc, words.original, words.hardened, limits, files) {
+        Ok(designs) => match keep_hardened(alloc, words.certificate, limits, files) {
             Ok(certificate) => Ok(PairFiles {
                 designs,
                 certificate,
@@ -78,14 +80,15 @@ fn read_designs<'a>(
     original: &str,
     hardened: &str,
     loaded: DesignFiles,
+    limits: Limits,
 ) -> Result<Designs, Stop<'a>>
-    ensures gives { Gives (AreDesignFiles original.now hardened.now loaded)
-        (AreDesigns original.now hardened.now)
-        (AreRefused (original_file original.now) (hardened_file hardened.now)) result }
-    ensures within { IfOk result (λ read. IsWithin 8388608 read.original) }
+    ensures gives { Gives (AreDesignFiles limits original.now hardened.now loaded)
+        (AreDesigns limits original.now hardened.now)
+        (AreRefused (original_file limits original.now) (hardened_file limits hardened.now)) result }
+    ensures within { IfOk result (λ read. IsWithin (most_original limits) read.original) }
 {
-    match read_netlist(alloc, original, loaded.original, ORIGINAL_LIMIT) {
-        Ok(first) => match read_netlist(alloc, hardened, loaded.hardened, HARDENED_LIMIT) {
+    match read_original(alloc, original, loaded.original, limits) {
+        Ok(first) => match read_hardened(alloc, hardened, loaded.hardened, limits) {
             Ok(second) => Ok(Designs {
                 original: first,
                 hardened: second,
@@ -101,16 +104,17 @@ pub fn open_designs<'a, F: Files>(
     alloc: Global,
     original: &'a str,
     hardened: &'a str,
+    limits: Limits,
     files: &mut F,
 ) -> Result<Designs, Stop<'a>>
-    ensures opens { Opens (original_file original.now ∷ hardened_file hardened.now ∷ [])
-        (AreDesigns original.now hardened.now)
-        (AreRefused (original_file original.now) (hardened_file hardened.now))
+    ensures opens { Opens (original_file limits original.now ∷ hardened_file limits hardened.now ∷ [])
+        (AreDesigns limits original.now hardened.now)
+        (AreRefused (original_file limits original.now) (hardened_file limits hardened.now))
         (F.seen files.old) (F.seen files.new) (F.steady files.old) (F.steady files.new) result }
-    ensures within { IfOk result (λ read. IsWithin 8388608 read.original) }
+    ensures within { IfOk result (λ read. IsWithin (most_original limits) read.original) }
 {
-    match load_designs(alloc, original, hardened, files) {
-        Ok(loaded) => read_designs(alloc, original, hardened, loaded),
+    match load_designs(alloc, original, hardened, limits, files) {
+        Ok(loaded) => read_designs(alloc, original, hardened, loaded, limits),
         Err(stop) => Err(stop),
     }
 }
@@ -121,12 +125,13 @@ fn read_certificate<'a>(
     name: &str,
     designs: &Designs,
     bytes: &[u8],
+    limits: Limits,
 ) -> Result<Certificate, Stop<'a>>
-    requires { length bytes.now ≤ 1073741824 }
-    ensures gives { Gives (λ held. HoldsBytes held (certificate_file name.now) bytes.now)
-        (λ c held. HoldsCertificate held (certificate_file name.now)
+    requires { length bytes.now ≤ widest_text }
+    ensures gives { Gives (λ held. HoldsBytes held (certificate_file limits name.now) bytes.now)
+        (λ c held. HoldsCertificate held (certificate_file limits name.now)
         designs.now.original.design.net designs.now.hardened.design.net c)
-        (IsRefusedCertificate name.now designs.now.original.design.net designs.now.hardened.design.net) result }
+        (IsRefusedCertificate limits name.now designs.now.original.design.net designs.now.hardened.design.net) result }
     ensures fits { IfOk result
         (Fits designs.now.original.design.net designs.now.hardened.design.net) }
 {
@@ -156,15 +161,28 @@ pub fn read_pair<'a>(
     words: &PairWords,
     loaded: PairFiles,
 ) -> Result<PairRead, Stop<'a>>
-    requires { length loaded.certificate.items ≤ 1073741824 }
+    requires { length loaded.certificate.items ≤ widest_text }
     ensures gives { Gives (ArePairFiles (pair_in words.now) loaded)
         (λ read held. HoldsPair held (pair_in words.now) (pair_of read))
         (λ line held. IsPairUnread (pair_in words.now) held line) result }
     ensures fit { IfOk result IsFit }
 {
-    match read_designs(alloc, words.original, words.hardened, loaded.designs) {
+    let limits = words.limits;
+    match read_designs(
+        alloc,
+        words.original,
+        words.hardened,
+        loaded.designs,
+        limits,
+    ) {
         Ok(designs) => {
-            match read_certificate(alloc, words.certificate, &designs, &loaded.certificate) {
+            match read_certificate(
+                alloc,
+                words.certificate,
+                &designs,
+                &loaded.certificate,
+                limits,
+            ) {
                 Ok(certificate) => Ok(join_pair(designs, certificate)),
                 Err(stop) => Err(stop),
             }

@@ -125,6 +125,7 @@ fn decide_and_put<F: Files, S: Sink>(
 /// Most commands save nothing. These save what they make: `harden ORIG HARD CERT` saves HARD and CERT, `flatten ORIG FLAT`
 /// saves FLAT, `guard ORIG GUARDED` saves GUARDED, `to-aag ORIG AAG` saves AAG, `from-aag AAG FLAT` saves FLAT,
 /// `wave ORIG HARD CERT SCHED VCD` saves VCD, `certify ORIG HARD CERT` saves CERT, and `picture ORIG HARD CERT DOT` saves DOT.
+/// How large files may be is said by the words: the usual limits hold, or the large ones where `--large` is among them.
 /// Where memory is short, the answer may be `Memory` in place of any other.
 pub fn run<F: Files, S: Sink>(alloc: Global, words: &[String], files: &mut F, out: &mut S) -> Status
     // The headline. Where contents are told and the words are `validate ORIG HARD CERT`, the answer

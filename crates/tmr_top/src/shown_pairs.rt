@@ -2,6 +2,7 @@
 ghost use Rattle.std.specs.Prelude.{◌≡◌, ◌≤◌, ◌++◌, ◌∷◌, [], ℕ, length, IfOk};
 ghost use Rattle.blif_text.specs.Reading.{reading, IsFaultOf};
 ghost use Rattle.certificate.specs.Cert.{Fits};
+ghost use Rattle.limits.specs.Most.{most_original, most_hardened, widest_text};
 ghost use Rattle.tmr_texts.specs.Texts.{refused_line};
 ghost use Rattle.tmr_words.specs.FileWords.{pair_in};
 ghost use Rattle.tmr_top.specs.Designs.{HoldsDesign};
@@ -14,13 +15,14 @@ ghost use Rattle.tmr_top.specs.Private.Refused.{IsWithin};
 ghost use Rattle.tmr_top.specs.Private.Shown.{AreDesignBytes, ArePairBytes, ShowsFor, IsShownNetlist, AreShown, IsShownCertificate};
 
 use crate::designs::design_of;
-use crate::loads::{CERTIFICATE_LIMIT, HARDENED_LIMIT, ORIGINAL_LIMIT, Stop, load_bytes};
+use crate::loads::{Stop, keep_hardened, keep_original};
 use crate::pair_files::{DesignBytes, Designs, PairBytes, PairRead};
 use crate::pairs::join_pair;
 use blif_text::{TextFault, read_library};
 use certificate::{CertFault, Certificate, read_cert};
 use explaining::line_of;
 use flat_net::FreeNet;
+use limits::Limits;
 use std::alloc::Global;
 use tmr_base::OutOfMemory;
 use tmr_outside::Files;
@@ -32,16 +34,17 @@ fn load_designs<'a, F: Files>(
     alloc: Global,
     original: &'a str,
     hardened: &'a str,
+    limits: Limits,
     files: &mut F,
 ) -> Result<DesignBytes, Stop<'a>>
-    ensures opens { Opens (kept_file (original_file original.now) ∷ kept_file (hardened_file hardened.now) ∷ [])
-        (AreDesignBytes original.now hardened.now) Never
+    ensures opens { Opens (kept_file (original_file limits original.now) ∷ kept_file (hardened_file limits hardened.now) ∷ [])
+        (AreDesignBytes limits original.now hardened.now) Never
         (F.seen files.old) (F.seen files.new) (F.steady files.old) (F.steady files.new) result }
-    ensures short_original { IfOk result (λ loaded. length loaded.original.items ≤ 8388608) }
-    ensures short_hardened { IfOk result (λ loaded. length loaded.hardened.items ≤ 1073741824) }
+    ensures short_original { IfOk result (λ loaded. length loaded.original.items ≤ widest_text) }
+    ensures short_hardened { IfOk result (λ loaded. length loaded.hardened.items ≤ widest_text) }
 {
-    match load_bytes(alloc, original, ORIGINAL_LIMIT, files) {
-        Ok(first) => match load_bytes(alloc, hardened, HARDENED_LIMIT, files) {
+    match keep_original(alloc, original, limits, files) {
+        Ok(first) => match keep_hardened(alloc, hardened, limits, files) {
             Ok(second) => Ok(DesignBytes {
                 original: first,
                 hardened: second,
@@ -60,12 +63,13 @@ fn load_pair<'a, F: Files>(
 ) -> Result<PairBytes, Stop<'a>>
     ensures opens { Opens (kept_pair_files (pair_in words.now)) (ArePairBytes (pair_in words.now)) Never
         (F.seen files.old) (F.seen files.new) (F.steady files.old) (F.steady files.new) result }
-    ensures short_original { IfOk result (λ loaded. length loaded.designs.original.items ≤ 8388608) }
-    ensures short_hardened { IfOk result (λ loaded. length loaded.designs.hardened.items ≤ 1073741824) }
-    ensures short_certificate { IfOk result (λ loaded. length loaded.certificate.items ≤ 1073741824) }
+    ensures short_original { IfOk result (λ loaded. length loaded.designs.original.items ≤ widest_text) }
+    ensures short_hardened { IfOk result (λ loaded. length loaded.designs.hardened.items ≤ widest_text) }
+    ensures short_certificate { IfOk result (λ loaded. length loaded.certificate.items ≤ widest_text) }
 {
-    match load_designs(alloc, words.original, words.hardened, files) {
-        Ok(designs) => match load_bytes(alloc, words.certificate, CERTIFICATE_LIMIT, files) {
+    let limits = words.limits;
+    match load_designs(alloc, words.original, words.hardened, limits, files) {
+        Ok(designs) => match keep_hardened(alloc, words.certificate, limits, files) {
             Ok(certificate) => Ok(PairBytes {
                 designs,
                 certificate,
@@ -82,7 +86,7 @@ fn shown_text(
     name: &str,
     reason: &[u8],
     bytes: &[u8],
-    number: u32,
+    number: u64,
 ) -> Result<Vec<u8>, OutOfMemory>
     ensures { IfOk result (λ text. text.items ≡ refused_line name.now reason.now ++ line_shown bytes.now number) }
 {
@@ -98,7 +102,7 @@ fn refuse_showing<'a>(
     name: &str,
     reason: Result<Vec<u8>, OutOfMemory>,
     bytes: &[u8],
-    number: u32,
+    number: u64,
 ) -> Stop<'a>
     ensures { ShowsFor name.now reason bytes.now number result }
 {
@@ -132,8 +136,8 @@ fn read_netlist<'a>(
     bytes: Vec<u8>,
     limit: u64,
 ) -> Result<FreeNet, Stop<'a>>
-    requires short { length bytes.items ≤ 1073741824 }
-    requires limit { limit ≤ 1073741824 }
+    requires short { length bytes.items ≤ widest_text }
+    requires limit { limit ≤ widest_text }
     ensures gives { Gives (λ held. HoldsBytes held (bytes_file name.now limit) bytes.items)
         (λ n held. HoldsDesign held (netlist_file name.now limit) n.design.net n.free)
         (IsShownNetlist (netlist_file name.now limit)) result }
@@ -148,22 +152,55 @@ fn read_netlist<'a>(
     }
 }
 
+/// The original design that the bytes of a netlist give.
+fn read_original<'a>(
+    alloc: Global,
+    name: &str,
+    bytes: Vec<u8>,
+    limits: Limits,
+) -> Result<FreeNet, Stop<'a>>
+    requires { length bytes.items ≤ widest_text }
+    ensures gives { Gives (λ held. HoldsBytes held (kept_file (original_file limits name.now)) bytes.items)
+        (λ n held. HoldsDesign held (original_file limits name.now) n.design.net n.free)
+        (IsShownNetlist (original_file limits name.now)) result }
+    ensures within { IfOk result (IsWithin (most_original limits)) }
+{
+    read_netlist(alloc, name, bytes, limits.original())
+}
+
+/// The hardened design that the bytes of a netlist give.
+fn read_hardened<'a>(
+    alloc: Global,
+    name: &str,
+    bytes: Vec<u8>,
+    limits: Limits,
+) -> Result<FreeNet, Stop<'a>>
+    requires { length bytes.items ≤ widest_text }
+    ensures gives { Gives (λ held. HoldsBytes held (kept_file (hardened_file limits name.now)) bytes.items)
+        (λ n held. HoldsDesign held (hardened_file limits name.now) n.design.net n.free)
+        (IsShownNetlist (hardened_file limits name.now)) result }
+    ensures within { IfOk result (IsWithin (most_hardened limits)) }
+{
+    read_netlist(alloc, name, bytes, limits.hardened())
+}
+
 /// Reads an original design, and then one that was made of it.
 fn read_designs<'a>(
     alloc: Global,
     original: &str,
     hardened: &str,
     loaded: DesignBytes,
+    limits: Limits,
 ) -> Result<Designs, Stop<'a>>
-    requires short_original { length loaded.original.items ≤ 8388608 }
-    requires short_hardened { length loaded.hardened.items ≤ 1073741824 }
-    ensures gives { Gives (AreDesignBytes original.now hardened.now loaded)
-        (AreDesigns original.now hardened.now)
-        (AreShown (original_file original.now) (hardened_file hardened.now)) result }
-    ensures within { IfOk result (λ read. IsWithin 8388608 read.original) }
+    requires short_original { length loaded.original.items ≤ widest_text }
+    requires short_hardened { length loaded.hardened.items ≤ widest_text }
+    ensures gives { Gives (AreDesignBytes limits original.now hardened.now loaded)
+        (AreDesigns limits original.now hardened.now)
+        (AreShown (original_file limits original.now) (hardened_file limits hardened.now)) result }
+    ensures within { IfOk result (λ read. IsWithin (most_original limits) read.original) }
 {
-    match read_netlist(alloc, original, loaded.original, ORIGINAL_LIMIT) {
-        Ok(first) => match read_netlist(alloc, hardened, loaded.hardened, HARDENED_LIMIT) {
+    match read_original(alloc, original, loaded.original, limits) {
+        Ok(first) => match read_hardened(alloc, hardened, loaded.hardened, limits) {
             Ok(second) => Ok(Designs {
                 original: first,
                 hardened: second,
@@ -175,7 +212,7 @@ fn read_designs<'a>(
 }
 
 /// The number of the line that the fault of a certificate names.
-fn faulty_line(fault: CertFault) -> u32
+fn faulty_line(fault: CertFault) -> u64
     ensures { result ≡ faulty_line fault }
 {
     match fault {
@@ -194,12 +231,13 @@ fn read_certificate<'a>(
     name: &str,
     designs: &Designs,
     bytes: &[u8],
+    limits: Limits,
 ) -> Result<Certificate, Stop<'a>>
-    requires { length bytes.now ≤ 1073741824 }
-    ensures gives { Gives (λ held. HoldsBytes held (certificate_file name.now) bytes.now)
-        (λ c held. HoldsCertificate held (certificate_file name.now)
+    requires { length bytes.now ≤ widest_text }
+    ensures gives { Gives (λ held. HoldsBytes held (certificate_file limits name.now) bytes.now)
+        (λ c held. HoldsCertificate held (certificate_file limits name.now)
         designs.now.original.design.net designs.now.hardened.design.net c)
-        (IsShownCertificate name.now designs.now.original.design.net designs.now.hardened.design.net) result }
+        (IsShownCertificate limits name.now designs.now.original.design.net designs.now.hardened.design.net) result }
     ensures fits { IfOk result
         (Fits designs.now.original.design.net designs.now.hardened.design.net) }
 {
@@ -214,17 +252,30 @@ fn read_certificate<'a>(
 
 /// Reads the three files of a pair, in the order of the words.
 fn read_pair<'a>(alloc: Global, words: &PairWords, loaded: PairBytes) -> Result<PairRead, Stop<'a>>
-    requires short_original { length loaded.designs.original.items ≤ 8388608 }
-    requires short_hardened { length loaded.designs.hardened.items ≤ 1073741824 }
-    requires short_certificate { length loaded.certificate.items ≤ 1073741824 }
+    requires short_original { length loaded.designs.original.items ≤ widest_text }
+    requires short_hardened { length loaded.designs.hardened.items ≤ widest_text }
+    requires short_certificate { length loaded.certificate.items ≤ widest_text }
     ensures gives { Gives (ArePairBytes (pair_in words.now) loaded)
         (λ read held. HoldsPair held (pair_in words.now) (pair_of read))
         (λ text held. IsPairShown (pair_in words.now) held text) result }
     ensures fit { IfOk result IsFit }
 {
-    match read_designs(alloc, words.original, words.hardened, loaded.designs) {
+    let limits = words.limits;
+    match read_designs(
+        alloc,
+        words.original,
+        words.hardened,
+        loaded.designs,
+        limits,
+    ) {
         Ok(designs) => {
-            match read_certificate(alloc, words.certificate, &designs, &loaded.certificate) {
+            match read_certificate(
+                alloc,
+                words.certificate,
+                &designs,
+                &loaded.certificate,
+                limits,
+            ) {
                 Ok(certificate) => Ok(join_pair(designs, certificate)),
                 Err(stop) => Err(stop),
             }

@@ -4,6 +4,7 @@ use Rattle.aag_design.specs.Read.{IsReadCounted}
 use Rattle.aag_design.specs.declared.fault.AagFault.{AagFault}
 use Rattle.aag_design.specs.declared.fault.AagFault.TheVariants.{Memory}
 use Rattle.aag_design.specs.declared.file.CountedDesign.{CountedDesign}
+use Rattle.limits.specs.declared.Limits.{Limits}
 use Rattle.tmr_outside.specs.Contents.{Contents}
 use Rattle.tmr_top.specs.declared.loads.Stop.{Stop}
 use Rattle.tmr_top.specs.declared.loads.Stop.TheVariants as stop
@@ -18,10 +19,10 @@ abbrev pub HoldsCounted : Contents → Load → CountedDesign → Type 0
 HoldsCounted held load read = Holds held load (λ bytes. IsReadCounted bytes load.limit read)
 
 -- the bytes have a fault, and the line tells of it
-pub record IsRefusedGraph (name : List ℕ) (line : List ℕ) (held : Contents) : Type 0 where
+pub record IsRefusedGraph (l : Limits) (name : List ℕ) (line : List ℕ) (held : Contents) : Type 0 where
   pub fault : AagFault
   pub caused : fault ≢ Memory
-  pub first : HoldsNoGraph held (graph_file name) fault
+  pub first : HoldsNoGraph held (graph_file l name) fault
   pub says : line ≡ refused_line name (aag_reason fault)
 
 -- the stop is the refusal for this fault, or there was no memory for it

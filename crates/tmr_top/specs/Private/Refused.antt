@@ -4,6 +4,7 @@ use Rattle.std.specs.declared.alloc.Global.{Global}
 use Rattle.flat_net.specs.Net.{Net, net_count, pin_total}
 use Rattle.flat_net.specs.Free.{FreeDesign}
 use Rattle.hierarchy.specs.Sizes.{row_total}
+use Rattle.limits.specs.declared.Limits.{Limits}
 use Rattle.tmr_outside.specs.Contents.{Contents}
 use Rattle.certificate.specs.declared.fault.CertFault.{CertFault}
 use Rattle.tmr_top.specs.Loads.{Load, certificate_file}
@@ -33,9 +34,9 @@ abbrev pub AreRefused : Load → Load → List ℕ → Contents → Type 0
 AreRefused first second line held = IsRefusedNetlist first line held ⊎ IsSecondRefused first second line held
 
 -- the file is no certificate of these two designs
-pub record IsRefusedCertificate (name : List ℕ) (n h : Net) (line : List ℕ) (held : Contents) : Type 0 where
+pub record IsRefusedCertificate (l : Limits) (name : List ℕ) (n h : Net) (line : List ℕ) (held : Contents) : Type 0 where
   pub fault : CertFault
-  pub unread : HoldsNoCertificate held (certificate_file name) n h fault
+  pub unread : HoldsNoCertificate held (certificate_file l name) n h fault
   pub says : line ≡ refused_line name (cert_reason fault)
 
 -- the stop is the refusal in this line, or there was no memory for it

@@ -2,6 +2,7 @@
 use Rattle.std.specs.Prelude.{◌≡◌, ℕ, ◌⊎◌, Bool, List, ◌++◌, Vec, Result, MatchResult}
 use Rattle.std.specs.declared.alloc.Global.{Global}
 use Rattle.flat_net.specs.Net.{Net}
+use Rattle.limits.specs.declared.Limits.{Limits}
 use Rattle.tmr_outside.specs.Contents.{Contents}
 use Rattle.tmr_texts.specs.Texts.{refused_line}
 use Rattle.tmr_words.specs.Line.{Pair}
@@ -17,14 +18,14 @@ use Rattle.tmr_top.specs.Private.Opened.{HoldsBytes}
 use Rattle.tmr_top.specs.Private.Refused.{IsRefusedNetlist, IsRefusedCertificate, Refuses}
 
 -- the bytes are what the names of two netlists hold
-pub record AreDesignBytes (original hardened : List ℕ) (loaded : DesignBytes) (held : Contents) : Type 0 where
-  pub original_loaded : HoldsBytes held (kept_file (original_file original)) loaded.original.items
-  pub hardened_loaded : HoldsBytes held (kept_file (hardened_file hardened)) loaded.hardened.items
+pub record AreDesignBytes (l : Limits) (original hardened : List ℕ) (loaded : DesignBytes) (held : Contents) : Type 0 where
+  pub original_loaded : HoldsBytes held (kept_file (original_file l original)) loaded.original.items
+  pub hardened_loaded : HoldsBytes held (kept_file (hardened_file l hardened)) loaded.hardened.items
 
 -- and those of a pair and its certificate
 pub record ArePairBytes (p : Pair) (loaded : PairBytes) (held : Contents) : Type 0 where
-  pub designs : AreDesignBytes p.original p.hardened loaded.designs held
-  pub certificate_loaded : HoldsBytes held (certificate_file p.certificate) loaded.certificate.items
+  pub designs : AreDesignBytes p.limits p.original p.hardened loaded.designs held
+  pub certificate_loaded : HoldsBytes held (certificate_file p.limits p.certificate) loaded.certificate.items
 
 -- the stop is the refusal for this reason, where there was memory for it, and behind it this line of the bytes
 abbrev pub ShowsFor : {E : Type 0} → List ℕ → Result (Vec ℕ Global) E → List ℕ → ℕ → Stop → Type 0
@@ -49,7 +50,7 @@ abbrev pub AreShown : Load → Load → List ℕ → Contents → Type 0
 AreShown first second text held = IsShownNetlist first text held ⊎ IsSecondShown first second text held
 
 -- the file is no certificate of these two designs: its refusal, and behind it the line that it names
-pub record IsShownCertificate (name : List ℕ) (n h : Net) (text : List ℕ) (held : Contents) : Type 0 where
+pub record IsShownCertificate (l : Limits) (name : List ℕ) (n h : Net) (text : List ℕ) (held : Contents) : Type 0 where
   pub refusal : List ℕ
-  pub refused : IsRefusedCertificate name n h refusal held
-  pub shows : Holds held (certificate_file name) (λ bytes. text ≡ refusal ++ line_shown bytes (faulty_line refused.fault))
+  pub refused : IsRefusedCertificate l name n h refusal held
+  pub shows : Holds held (certificate_file l name) (λ bytes. text ≡ refusal ++ line_shown bytes (faulty_line refused.fault))

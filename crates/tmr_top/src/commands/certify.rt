@@ -10,7 +10,7 @@ ghost use Rattle.tmr_top.specs.Private.Certifying.{IsFound};
 
 use crate::conclusion::conclude;
 use crate::decision::{Decision, Work, denying, saving};
-use crate::loads::{CERTIFICATE_LIMIT, stopped};
+use crate::loads::stopped;
 use crate::pair_files::Designs;
 use crate::pairs::open_designs;
 use certificate::{Certificate, write_cert};
@@ -30,10 +30,10 @@ fn tell_found<'a>(
 ) -> Result<Work<'a>, OutOfMemory>
     requires { IsFound words.now.version designs.now found.now }
     ensures { IfOk result (IsWorkOver (Certify (certifying_in words.now))
-        (AreDesigns words.now.original.now words.now.hardened.now designs.now)) }
+        (AreDesigns words.now.limits words.now.original.now words.now.hardened.now designs.now)) }
 {
     let bytes = write_cert(alloc, designs.original.net(), designs.hardened.net(), found)?;
-    if bytes.len() as u64 > CERTIFICATE_LIMIT {
+    if bytes.len() as u64 > words.limits.hardened() {
         let text = certificate_too_long(alloc)?;
         return Ok(denying(alloc, text));
     }
@@ -55,7 +55,7 @@ fn tell_none<'a>(
 ) -> Result<Work<'a>, OutOfMemory>
     requires { IsPlaced designs.now.original.design.net designs.now.hardened.design.net why.now }
     ensures { IfOk result (IsWorkOver (Certify (certifying_in words.now))
-        (AreDesigns words.now.original.now words.now.hardened.now designs.now)) }
+        (AreDesigns words.now.limits words.now.original.now words.now.hardened.now designs.now)) }
 {
     match why {
         NoCertificate::Memory => Err(OutOfMemory),
@@ -78,7 +78,7 @@ fn tell<'a>(
     designs: &Designs,
 ) -> Result<Work<'a>, OutOfMemory>
     ensures { IfOk result (IsWorkOver (Certify (certifying_in words.now))
-        (AreDesigns words.now.original.now words.now.hardened.now designs.now)) }
+        (AreDesigns words.now.limits words.now.original.now words.now.hardened.now designs.now)) }
 {
     match certify(alloc, &designs.original, &designs.hardened, words.version) {
         Ok(found) => tell_found(alloc, words, designs, &found),
@@ -95,7 +95,7 @@ pub fn perform<F: Files>(
     ensures { Performed (Certify (certifying_in words.now)) (F.seen files.old) (F.seen files.new)
         (F.steady files.old) (F.steady files.new) result }
 {
-    match open_designs(alloc, words.original, words.hardened, files) {
+    match open_designs(alloc, words.original, words.hardened, words.limits, files) {
         Ok(designs) => conclude(alloc, tell(alloc, words, &designs), files),
         Err(stop) => stopped(alloc, stop),
     }

@@ -22,7 +22,7 @@ use tmr_words::FlatWords;
 /// The flat text of a design, and what is told of it.
 fn tell<'a>(alloc: Global, words: &FlatWords<'a>, design: &FreeNet) -> Result<Work<'a>, OutOfMemory>
     ensures { IfOk result (IsWorkOver (Flatten (flattening_in words.now))
-        (λ held. HoldsDesign held (original_file words.now.original.now) design.now.design.net design.now.free)) }
+        (λ held. HoldsDesign held (original_file words.now.limits words.now.original.now) design.now.design.net design.now.free)) }
 {
     let bytes = write_flat(alloc, design.net())?;
     let text = flattened(alloc, design.net(), design.free_count())?;
@@ -38,7 +38,7 @@ pub fn perform<F: Files>(
     ensures { Performed (Flatten (flattening_in words.now)) (F.seen files.old) (F.seen files.new)
         (F.steady files.old) (F.steady files.new) result }
 {
-    match open_original(alloc, words.original, files) {
+    match open_original(alloc, words.original, words.limits, files) {
         Ok(design) => conclude(alloc, tell(alloc, words, &design), files),
         Err(stop) => stopped(alloc, stop),
     }

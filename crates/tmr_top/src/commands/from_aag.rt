@@ -1,5 +1,6 @@
 //! `from-aag AAG FLAT`: the flat text of the design of an AIGER file is saved.
 ghost use Rattle.std.specs.Prelude.{◌≤◌, ◌∷◌, [], length, IfOk};
+ghost use Rattle.limits.specs.Most.{widest_original};
 ghost use Rattle.tmr_words.specs.Line.{ReadGraph};
 ghost use Rattle.tmr_words.specs.FileWords.{graph_reading_in};
 ghost use Rattle.tmr_top.specs.Loads.{graph_file};
@@ -11,9 +12,10 @@ ghost use Rattle.tmr_top.specs.Private.Works.{IsWorkOver};
 use crate::conclusion::conclude;
 use crate::decision::{Decision, Work, saving};
 use crate::designs::refuse_for;
-use crate::loads::{GRAPH_LIMIT, Stop, load_bytes, stopped};
+use crate::loads::{Stop, keep_original, stopped};
 use aag_design::{AagFault, CountedDesign, read_counted};
 use blif_writer::write_free;
+use limits::Limits;
 use std::alloc::Global;
 use tmr_base::OutOfMemory;
 use tmr_outside::Files;
@@ -30,12 +32,17 @@ fn refuse_graph<'a>(alloc: Global, name: &str, fault: AagFault) -> Stop<'a>
 }
 
 /// The design that the bytes of an AIGER file give, with the counts of its graph.
-fn read_graph<'a>(alloc: Global, name: &str, bytes: &[u8]) -> Result<CountedDesign, Stop<'a>>
-    requires { length bytes.now ≤ 8388608 }
-    ensures { Gives (λ held. HoldsBytes held (graph_file name.now) bytes.now)
-        (λ read held. HoldsCounted held (graph_file name.now) read) (IsRefusedGraph name.now) result }
+fn read_graph<'a>(
+    alloc: Global,
+    name: &str,
+    bytes: &[u8],
+    limits: Limits,
+) -> Result<CountedDesign, Stop<'a>>
+    requires { length bytes.now ≤ widest_original }
+    ensures { Gives (λ held. HoldsBytes held (graph_file limits name.now) bytes.now)
+        (λ read held. HoldsCounted held (graph_file limits name.now) read) (IsRefusedGraph limits name.now) result }
 {
-    match read_counted(alloc, bytes, GRAPH_LIMIT) {
+    match read_counted(alloc, bytes, limits.original()) {
         Ok(read) => Ok(read),
         Err(fault) => Err(refuse_graph(alloc, name, fault)),
     }
@@ -45,14 +52,15 @@ fn read_graph<'a>(alloc: Global, name: &str, bytes: &[u8]) -> Result<CountedDesi
 fn open_graph<'a, F: Files>(
     alloc: Global,
     name: &'a str,
+    limits: Limits,
     files: &mut F,
 ) -> Result<CountedDesign, Stop<'a>>
-    ensures { Opens (graph_file name.now ∷ [])
-        (λ read held. HoldsCounted held (graph_file name.now) read) (IsRefusedGraph name.now)
+    ensures { Opens (graph_file limits name.now ∷ [])
+        (λ read held. HoldsCounted held (graph_file limits name.now) read) (IsRefusedGraph limits name.now)
         (F.seen files.old) (F.seen files.new) (F.steady files.old) (F.steady files.new) result }
 {
-    match load_bytes(alloc, name, GRAPH_LIMIT, files) {
-        Ok(bytes) => read_graph(alloc, name, &bytes),
+    match keep_original(alloc, name, limits, files) {
+        Ok(bytes) => read_graph(alloc, name, &bytes, limits),
         Err(stop) => Err(stop),
     }
 }
@@ -64,7 +72,7 @@ fn tell<'a>(
     read: &CountedDesign,
 ) -> Result<Work<'a>, OutOfMemory>
     ensures { IfOk result (IsWorkOver (ReadGraph (graph_reading_in words.now))
-        (λ held. HoldsCounted held (graph_file words.now.graph.now) read.now)) }
+        (λ held. HoldsCounted held (graph_file words.now.limits words.now.graph.now) read.now)) }
 {
     let bytes = write_free(alloc, &read.net)?;
     let text = graph_told(alloc, &read.counts)?;
@@ -80,7 +88,7 @@ pub fn perform<F: Files>(
     ensures { Performed (ReadGraph (graph_reading_in words.now)) (F.seen files.old) (F.seen files.new)
         (F.steady files.old) (F.steady files.new) result }
 {
-    match open_graph(alloc, words.graph, files) {
+    match open_graph(alloc, words.graph, words.limits, files) {
         Ok(read) => conclude(alloc, tell(alloc, words, &read), files),
         Err(stop) => stopped(alloc, stop),
     }

@@ -2,6 +2,7 @@
 ghost use Rattle.std.specs.Prelude.{◌≤◌, IfOk};
 ghost use Rattle.blif_writer.specs.Length.{flat_length};
 ghost use Rattle.dwc.specs.Guard.{guard_net};
+ghost use Rattle.limits.specs.Most.{most_original, most_hardened};
 ghost use Rattle.tmr_words.specs.Line.{Guard};
 ghost use Rattle.tmr_words.specs.FileWords.{guarding_in};
 ghost use Rattle.tmr_top.specs.Loads.{original_file};
@@ -24,24 +25,25 @@ use tmr_texts::guard_made;
 use tmr_words::GuardWords;
 
 /// The flat text of the guarded design keeps the limit of its file, where that of the original keeps its own.
-fn text_keeps_limit(n: &FreeNet)
-    requires { IsFlatWithin 8388608 n.now.design.net n.now.free }
-    ensures { flat_length (guard_net n.now.design.net) ≤ 1073741824 }
+fn text_keeps_limit(words: &GuardWords, n: &FreeNet)
+    requires { IsFlatWithin (most_original words.now.limits) n.now.design.net n.now.free }
+    ensures { flat_length (guard_net n.now.design.net) ≤ most_hardened words.now.limits }
 {
     let _original = checked_nodes(n);
 }
 
 /// The text of the guarded design, and what is told of it.
+#[tactic(auto, using(crate::proofs::LimitLaws::few))]
 fn tell<'a>(
     alloc: Global,
     words: &GuardWords<'a>,
     design: &FreeNet,
 ) -> Result<Work<'a>, OutOfMemory>
-    requires { IsWithin 8388608 design.now }
+    requires { IsWithin (most_original words.now.limits) design.now }
     ensures { IfOk result (IsWorkOver (Guard (guarding_in words.now))
-        (λ held. HoldsDesign held (original_file words.now.original.now) design.now.design.net design.now.free)) }
+        (λ held. HoldsDesign held (original_file words.now.limits words.now.original.now) design.now.design.net design.now.free)) }
 {
-    text_keeps_limit(design);
+    text_keeps_limit(words, design);
     let net = design.net();
     let bytes = guard_text(alloc, net)?;
     let text = guard_made(alloc, net, guarded_nodes(net), design.free_count())?;
@@ -57,7 +59,7 @@ pub fn perform<F: Files>(
     ensures { Performed (Guard (guarding_in words.now)) (F.seen files.old) (F.seen files.new)
         (F.steady files.old) (F.steady files.new) result }
 {
-    match open_original(alloc, words.original, files) {
+    match open_original(alloc, words.original, words.limits, files) {
         Ok(design) => conclude(alloc, tell(alloc, words, &design), files),
         Err(stop) => stopped(alloc, stop),
     }

@@ -1,5 +1,6 @@
 //! `guarded ORIG GUARDED`: whether a file holds the guarded design of another. It saves nothing.
 ghost use Rattle.std.specs.Prelude.{IfOk};
+ghost use Rattle.limits.specs.Most.{most_original};
 ghost use Rattle.tmr_words.specs.Line.{CheckGuard};
 ghost use Rattle.tmr_words.specs.FileWords.{guarding_in};
 ghost use Rattle.tmr_top.specs.Private.PairFiles.{AreDesigns};
@@ -20,14 +21,15 @@ use tmr_texts::{guard_found, guard_not_found};
 use tmr_words::GuardWords;
 
 /// What is told of the two designs.
+#[tactic(auto, using(crate::proofs::LimitLaws::few))]
 fn tell<'a>(
     alloc: Global,
     words: &GuardWords<'a>,
     designs: &Designs,
 ) -> Result<Work<'a>, OutOfMemory>
-    requires { IsWithin 8388608 designs.now.original }
+    requires { IsWithin (most_original words.now.limits) designs.now.original }
     ensures { IfOk result (IsWorkOver (CheckGuard (guarding_in words.now))
-        (AreDesigns words.now.original.now words.now.guarded.now designs.now)) }
+        (AreDesigns words.now.limits words.now.original.now words.now.guarded.now designs.now)) }
 {
     match check_guard(alloc, designs.original.net(), designs.hardened.net())? {
         GuardAnswer::Guarded => {
@@ -50,7 +52,7 @@ pub fn perform<F: Files>(
     ensures { Performed (CheckGuard (guarding_in words.now)) (F.seen files.old) (F.seen files.new)
         (F.steady files.old) (F.steady files.new) result }
 {
-    match open_designs(alloc, words.original, words.guarded, files) {
+    match open_designs(alloc, words.original, words.guarded, words.limits, files) {
         Ok(designs) => conclude(alloc, tell(alloc, words, &designs), files),
         Err(stop) => stopped(alloc, stop),
     }

@@ -2,6 +2,7 @@
 ghost use Rattle.std.specs.Prelude.{◌≡◌, IfOk, count_by};
 ghost use Rattle.hardened_size.specs.Size.{AreShort, KeepLimits};
 ghost use Rattle.hardened_text.specs.Texts.{AreTexts};
+ghost use Rattle.limits.specs.Most.{most_original};
 ghost use Rattle.tmr_texts.specs.FormText.{form_numbers, hardened_lines};
 ghost use Rattle.tmr_words.specs.Line.{Harden};
 ghost use Rattle.tmr_words.specs.FileWords.{hardening_in};
@@ -52,8 +53,8 @@ fn form_text(
 /// Both texts of a hardened form are short beside the flat text of its original, and keep the limits of their files where that keeps
 /// its own.
 fn texts_keep_limits(words: &HardenWords, n: &FreeNet, made: &HardenedTexts)
-    requires { IsFlatWithin 8388608 n.now.design.net n.now.free }
-    ensures limits { (a : AreTexts words.now.form n.now words.now.size words.now.version words.now.most made.now) → KeepLimits n.now.design.net a.pair.net.design.net a.pair.cert }
+    requires { IsFlatWithin (most_original words.now.limits) n.now.design.net n.now.free }
+    ensures limits { (a : AreTexts words.now.form n.now words.now.size words.now.version words.now.most made.now) → KeepLimits words.now.limits n.now.design.net a.pair.net.design.net a.pair.cert }
     ensures short { (a : AreTexts words.now.form n.now words.now.size words.now.version words.now.most made.now) → AreShort n.now.design.net a.pair.net.design.net a.pair.cert }
 {
     hardened_texts_are_short();
@@ -68,9 +69,9 @@ fn tell_form<'a>(
     made: HardenedTexts,
 ) -> Result<Work<'a>, OutOfMemory>
     requires made { AreTexts words.now.form n.now words.now.size words.now.version words.now.most made }
-    requires within { IsWithin 8388608 n.now }
+    requires within { IsWithin (most_original words.now.limits) n.now }
     ensures { IfOk result (IsWorkOver (Harden (hardening_in words.now))
-        (λ held. HoldsDesign held (original_file words.now.original.now) n.now.design.net n.now.free)) }
+        (λ held. HoldsDesign held (original_file words.now.limits words.now.original.now) n.now.design.net n.now.free)) }
 {
     texts_keep_limits(words, n, &made);
     let text = form_text(alloc, words, n, &made)?;
@@ -91,11 +92,11 @@ fn tell_form<'a>(
 }
 
 /// A hardened form of a design.
-#[tactic(auto, using(crate::proofs::HardenLaws::versions))]
+#[tactic(auto, using(crate::proofs::HardenLaws::versions, crate::proofs::LimitLaws::few))]
 fn tell<'a>(alloc: Global, words: &HardenWords<'a>, n: &FreeNet) -> Result<Work<'a>, OutOfMemory>
-    requires { IsWithin 8388608 n.now }
+    requires { IsWithin (most_original words.now.limits) n.now }
     ensures { IfOk result (IsWorkOver (Harden (hardening_in words.now))
-        (λ held. HoldsDesign held (original_file words.now.original.now) n.now.design.net n.now.free)) }
+        (λ held. HoldsDesign held (original_file words.now.limits words.now.original.now) n.now.design.net n.now.free)) }
 {
     let made = harden_texts(alloc, n, words.form, words.size, words.version, words.most)?;
     tell_form(alloc, words, n, made)
@@ -110,7 +111,7 @@ pub fn perform<F: Files>(
     ensures { Performed (Harden (hardening_in words.now)) (F.seen files.old) (F.seen files.new)
         (F.steady files.old) (F.steady files.new) result }
 {
-    match open_original(alloc, words.original, files) {
+    match open_original(alloc, words.original, words.limits, files) {
         Ok(design) => conclude(alloc, tell(alloc, words, &design), files),
         Err(stop) => stopped(alloc, stop),
     }

@@ -11,6 +11,7 @@ ghost use Rattle.schedule_replay.specs.Outcome.{IsFreeReplay};
 ghost use Rattle.schedule_replay.specs.OutcomeView.{plain_outcome};
 ghost use Rattle.schedules.specs.Reading.{IsNodeOf, IsReadAs};
 ghost use Rattle.validator.specs.Masking.{Masks, FreeMasks};
+ghost use Rattle.limits.specs.Most.{widest_nets, widest_text};
 ghost use Rattle.tmr_words.specs.Line.{Replay};
 ghost use Rattle.tmr_words.specs.FileWords.{pair_in, replaying_in, word_in};
 ghost use Rattle.tmr_top.specs.Loads.{schedule_file, replay_files};
@@ -176,7 +177,7 @@ fn load_replay<'a, F: Files>(
 ) -> Result<ReplayFiles, Stop<'a>>
     ensures opens { Opens (replay_files (replaying_in words.now)) (AreReplayFiles (replaying_in words.now)) Never
         (F.seen files.old) (F.seen files.new) (F.steady files.old) (F.steady files.new) result }
-    ensures short { IfOk result (λ loaded. length loaded.pair.certificate.items ≤ 1073741824) }
+    ensures short { IfOk result (λ loaded. length loaded.pair.certificate.items ≤ widest_text) }
     ensures schedule_short { IfOk result (λ loaded. length loaded.schedule.items ≤ 16777216) }
 {
     match load_pair(alloc, &words.pair, files) {
@@ -194,7 +195,7 @@ fn read_replay<'a>(
     words: &ReplayWords,
     loaded: ReplayFiles,
 ) -> Result<ReplayRead, Stop<'a>>
-    requires short { length loaded.pair.certificate.items ≤ 1073741824 }
+    requires short { length loaded.pair.certificate.items ≤ widest_text }
     requires schedule_short { length loaded.schedule.items ≤ 16777216 }
     ensures gives { Gives (AreReplayFiles (replaying_in words.now) loaded) (IsReplayRead (replaying_in words.now))
         (λ line held. IsReplayRefused (replaying_in words.now) held line) result }
@@ -245,7 +246,7 @@ fn replay_accepted<'a>(
     requires nets { All (λ u. u.net.0 < net_count h.now.design.net) s.now.upsets }
     requires masks { Masks n.now.design.net h.now.design.net c.now }
     requires free_masks { FreeMasks n.now.design.net n.now.free h.now.design.net h.now.free c.now }
-    requires small { net_count n.now.design.net ≤ 4194304 }
+    requires small { 4 * net_count n.now.design.net ≤ widest_nets }
     requires room { is_too_large (word_in waves) n.now.design.net (length s.now.rows) ≡ false }
     ensures { IfOk result (IsToldWork (word_in waves.entry) (record {
       original = n.now.design.net;

@@ -1,5 +1,6 @@
 //! `sweep ORIG`: what hardening costs with partitions of each size. It saves nothing.
 ghost use Rattle.std.specs.Prelude.{IfOk};
+ghost use Rattle.limits.specs.Most.{most_original};
 ghost use Rattle.tmr_words.specs.Line.{Sweep};
 ghost use Rattle.tmr_words.specs.FileWords.{sweeping_in};
 ghost use Rattle.tmr_top.specs.Loads.{original_file};
@@ -20,14 +21,15 @@ use tmr_outside::Files;
 use tmr_words::SweepWords;
 
 /// What hardening a design costs with partitions of each size.
+#[tactic(auto, using(crate::proofs::LimitLaws::few))]
 fn tell<'a>(
     alloc: Global,
     words: &SweepWords<'a>,
     design: &FreeNet,
 ) -> Result<Work<'a>, OutOfMemory>
-    requires { IsWithin 8388608 design.now }
+    requires { IsWithin (most_original words.now.limits) design.now }
     ensures { IfOk result (IsWorkOver (Sweep (sweeping_in words.now))
-        (λ held. HoldsDesign held (original_file words.now.original.now) design.now.design.net design.now.free)) }
+        (λ held. HoldsDesign held (original_file words.now.limits words.now.original.now) design.now.design.net design.now.free)) }
 {
     let text = sweep(alloc, design, words.form, words.version, words.most)?;
     Ok(telling(alloc, text))
@@ -42,7 +44,7 @@ pub fn perform<F: Files>(
     ensures { Performed (Sweep (sweeping_in words.now)) (F.seen files.old) (F.seen files.new)
         (F.steady files.old) (F.steady files.new) result }
 {
-    match open_original(alloc, words.original, files) {
+    match open_original(alloc, words.original, words.limits, files) {
         Ok(design) => conclude(alloc, tell(alloc, words, &design), files),
         Err(stop) => stopped(alloc, stop),
     }

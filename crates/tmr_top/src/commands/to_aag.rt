@@ -1,5 +1,6 @@
 //! `to-aag ORIG AAG`: the AIGER file of a design is saved.
 ghost use Rattle.std.specs.Prelude.{IfOk};
+ghost use Rattle.limits.specs.Most.{most_original};
 ghost use Rattle.tmr_words.specs.Line.{WriteGraph};
 ghost use Rattle.tmr_words.specs.FileWords.{graphing_in};
 ghost use Rattle.tmr_top.specs.Loads.{original_file};
@@ -21,14 +22,15 @@ use tmr_texts::graph_made;
 use tmr_words::GraphWords;
 
 /// The file of a design, and what is told of it.
+#[tactic(auto, using(crate::proofs::LimitLaws::few))]
 fn tell<'a>(
     alloc: Global,
     words: &GraphWords<'a>,
     design: &FreeNet,
 ) -> Result<Work<'a>, OutOfMemory>
-    requires { IsWithin 8388608 design.now }
+    requires { IsWithin (most_original words.now.limits) design.now }
     ensures { IfOk result (IsWorkOver (WriteGraph (graphing_in words.now))
-        (λ held. HoldsDesign held (original_file words.now.original.now) design.now.design.net design.now.free)) }
+        (λ held. HoldsDesign held (original_file words.now.limits words.now.original.now) design.now.design.net design.now.free)) }
 {
     let file = write_counted(alloc, design)?;
     let text = graph_made(alloc, design.net(), file.gates, design.free_count())?;
@@ -44,7 +46,7 @@ pub fn perform<F: Files>(
     ensures { Performed (WriteGraph (graphing_in words.now)) (F.seen files.old) (F.seen files.new)
         (F.steady files.old) (F.steady files.new) result }
 {
-    match open_original(alloc, words.original, files) {
+    match open_original(alloc, words.original, words.limits, files) {
         Ok(design) => conclude(alloc, tell(alloc, words, &design), files),
         Err(stop) => stopped(alloc, stop),
     }

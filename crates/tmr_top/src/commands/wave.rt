@@ -3,6 +3,7 @@ ghost use Rattle.std.specs.Prelude.{◌≡◌, ◌≤◌, ◌<◌, ◌*◌, ◌+
 ghost use Rattle.flat_net.specs.Net.{net_count};
 ghost use Rattle.certificate.specs.Cert.{Fits};
 ghost use Rattle.schedule_replay.specs.Waves.{AreFreeWaves};
+ghost use Rattle.limits.specs.Most.{widest_nets};
 ghost use Rattle.tmr_base.specs.Names.{is_name};
 ghost use Rattle.tmr_words.specs.FileWords.{word_in};
 ghost use Rattle.tmr_texts.specs.ReplayText.{waves_of, output_waves};
@@ -73,7 +74,7 @@ fn wave_text(
     requires outputs { length h.now.design.net.outputs ≡ 3 * length n.now.design.net.outputs }
     requires rows { s.now.inputs ≡ length n.now.design.net.inputs }
     requires nets { All (λ u. u.net.0 < net_count h.now.design.net) s.now.upsets }
-    requires small { net_count n.now.design.net ≤ 4194304 }
+    requires small { 4 * net_count n.now.design.net ≤ widest_nets }
     requires few { length n.now.design.net.outputs * length s.now.rows ≤ 4194304 }
     ensures { IfOk result (λ text. AreSaved (record {
       original = n.now.design.net;
@@ -105,7 +106,7 @@ pub fn save_waves<'a>(
     requires outputs { length h.now.design.net.outputs ≡ 3 * length n.now.design.net.outputs }
     requires rows { s.now.inputs ≡ length n.now.design.net.inputs }
     requires nets { All (λ u. u.net.0 < net_count h.now.design.net) s.now.upsets }
-    requires small { net_count n.now.design.net ≤ 4194304 }
+    requires small { 4 * net_count n.now.design.net ≤ widest_nets }
     requires few { is_too_large (word_in waves) n.now.design.net (length s.now.rows) ≡ false }
     ensures names { IfOk result (λ saves. save_names saves.items ≡ wave_names (word_in waves.entry)) }
     ensures saves { IfOk result (λ saves. SavesWaves (word_in waves.entry) (record {

@@ -1,5 +1,10 @@
-use Rattle.tmr_top.proofs.PerformLaws.{failed_concludes, wants_concludes}
+use Rattle.tmr_top.proofs.PerformLaws.{done_concludes, failed_concludes, wants_concludes}
 use Rattle.tmr_top.proofs.conclusion.save_work.Goals as goal
+
+pub returns-in-Ok : goal.returns-in-Ok
+returns-in-Ok g c = λ k names.
+    let done = c.in-Ok in
+    done_concludes k _ _ _ _ c.args.work c.deref.result.now c.deref.ensures.value c.requires names done.ensures.steady done.ensures.changes done.ensures.saves
 
 pub returns-in-Ok-save_fault : goal.returns-in-Ok-save_fault
 returns-in-Ok-save_fault g c = λ k names.

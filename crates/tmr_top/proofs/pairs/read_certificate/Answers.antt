@@ -16,7 +16,7 @@ returns-in-Ok-clause-gives c =
     let h = c.args.designs.now.hardened.design.net in
     let bytes = c.args.bytes.now in
     let text = ap (λ (d : Design). cert_of_text n d.net bytes) (sym c.net-2.ensures.net) ∙ ap (λ (d : Design). cert_of_text d.net c.net-2.result.now.net bytes) (sym c.net.ensures.net) in
-    λ held holds. holds_certificate held (certificate_file c.args.name.now) bytes n h _ holds (text ∙ c.in-Ok.ensures.exact)
+    λ held holds. holds_certificate held (certificate_file c.args.limits c.args.name.now) bytes n h _ holds (text ∙ c.in-Ok.ensures.exact)
 
 pub returns-in-Err-clause-gives : goal.returns-in-Err-clause-gives
 returns-in-Err-clause-gives c =
@@ -24,9 +24,9 @@ returns-in-Err-clause-gives c =
     let h = c.args.designs.now.hardened.design.net in
     let bytes = c.args.bytes.now in
     let text = ap (λ (d : Design). cert_of_text n d.net bytes) (sym c.net-2.ensures.net) ∙ ap (λ (d : Design). cert_of_text d.net c.net-2.result.now.net bytes) (sym c.net.ensures.net) in
-    is_refusal c.args.name.now c.cert_reason.result (cert_reason c.in-Err.fault) (c.in-Err.fault ≢ Memory) (λ held. HoldsBytes held (certificate_file c.args.name.now) bytes) (IsRefusedCertificate c.args.name.now n h) _ c.refuse_for.ensures c.cert_reason.ensures.reason c.cert_reason.ensures.caused
+    is_refusal c.args.name.now c.cert_reason.result (cert_reason c.in-Err.fault) (c.in-Err.fault ≢ Memory) (λ held. HoldsBytes held (certificate_file c.args.limits c.args.name.now) bytes) (IsRefusedCertificate c.args.limits c.args.name.now n h) _ c.refuse_for.ensures c.cert_reason.ensures.reason c.cert_reason.ensures.caused
     (λ line held says caused holds. record {
       fault = c.in-Err.fault;
-      unread = holds_no_certificate held (certificate_file c.args.name.now) bytes n h c.in-Err.fault holds (text ∙ read_fault c.in-Err.fault _ c.in-Err.ensures.exact caused);
+      unread = holds_no_certificate held (certificate_file c.args.limits c.args.name.now) bytes n h c.in-Err.fault holds (text ∙ read_fault c.in-Err.fault _ c.in-Err.ensures.exact caused);
       says = says;
     })

@@ -18,7 +18,7 @@ returns-in-Ok-clause-gives c =
     let h = c.args.designs.now.hardened.design.net in
     let bytes = c.args.bytes.now in
     let text = ap (λ (d : Design). cert_of_text n d.net bytes) (sym c.net-2.ensures.net) ∙ ap (λ (d : Design). cert_of_text d.net c.net-2.result.now.net bytes) (sym c.net.ensures.net) in
-    λ held holds. holds_certificate held (certificate_file c.args.name.now) bytes n h _ holds (text ∙ c.in-Ok.ensures.exact)
+    λ held holds. holds_certificate held (certificate_file c.args.limits c.args.name.now) bytes n h _ holds (text ∙ c.in-Ok.ensures.exact)
 
 pub returns-in-Err-clause-gives : goal.returns-in-Err-clause-gives
 returns-in-Err-clause-gives c =
@@ -28,6 +28,6 @@ returns-in-Err-clause-gives c =
     let fault = c.in-Err.fault in
     let reason = cert_reason fault in
     let text = ap (λ (d : Design). cert_of_text n d.net bytes) (sym c.net-2.ensures.net) ∙ ap (λ (d : Design). cert_of_text d.net c.net-2.result.now.net bytes) (sym c.net.ensures.net) in
-    is_shown_refusal c.args.name.now c.cert_reason.result reason bytes c.faulty_line-line.result (fault ≢ Memory) (λ held. HoldsBytes held (certificate_file c.args.name.now) bytes) (IsShownCertificate c.args.name.now n h) _ c.refuse_showing.ensures c.cert_reason.ensures.reason c.cert_reason.ensures.caused
-    (λ shown held says caused holds. fault_shown held c.args.name.now n h bytes fault shown holds (text ∙ read_fault fault _ c.in-Err.ensures.exact caused)
+    is_shown_refusal c.args.name.now c.cert_reason.result reason bytes c.faulty_line-line.result (fault ≢ Memory) (λ held. HoldsBytes held (certificate_file c.args.limits c.args.name.now) bytes) (IsShownCertificate c.args.limits c.args.name.now n h) _ c.refuse_showing.ensures c.cert_reason.ensures.reason c.cert_reason.ensures.caused
+    (λ shown held says caused holds. fault_shown c.args.limits held c.args.name.now n h bytes fault shown holds (text ∙ read_fault fault _ c.in-Err.ensures.exact caused)
     (says ∙ ap (λ (k : ℕ). refused_line c.args.name.now reason ++ line_shown bytes k) c.faulty_line-line.ensures))

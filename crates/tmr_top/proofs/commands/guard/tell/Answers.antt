@@ -5,6 +5,7 @@ use Rattle.blif_writer.specs.NetOf.{IsNetOf}
 use Rattle.blif_writer.specs.Text.{flat_text}
 use Rattle.dwc.specs.Guard.{guard_net}
 use Rattle.dwc.specs.Tells.{Guards}
+use Rattle.limits.specs.Most.{most_hardened}
 use Rattle.tmr_words.specs.FileWords.{guarding_in}
 use Rattle.tmr_texts.specs.Texts.{guard_line}
 use Rattle.tmr_top.proofs.GuardLaws.{guarded_outcome}
@@ -14,13 +15,14 @@ use Rattle.tmr_top.proofs.commands.guard.tell.Goals as goal
 pub returns : goal.returns
 returns c =
     let n = c.args.design.now.design.net in
+    let most = most_hardened c.args.words.now.limits in
     let bytes = c.in_ok-bytes.bytes.items in
     let same : c.net-net.result.now ≡ c.args.design.now.design = c.net-net.ensures.net in
     let guards = subst (λ (d : Design). Guards d.net (guard_net d.net)) same c.guard_text.ensures.guards in
     let text : bytes ≡ flat_text (guard_net n) = c.in_ok-bytes.ensures.text ∙ ap (λ (d : Design). flat_text (guard_net d.net)) same in
     let long : length bytes ≡ flat_length (guard_net n) = c.in_ok-bytes.ensures.length ∙ ap (λ (d : Design). flat_length (guard_net d.net)) same in
-    let keeps : length bytes ≤ 1073741824 = subst (λ (k : ℕ). k ≤ 1073741824) (sym long) c.text_keeps_limit.ensures in
-    let read = subst (λ (d : Design). IsNetOf bytes 1073741824 (guard_net d.net) 0) same (c.in_ok-bytes.ensures.again 1073741824 keeps) in
+    let keeps : length bytes ≤ most = subst (λ (k : ℕ). k ≤ most) (sym long) c.text_keeps_limit.ensures in
+    let read = subst (λ (d : Design). IsNetOf bytes most (guard_net d.net) 0) same (c.in_ok-bytes.ensures.again most keeps) in
     let count = sym (c.guarded_nodes.ensures ∙ ap (λ (d : Design). length (guard_net d.net).nodes) same) in
     let says = c.in_ok-text.ensures (guard_net n) count ∙ (ap (λ (d : Design). guard_line d.net (guard_net n) c.free_count.result) same ∙ ap (guard_line n (guard_net n)) c.free_count.ensures) in
     if_ok c.saving.result _ _ (λ w is. done_over _ _ _ _ _ w is refl (λ t e. cc)
