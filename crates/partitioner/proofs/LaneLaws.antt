@@ -8,9 +8,8 @@ use Rattle.std.proofs.lemmas.Nat.Bits.{bit_at_xor, bit_at-lt}
 use Rattle.table_cover.specs.Words.{word_bit}
 use Rattle.table_cover.proofs.WordLaws.{word_bit_and, word_bit_or}
 use Rattle.partitioner.specs.declared.costs.lanes.Lanes.{Lanes}
-use Rattle.partitioner.specs.declared.costs.lanes.WideLanes.{WideLanes}
 use Rattle.partitioner.specs.Below.{one_if}
-use Rattle.partitioner.specs.Private.Lanes.{Reaches, ReachesWide, carry_of, lane_value}
+use Rattle.partitioner.specs.Private.Lanes.{Reaches, lane_value}
 
 -- one of two, and not both
 abbrev differ : Bool → Bool → Bool
@@ -134,82 +133,3 @@ lanes_added lanes word j k reached =
         → Reaches now j (k + one_if (word_bit j word))
     both (inl e) = inl (over ∙ e)
     both (inr l) = inr (subst (λ (v : ℕ). k + one_if (word_bit j word) ≤ v) (sym value) l)
-
--- one more is the number that follows, or sixteen less of it and a carry
-exactly : (a b c d w : Bool) → digits (differ a w) (differ b (a && w)) (differ c (b && (a && w))) (differ d (c && (b && (a && w)))) + 16 * one_if (d && (c && (b && (a && w)))) ≡ digits a b c d + one_if w
-exactly false false false false false = refl
-exactly false false false false true = refl
-exactly false false false true false = refl
-exactly false false false true true = refl
-exactly false false true false false = refl
-exactly false false true false true = refl
-exactly false false true true false = refl
-exactly false false true true true = refl
-exactly false true false false false = refl
-exactly false true false false true = refl
-exactly false true false true false = refl
-exactly false true false true true = refl
-exactly false true true false false = refl
-exactly false true true false true = refl
-exactly false true true true false = refl
-exactly false true true true true = refl
-exactly true false false false false = refl
-exactly true false false false true = refl
-exactly true false false true false = refl
-exactly true false false true true = refl
-exactly true false true false false = refl
-exactly true false true false true = refl
-exactly true false true true false = refl
-exactly true false true true true = refl
-exactly true true false false false = refl
-exactly true true false false true = refl
-exactly true true false true false = refl
-exactly true true false true true = refl
-exactly true true true false false = refl
-exactly true true true false true = refl
-exactly true true true true false = refl
-exactly true true true true true = refl
-
--- the lanes after one more, with what they carry
-pub lanes_exact : (lanes : Lanes) (word j : ℕ)
-    → lane_value (record {
-      ones = bit_xor lanes.ones word;
-      twos = bit_xor lanes.twos (bit_and lanes.ones word);
-      fours = bit_xor lanes.fours (bit_and lanes.twos (bit_and lanes.ones word));
-      eights = bit_xor lanes.eights (bit_and lanes.fours (bit_and lanes.twos (bit_and lanes.ones word)));
-      over = bit_or lanes.over (bit_and lanes.eights (bit_and lanes.fours (bit_and lanes.twos (bit_and lanes.ones word))));
-    }) j + 16 * one_if (word_bit j (carry_of lanes word)) ≡ lane_value lanes j + one_if (word_bit j word)
-lanes_exact lanes word j =
-    let one = ap one_if (word_bit_xor j lanes.ones word) in
-    let two = ap one_if (word_bit_xor j lanes.twos c0 ∙ ap (differ (word_bit j lanes.twos)) at0) in
-    let four = ap one_if (word_bit_xor j lanes.fours c1 ∙ ap (differ (word_bit j lanes.fours)) at1) in
-    let eight = ap one_if (word_bit_xor j lanes.eights c2 ∙ ap (differ (word_bit j lanes.eights)) at2) in
-    let carry = ap one_if (word_bit_and j lanes.eights c2 ∙ ap (λ (b : Bool). word_bit j lanes.eights && b) at2) in
-    omega (arith, one, two, four, eight, carry, exactly (word_bit j lanes.ones) (word_bit j lanes.twos) (word_bit j lanes.fours) (word_bit j lanes.eights) (word_bit j word))
-  where
-    c0 : ℕ
-    c0 = bit_and lanes.ones word
-
-    c1 : ℕ
-    c1 = bit_and lanes.twos c0
-
-    c2 : ℕ
-    c2 = bit_and lanes.fours c1
-
-    at0 : word_bit j c0 ≡ (word_bit j lanes.ones && word_bit j word)
-    at0 = word_bit_and j lanes.ones word
-
-    at1 : word_bit j c1 ≡ (word_bit j lanes.twos && (word_bit j lanes.ones && word_bit j word))
-    at1 = word_bit_and j lanes.twos c0 ∙ ap (λ (b : Bool). word_bit j lanes.twos && b) at0
-
-    at2 : word_bit j c2 ≡ (word_bit j lanes.fours && (word_bit j lanes.twos && (word_bit j lanes.ones && word_bit j word)))
-    at2 = word_bit_and j lanes.fours c1 ∙ ap (λ (b : Bool). word_bit j lanes.fours && b) at1
-
--- one more to lanes of eight digits
-pub wide_added : (lanes new : WideLanes) (word carry j k : ℕ) → carry ≡ carry_of lanes.low word → lane_value new.low j + 16 * one_if (word_bit j (carry_of lanes.low word)) ≡ lane_value lanes.low j + one_if (word_bit j word)
-    → ((h : ℕ) → Reaches lanes.high j h → Reaches new.high j (h + one_if (word_bit j carry))) → ReachesWide lanes j k → ReachesWide new j (k + one_if (word_bit j word))
-wide_added lanes new word carry j k is low high reached = record {
-  sixteens = reached.sixteens + one_if (word_bit j carry);
-  high = high reached.sixteens reached.high;
-  low = omega (arith, reached.low, low, ap (λ (w : ℕ). one_if (word_bit j w)) is);
-}

@@ -12,16 +12,15 @@ use Rattle.table_cover.proofs.WordLaws.{word_bit_ones}
 use Rattle.partitioner.specs.declared.counts.partitioning.Partitioning.{Partitioning}
 use Rattle.partitioner.specs.declared.costs.gains.Gains.{Gains}
 use Rattle.partitioner.specs.declared.costs.lanes.Lanes.{Lanes}
-use Rattle.partitioner.specs.declared.costs.lanes.WideLanes.{WideLanes}
 use Rattle.partitioner.specs.declared.refinement.placing.Lead.{Lead}
 use Rattle.partitioner.specs.Below.{one_if}
 use Rattle.node_reads.specs.Sources.{is_wide, other_sources}
 use Rattle.partitioner.specs.Private.Gaining.{IsCounted, is_near, near_in}
-use Rattle.partitioner.specs.Private.Lanes.{Reaches, ReachesWide, lane_value}
+use Rattle.partitioner.specs.Private.Lanes.{Reaches, lane_value}
 use Rattle.partitioner.specs.Private.Leading.{IsLead, Leads, LeadsOpen, start_of}
 use Rattle.partitioner.specs.Private.Loss.{is_fresh, is_kept, is_wanted, loss}
 use Rattle.partitioner.specs.Private.Marks.{word_at}
-use Rattle.partitioner.specs.Private.Scanning.{AreCounted, IsNeeded, IsOver, near_first}
+use Rattle.partitioner.specs.Private.Scanning.{AreCounted, IsNeeded, near_first}
 use Rattle.partitioner.specs.Private.Tracking.{IsBeside, Tracks}
 use Rattle.partitioner.proofs.BelowLaws.{one_if_le, one_of_two}
 use Rattle.partitioner.proofs.GainLaws.{count_both}
@@ -70,32 +69,22 @@ reaches_less : (lanes : Lanes) (c j k : ℕ) → j ≤ k → Reaches lanes c k �
 reaches_less lanes c j k l (inl e) = inl e
 reaches_less lanes c j k l (inr h) = inr (omega (arith, h, l))
 
-wide_less : (lanes : WideLanes) (c j k : ℕ) → j ≤ k → ReachesWide lanes c k → ReachesWide lanes c j
-wide_less lanes c j k l is = record { sixteens = is.sixteens; high = is.high; low = omega (arith, l, is.low) }
-
 -- the lanes, and what the gains count
-pub record BlockCounted (n : Net) (p : Partitioning) (i : ℕ) (gains : Gains) (w bias : ℕ) (reaches : ℕ → ℕ → Type 0) (j : ℕ) : Type 0 where
+pub record BlockCounted (n : Net) (p : Partitioning) (i : ℕ) (gains : Gains) (w bias : ℕ) (lanes : Lanes) (j : ℕ) : Type 0 where
   pub from : gains.counted ≤ j
   pub past : (q : ℕ) → near_in gains q ≤ near_first n p i q j
-  pub reached : AreCounted n p i gains w bias reaches j
+  pub reached : AreCounted n p i gains w bias lanes j
 
-pub block_first : (n : Net) (p : Partitioning) (i : ℕ) (gains : Gains) (w bias : ℕ) (lanes : Lanes) → IsCounted n p i gains → ((c : ℕ) → c < 64 → lane_value lanes c ≡ bias) → BlockCounted n p i gains w bias (Reaches lanes) gains.counted
+pub block_first : (n : Net) (p : Partitioning) (i : ℕ) (gains : Gains) (w bias : ℕ) (lanes : Lanes) → IsCounted n p i gains → ((c : ℕ) → c < 64 → lane_value lanes c ≡ bias) → BlockCounted n p i gains w bias lanes gains.counted
 block_first n p i gains w bias lanes is value = record {
   from = omega arith;
   past = λ q. omega (arith, is.gained.near q);
   reached = λ c l within. inr (omega (arith, is.gained.near (w * 64 + c), value c l));
 }
 
-pub wide_first : (n : Net) (p : Partitioning) (i : ℕ) (gains : Gains) (w bias : ℕ) (lanes : WideLanes) → IsCounted n p i gains → ((c : ℕ) → c < 64 → lane_value lanes.low c + 16 * lane_value lanes.high c ≡ bias) → BlockCounted n p i gains w bias (ReachesWide lanes) gains.counted
-wide_first n p i gains w bias lanes is value = record {
-  from = omega arith;
-  past = λ q. omega (arith, is.gained.near q);
-  reached = λ c l within. record { sixteens = lane_value lanes.high c; high = inr (omega arith); low = omega (arith, is.gained.near (w * 64 + c), value c l) };
-}
-
-block_step : (n : Net) (p : Partitioning) (i : ℕ) (gains : Gains) (w bias : ℕ) (old new : ℕ → ℕ → Type 0) (row : List ℕ) (j : ℕ) → ((c a b : ℕ) → a ≤ b → new c b → new c a) → Tracks n p → row ≡ get_or p.sources i [] → j < length row → get_or row j 0 < length n.nodes
-    → ((c k : ℕ) → old c k → new c (k + one_if (word_bit c (word_at p.marks (get_or row j 0) w)))) → BlockCounted n p i gains w bias old j → BlockCounted n p i gains w bias new (j + 1)
-block_step n p i gains w bias old new row j less tracks at l below added before = record {
+pub block_more : (n : Net) (p : Partitioning) (i : ℕ) (gains : Gains) (w bias : ℕ) (old new : Lanes) (row : List ℕ) (j : ℕ) → Tracks n p → row ≡ get_or p.sources i [] → j < length row → get_or row j 0 < length n.nodes
+    → ((c k : ℕ) → Reaches old c k → Reaches new c (k + one_if (word_bit c (word_at p.marks (get_or row j 0) w)))) → BlockCounted n p i gains w bias old j → BlockCounted n p i gains w bias new (j + 1)
+block_more n p i gains w bias old new row j tracks at l below added before = record {
   from = omega (arith, before.from);
   past = λ q. omega (arith, before.past q, more q);
   reached = λ c m within. reached c m within;
@@ -111,47 +100,21 @@ block_step n p i gains w bias old new row j less tracks at l below added before 
         let was = ap (λ (xs : List ℕ). count_by (is_near n p.of.items i q) (take j xs)) at in
         omega (arith, step, now, was)
 
-    reached : (c : ℕ) → c < 64 → w * 64 + c < p.count → new c (bias + (near_first n p i (w * 64 + c) (j + 1) - near_in gains (w * 64 + c)))
+    reached : (c : ℕ) → c < 64 → w * 64 + c < p.count → Reaches new c (bias + (near_first n p i (w * 64 + c) (j + 1) - near_in gains (w * 64 + c)))
     reached c m within =
         let near : one_if (is_near n p.of.items i (w * 64 + c) x) ≤ one_if (word_bit c (word_at p.marks x w)) = one_if_true (is_near n p.of.items i (w * 64 + c) x) (word_bit c (word_at p.marks x w)) (near_marked n p i w c x tracks below m within) in
-        less c (bias + (near_first n p i (w * 64 + c) (j + 1) - near_in gains (w * 64 + c))) ((bias + (near_first n p i (w * 64 + c) j - near_in gains (w * 64 + c))) + one_if (word_bit c (word_at p.marks x w)))
+        reaches_less new c (bias + (near_first n p i (w * 64 + c) (j + 1) - near_in gains (w * 64 + c))) ((bias + (near_first n p i (w * 64 + c) j - near_in gains (w * 64 + c))) + one_if (word_bit c (word_at p.marks x w)))
         (omega (arith, near, more (w * 64 + c), before.past (w * 64 + c)))
         (added c (bias + (near_first n p i (w * 64 + c) j - near_in gains (w * 64 + c))) (before.reached c m within))
-
-pub block_more : (n : Net) (p : Partitioning) (i : ℕ) (gains : Gains) (w bias : ℕ) (old new : Lanes) (row : List ℕ) (j : ℕ) → Tracks n p → row ≡ get_or p.sources i [] → j < length row → get_or row j 0 < length n.nodes
-    → ((c k : ℕ) → Reaches old c k → Reaches new c (k + one_if (word_bit c (word_at p.marks (get_or row j 0) w)))) → BlockCounted n p i gains w bias (Reaches old) j → BlockCounted n p i gains w bias (Reaches new) (j + 1)
-block_more n p i gains w bias old new row j = block_step n p i gains w bias (Reaches old) (Reaches new) row j (reaches_less new)
-
-pub wide_more : (n : Net) (p : Partitioning) (i : ℕ) (gains : Gains) (w bias : ℕ) (old new : WideLanes) (row : List ℕ) (j : ℕ) → Tracks n p → row ≡ get_or p.sources i [] → j < length row → get_or row j 0 < length n.nodes
-    → ((c k : ℕ) → ReachesWide old c k → ReachesWide new c (k + one_if (word_bit c (word_at p.marks (get_or row j 0) w)))) → BlockCounted n p i gains w bias (ReachesWide old) j → BlockCounted n p i gains w bias (ReachesWide new) (j + 1)
-wide_more n p i gains w bias old new row j = block_step n p i gains w bias (ReachesWide old) (ReachesWide new) row j (wide_less new)
 
 lane_few : (lanes : Lanes) (c : ℕ) → lane_value lanes c ≤ 15
 lane_few lanes c = omega (arith, one_if_le (word_bit c lanes.ones), one_if_le (word_bit c lanes.twos), one_if_le (word_bit c lanes.fours), one_if_le (word_bit c lanes.eights))
 
--- a number that did not run over is below what the lanes can tell
-pub block_over : (n : Net) (p : Partitioning) (i : ℕ) (gains : Gains) (w bias : ℕ) (lanes : Lanes) (j : ℕ) → BlockCounted n p i gains w bias (Reaches lanes) j → AreCounted n p i gains w bias (IsOver lanes.over 16) j
-block_over n p i gains w bias lanes j is = λ c l within. at c (is.reached c l within)
-  where
-    at : (c : ℕ) → Reaches lanes c (bias + (near_first n p i (w * 64 + c) j - near_in gains (w * 64 + c))) → IsOver lanes.over 16 c (bias + (near_first n p i (w * 64 + c) j - near_in gains (w * 64 + c)))
-    at c (inl e) = inl e
-    at c (inr l) = inr (omega (arith, l, lane_few lanes c))
-
-pub wide_over : (n : Net) (p : Partitioning) (i : ℕ) (gains : Gains) (w bias : ℕ) (lanes : WideLanes) (j : ℕ) → BlockCounted n p i gains w bias (ReachesWide lanes) j → AreCounted n p i gains w bias (IsOver lanes.high.over 256) j
-wide_over n p i gains w bias lanes j is = λ c l within. at c (is.reached c l within)
-  where
-    at : (c : ℕ) → ReachesWide lanes c (bias + (near_first n p i (w * 64 + c) j - near_in gains (w * 64 + c))) → IsOver lanes.high.over 256 c (bias + (near_first n p i (w * 64 + c) j - near_in gains (w * 64 + c)))
-    at c reached = by reached.high
-      where
-        by : Reaches lanes.high c reached.sixteens → IsOver lanes.high.over 256 c (bias + (near_first n p i (w * 64 + c) j - near_in gains (w * 64 + c)))
-        by (inl e) = inl e
-        by (inr l) = inr (omega (arith, l, reached.low, lane_few lanes.low c, lane_few lanes.high c))
-
 -- a partition in which too few are near does not take the lead
-pub shut_leads : (n : Net) (p : Partitioning) (i : ℕ) (gains : Gains) (w need bias bound over : ℕ) (lead : Lead) (row : List ℕ) → IsCounted n p i gains → row ≡ get_or p.sources i [] → lead.loss ≡ loss n p.of.items i lead.place
-    → IsNeeded (length row) (start_of p i) (w * 64) gains.most lead need → 0 < need → bound ≤ bias + need → AreCounted n p i gains w bias (IsOver over bound) (length row)
-    → (c : ℕ) → c < 64 → w * 64 + c < p.count → word_bit c over ≡ false → Leads n p i lead.place (w * 64 + c)
-shut_leads n p i gains w need bias bound over lead row is at value needed some enough counted c m within shut = by (counted c m within)
+pub shut_leads : (n : Net) (p : Partitioning) (i : ℕ) (gains : Gains) (w need bias : ℕ) (lead : Lead) (lanes : Lanes) (row : List ℕ) → IsCounted n p i gains → row ≡ get_or p.sources i [] → lead.loss ≡ loss n p.of.items i lead.place
+    → IsNeeded (length row) (start_of p i) (w * 64) gains.most lead need → 0 < need → 16 ≤ bias + need → AreCounted n p i gains w bias lanes (length row)
+    → (c : ℕ) → c < 64 → w * 64 + c < p.count → word_bit c lanes.over ≡ false → Leads n p i lead.place (w * 64 + c)
+shut_leads n p i gains w need bias lead lanes row is at value needed some enough counted c m within shut = by (counted c m within)
   where
     q : ℕ
     q = w * 64 + c
@@ -169,12 +132,12 @@ shut_leads n p i gains w need bias bound over lead row is at value needed some e
     ends l (inl e) (inr h) = inr (omega (arith, l, value, h), inl e)
     ends l (inr e) (inr h) = inr (omega (arith, l, value, h), inr (omega (arith, e)))
 
-    by : IsOver over bound c (bias + (near_first n p i q (length row) - near_in gains q)) → Leads n p i lead.place q
+    by : Reaches lanes c (bias + (near_first n p i q (length row) - near_in gains q)) → Leads n p i lead.place q
     by (inl e) = absurd (true≢false (sym e ∙ shut))
     by (inr l) = go (needed some)
       where
         few : near_first n p i q (length row) + 1 ≤ gains.most + need
-        few = omega (arith, l, is.gained.most.above q, enough, some)
+        few = omega (arith, l, lane_few lanes c, is.gained.most.above q, enough, some)
 
         go : (need + (lead.loss + gains.most) ≤ length row + 1) ⊎ ((need + (lead.loss + gains.most) ≤ length row + 2) × ((lead.place ≡ start_of p i) ⊎ (lead.place ≤ w * 64))) → Leads n p i lead.place q
         go (inl h) = inl (omega (arith, h, few, all, value))

@@ -1,8 +1,7 @@
 -- Counts for 64 partitions at once, in the bits of words.
-use Rattle.std.specs.Prelude.{◌≡◌, ℕ, ◌≤◌, ◌+◌, ◌*◌, true, ◌⊎◌, bit_and}
+use Rattle.std.specs.Prelude.{◌≡◌, ℕ, ◌≤◌, ◌+◌, ◌*◌, true, ◌⊎◌}
 use Rattle.table_cover.specs.Words.{word_bit}
 use Rattle.partitioner.specs.declared.costs.lanes.Lanes.{Lanes}
-use Rattle.partitioner.specs.declared.costs.lanes.WideLanes.{WideLanes}
 use Rattle.partitioner.specs.Below.{one_if}
 
 -- the number in bit j of the four words
@@ -12,13 +11,3 @@ lane_value lanes j = one_if (word_bit j lanes.ones) + 2 * one_if (word_bit j lan
 -- the number in bit j is no less than k, or it ran over
 abbrev pub Reaches : Lanes → ℕ → ℕ → Type 0
 Reaches lanes j k = (word_bit j lanes.over ≡ true) ⊎ (k ≤ lane_value lanes j)
-
--- what adding a word carries out of the four words
-abbrev pub carry_of : Lanes → ℕ → ℕ
-carry_of lanes word = bit_and lanes.eights (bit_and lanes.fours (bit_and lanes.twos (bit_and lanes.ones word)))
-
--- the number in bit j, of eight digits, is no less than k, or it ran over
-pub record ReachesWide (lanes : WideLanes) (j k : ℕ) : Type 0 where
-  pub sixteens : ℕ
-  pub high : Reaches lanes.high j sixteens
-  pub low : k ≤ lane_value lanes.low j + 16 * sixteens

@@ -1,8 +1,8 @@
 //! Counts for 64 partitions at once, in the bits of words.
-ghost use Rattle.std.specs.Prelude.{◌≡◌, ◌<◌, ◌≤◌, ◌+◌, ◌*◌, ℕ};
+ghost use Rattle.std.specs.Prelude.{◌≡◌, ◌<◌, ◌≤◌, ◌+◌, ℕ};
 ghost use Rattle.table_cover.specs.Words.{word_bit};
 ghost use Rattle.partitioner.specs.Below.{one_if};
-ghost use Rattle.partitioner.specs.Private.Lanes.{Reaches, ReachesWide, carry_of, lane_value};
+ghost use Rattle.partitioner.specs.Private.Lanes.{Reaches, lane_value};
 
 /// For each of 64 partitions a number below 16, whose binary digits stand in the same bit of four words. Where it ran over, the bit of
 /// `over` is set.
@@ -38,8 +38,7 @@ pub fn all_lanes(value: u64) -> Lanes
 
 /// One more for each partition whose bit is set in a word.
 pub fn add(lanes: Lanes, word: u64) -> Lanes
-    ensures reaches { (j k : ℕ) → Reaches lanes j k → Reaches result j (k + one_if (word_bit j word)) }
-    ensures exact { (j : ℕ) → lane_value result j + 16 * one_if (word_bit j (carry_of lanes word)) ≡ lane_value lanes j + one_if (word_bit j word) }
+    ensures { (j k : ℕ) → Reaches lanes j k → Reaches result j (k + one_if (word_bit j word)) }
 {
     let to_twos = lanes.ones & word;
     let to_fours = lanes.twos & to_twos;
@@ -50,42 +49,5 @@ pub fn add(lanes: Lanes, word: u64) -> Lanes
         fours: lanes.fours ^ to_fours,
         eights: lanes.eights ^ to_eights,
         over: lanes.over | (lanes.eights & to_eights),
-    }
-}
-
-/// For each of 64 partitions a number below 256: sixteen times that of `high`, and that of `low`. Where it ran over, the bit of
-/// `high.over` is set; that of `low.over` tells nothing.
-#[derive(Clone, Copy, Drop)]
-pub struct WideLanes {
-    pub low: Lanes,
-    pub high: Lanes,
-}
-
-/// The same number for all partitions.
-pub fn all_wide_lanes(value: u64) -> WideLanes
-    requires { value < 256 }
-    ensures { (j : ℕ) → j < 64 → lane_value result.low j + 16 * lane_value result.high j ≡ value }
-{
-    WideLanes {
-        low: all_lanes(value % 16),
-        high: all_lanes(value / 16),
-    }
-}
-
-/// What adding a word to these lanes carries out of them.
-fn carried(lanes: Lanes, word: u64) -> u64
-    ensures { result ≡ carry_of lanes word }
-{
-    lanes.eights & (lanes.fours & (lanes.twos & (lanes.ones & word)))
-}
-
-/// One more for each partition whose bit is set in a word.
-pub fn add_wide(lanes: WideLanes, word: u64) -> WideLanes
-    ensures { (j k : ℕ) → ReachesWide lanes j k → ReachesWide result j (k + one_if (word_bit j word)) }
-{
-    let carry = carried(lanes.low, word);
-    WideLanes {
-        low: add(lanes.low, word),
-        high: add(lanes.high, carry),
     }
 }

@@ -5,23 +5,23 @@ ghost use Rattle.partitioner.specs.Private.Tracking.{Tracks};
 ghost use Rattle.partitioner.specs.Private.Gaining.{IsCounted};
 ghost use Rattle.partitioner.specs.Private.Loss.{loss};
 ghost use Rattle.partitioner.specs.Private.Leading.{IsLead, Leads, LeadsOpen, start_of};
-ghost use Rattle.partitioner.specs.Private.Scanning.{AreCounted, IsNeeded, IsOver};
+ghost use Rattle.partitioner.specs.Private.Scanning.{AreCounted, IsNeeded};
 
 use crate::costs::gains::Gains;
-use crate::costs::lanes::{add, add_wide, all_lanes, all_wide_lanes};
+use crate::costs::lanes::{Lanes, add, all_lanes};
 use crate::counts::partitioning::Partitioning;
 use crate::refinement::placing::{Lead, Mover, consider, part_of};
 use flat_net::{FlatNet, nodes_of};
 
 /// To count all partitions, 64 at once, takes less time for node i than to try them one by one: what is not counted yet are two nodes or
-/// more, and all of them have rows of marks.
+/// more, at most 32, and all of them have rows of marks.
 pub fn is_scanned(n: &FlatNet, p: &Partitioning, gains: &Gains, i: u32) -> bool
     requires { IsCounted n.now.net p.now i gains.now }
 {
     let _nodes = nodes_of(n);
     let row = p.sources.row(i);
     let from = gains.counted as usize;
-    if row.len() < from + 2 {
+    if row.len() < from + 2 || row.len() > from + 32 {
         return false;
     }
     for j in from..row.len() {
@@ -32,11 +32,11 @@ pub fn is_scanned(n: &FlatNet, p: &Partitioning, gains: &Gains, i: u32) -> bool
     true
 }
 
-/// In which partitions of block w `bias`, and how many of the nodes that node i reads and that are not counted yet are near, is 16 or more.
-fn counted_block(n: &FlatNet, p: &Partitioning, gains: &Gains, i: u32, w: usize, bias: u64) -> u64
+/// `bias`, and how many of the nodes that node i reads and that are not counted yet are near, in each partition of block w.
+fn counted_block(n: &FlatNet, p: &Partitioning, gains: &Gains, i: u32, w: usize, bias: u64) -> Lanes
     requires counted { IsCounted n.now.net p.now i gains.now }
     requires bias { bias < 16 }
-    ensures { AreCounted n.now.net p.now i gains.now w bias (IsOver result 16) (length (slice_index_or p.now.sources i [])) }
+    ensures { AreCounted n.now.net p.now i gains.now w bias result (length (slice_index_or p.now.sources i [])) }
 {
     let _nodes = nodes_of(n);
     let row = p.sources.row(i);
@@ -44,22 +44,7 @@ fn counted_block(n: &FlatNet, p: &Partitioning, gains: &Gains, i: u32, w: usize,
     for j in gains.counted as usize..row.len() {
         lanes = add(lanes, p.marks.word(row[j], w));
     }
-    lanes.over
-}
-
-/// The same, where it is 256 or more.
-fn counted_widely(n: &FlatNet, p: &Partitioning, gains: &Gains, i: u32, w: usize, bias: u64) -> u64
-    requires counted { IsCounted n.now.net p.now i gains.now }
-    requires bias { bias < 256 }
-    ensures { AreCounted n.now.net p.now i gains.now w bias (IsOver result 256) (length (slice_index_or p.now.sources i [])) }
-{
-    let _nodes = nodes_of(n);
-    let row = p.sources.row(i);
-    let mut lanes = all_wide_lanes(bias);
-    for j in gains.counted as usize..row.len() {
-        lanes = add_wide(lanes, p.marks.word(row[j], w));
-    }
-    lanes.high.over
+    lanes
 }
 
 /// How many of the nodes that are not counted yet are near, at least, in a partition of block w that takes the lead. 0 tells nothing.
@@ -88,11 +73,9 @@ fn candidates(n: &FlatNet, p: &Partitioning, gains: &Gains, i: u32, lead: Lead, 
     if need == 0 {
         return u64::MAX;
     }
-    if need <= 16 {
-        return counted_block(n, p, gains, i, w as usize, 16 - need);
-    }
-    let bias = 256 - need.min(256);
-    counted_widely(n, p, gains, i, w as usize, bias)
+    let bias = 16 - need.min(16);
+    let lanes = counted_block(n, p, gains, i, w as usize, bias);
+    lanes.over
 }
 
 /// Bit c of a word is set.

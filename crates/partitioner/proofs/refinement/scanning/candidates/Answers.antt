@@ -7,12 +7,7 @@ use Rattle.partitioner.proofs.refinement.scanning.candidates.Goals as goal
 pub returns-then-need-eq0 : goal.returns-then-need-eq0
 returns-then-need-eq0 c = λ j l within shut. absurd (true≢false (sym (word_bit_ones j l) ∙ shut))
 
-pub returns-then-need-le16 : goal.returns-then-need-le16
-returns-then-need-le16 c = λ j l within shut.
-    shut_leads c.args.n.now.net c.args.p.now c.args.i c.args.gains.now c.args.w c.needed-need.result _ 16 c.counted_block.result c.args.lead (get_or c.args.p.now.sources c.args.i []) c.requires.counted refl c.requires.lead
-    c.needed-need.ensures (omega arith) (omega arith) c.counted_block.ensures j l within shut
-
 pub returns : goal.returns
 returns c = λ j l within shut.
-    shut_leads c.args.n.now.net c.args.p.now c.args.i c.args.gains.now c.args.w c.needed-need.result _ 256 c.counted_widely.result c.args.lead (get_or c.args.p.now.sources c.args.i []) c.requires.counted refl c.requires.lead
-    c.needed-need.ensures (omega arith) (omega arith) c.counted_widely.ensures j l within shut
+    shut_leads c.args.n.now.net c.args.p.now c.args.i c.args.gains.now c.args.w c.needed-need.result _ c.args.lead c.counted_block-lanes.result (get_or c.args.p.now.sources c.args.i []) c.requires.counted refl c.requires.lead
+    c.needed-need.ensures (omega arith) (omega arith) c.counted_block-lanes.ensures j l within shut

@@ -1,11 +1,10 @@
-use Rattle.std.proofs.Common.{◌≡◌, ◌<◌, ◌+◌, ℕ, List, [], length, get_or, ap, sym, subst, arith, IsPermutation}
+use Rattle.std.proofs.Common.{◌<◌, ◌+◌, ℕ, List, get_or, sym, subst, IsPermutation}
 use Rattle.table_cover.specs.Words.{word_bit}
 use Rattle.node_reads.specs.Sources.{other_sources}
 use Rattle.partitioner.specs.Below.{one_if}
 use Rattle.partitioner.specs.Private.Lanes.{Reaches}
-use Rattle.partitioner.specs.Private.Scanning.{AreCounted, IsOver}
 use Rattle.partitioner.proofs.LossLaws.{sources_below}
-use Rattle.partitioner.proofs.ScanLaws.{block_first, block_more, block_over}
+use Rattle.partitioner.proofs.ScanLaws.{block_more}
 use Rattle.partitioner.proofs.refinement.scanning.counted_block.Goals as goal
 
 pub word-requires : goal.word-requires
@@ -19,15 +18,5 @@ loop-j-preserved c =
     let perm : IsPermutation (other_sources c.args.n.now.net c.args.i) c.row-row.result.now = subst (λ (row : List ℕ). IsPermutation (other_sources c.args.n.now.net c.args.i) row) (sym c.row-row.ensures) (c.requires.counted.tracks.sources c.args.i c.requires.counted.node) in
     block_more c.args.n.now.net c.args.p.now c.args.i c.args.gains.now c.args.w c.args.bias c.loop-j.lanes c.add-lanes.result c.row-row.result.now c.loop-j.j c.requires.counted.tracks c.row-row.ensures c.loop-j-test.true
     (sources_below c.args.n.now.net c.args.i c.row-row.result.now perm c.loop-j.j 0 c.loop-j-test.true)
-    (λ j k reached. subst (λ (word : ℕ). Reaches c.add-lanes.result j (k + one_if (word_bit j word))) c.word.ensures (c.add-lanes.ensures.reaches j k reached))
+    (λ j k reached. subst (λ (word : ℕ). Reaches c.add-lanes.result j (k + one_if (word_bit j word))) c.word.ensures (c.add-lanes.ensures j k reached))
     c.loop-j.invariant
-
-pub loop-j-init : goal.loop-j-init
-loop-j-init c =
-    block_first c.args.n.now.net c.args.p.now c.args.i c.args.gains.now c.args.w c.args.bias c.all_lanes-lanes.result c.requires.counted c.all_lanes-lanes.ensures
-
-pub returns : goal.returns
-returns c =
-    let ended : c.loop-j.j ≡ length (get_or c.args.p.now.sources c.args.i []) = omega (arith, c.loop-j.auto.j, c.loop-j.auto.j-end, c.loop-j-test.false, ap length c.row-row.ensures, c.requires.counted.gained.within) in
-    subst (λ (k : ℕ). AreCounted c.args.n.now.net c.args.p.now c.args.i c.args.gains.now c.args.w c.args.bias (IsOver c.loop-j.lanes.over 16) k) ended
-    (block_over c.args.n.now.net c.args.p.now c.args.i c.args.gains.now c.args.w c.args.bias c.loop-j.lanes c.loop-j.j c.loop-j.invariant)

@@ -1,6 +1,0 @@
-use Rattle.partitioner.specs.Private.Lanes.{ReachesWide}
-use Rattle.partitioner.proofs.ScanLaws.{BlockCounted}
-use Rattle.partitioner.proofs.refinement.scanning.counted_widely.Given as goal
-
-abbrev pub invariant-loop-j : goal.invariant-loop-j
-invariant-loop-j l = BlockCounted l.n.net l.p l.i l.gains l.w l.bias (ReachesWide l.lanes) l.j
