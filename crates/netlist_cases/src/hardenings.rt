@@ -1,6 +1,7 @@
 //! Hardened pairs, by calls that no run of the program makes.
 
 ghost use Rattle.std.specs.Prelude.{◌≡◌, ◌+◌, ◌≤◌, ◌⊎◌, true, IfOk};
+ghost use Rattle.limits.specs.Most.{widest_nets};
 ghost use Rattle.flat_net.specs.Net.{net_count, pin_total};
 ghost use Rattle.certificate.specs.Cert.{Fits};
 
@@ -18,11 +19,11 @@ use triplicate::HardenedFree;
 
 /// Nets and pins are few enough to be hardened.
 fn is_small(n: &FreeNet) -> bool
-    ensures { result ≡ true → net_count n.now.design.net + pin_total n.now.design.net ≤ 16777216 }
+    ensures { result ≡ true → net_count n.now.design.net + pin_total n.now.design.net ≤ widest_nets }
 {
     let net = n.net();
     let nets = u64::from(net.input_count()) + u64::from(net.node_count());
-    nets + u64::from(net.pin_total()) <= 16_777_216
+    nets + u64::from(net.pin_total()) <= 268_435_456
 }
 
 /// The pair in version 2, without a bound.
