@@ -23,7 +23,7 @@ fn is_small(n: &FreeNet) -> bool
 {
     let net = n.net();
     let nets = u64::from(net.input_count()) + u64::from(net.node_count());
-    nets + u64::from(net.pin_total()) <= 16_777_216
+    nets + u64::from(net.pin_total()) <= 268_435_456
 }
 
 /// The pair in version 2, without a bound.
