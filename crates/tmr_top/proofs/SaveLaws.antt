@@ -14,7 +14,7 @@ use Rattle.tmr_top.specs.Saves.{with_texts}
 use Rattle.tmr_top.specs.declared.decision.Save.{Save}
 use Rattle.tmr_top.specs.Private.Works.{save_names, save_texts}
 use Rattle.tmr_top.specs.Private.Saved.{after_saves, Saves, StopsAt, IsSaveStop}
-use Rattle.tmr_top.proofs.ChangeLaws.{none_rose, save_change, held_elsewhere, rose_since, save_failed_since, none_since, told_as_before, changes_then, changes_more, none_at, held_told}
+use Rattle.tmr_top.proofs.ChangeLaws.{none_rose, save_change, held_elsewhere, rose_since, save_failed_since, none_since, changes_then, changes_more, none_at, held_told}
 
 -- ---- one save
 
