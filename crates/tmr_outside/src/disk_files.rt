@@ -4,12 +4,13 @@ ghost use Rattle.tmr_outside.specs.Pieces.{TakesFile};
 
 use crate::fault_count::FaultCount;
 use crate::gathered::Gathered;
+use crate::gathering::gather;
 use crate::progress::Progress;
 use crate::reading::hand_out_within;
 use crate::saving::save_file;
 use crate::source::{Counted, load_fault};
 use crate::watched::Watched;
-use crate::{Files, LoadFault, SaveFault, Taker};
+use crate::{Files, Giver, LoadFault, SaveFault, Taker};
 use std::alloc::Global;
 use std::fs::OpenFile;
 use std::io::Read;
@@ -171,6 +172,15 @@ impl<R: rt::Files + Clock + Eprint> Files for DiskFiles<'_, R> {
 
     fn save(&mut self, name: &str, bytes: &[u8]) -> Result<(), SaveFault> {
         let outcome = save_file(self.rt, self.alloc, name, bytes);
+        self.faults.raise_if(outcome.is_err());
+        outcome
+    }
+
+    fn save_pieces<G: Giver>(&mut self, name: &str, from: &mut G) -> Result<(), SaveFault> {
+        let outcome = match gather(self.alloc, from) {
+            Ok(bytes) => save_file(self.rt, self.alloc, name, bytes.as_slice()),
+            Err(_) => Err(SaveFault::Memory),
+        };
         self.faults.raise_if(outcome.is_err());
         outcome
     }
