@@ -30,6 +30,9 @@ mod standard_sink;
 mod stored_files;
 mod taker;
 mod watched;
+mod watched_writer;
+mod whole;
+mod writing;
 
 pub use disk_files::DiskFiles;
 pub use faults::{LoadFault, PutFault, SaveFault};
