@@ -23,3 +23,4 @@ pub mod Same
 pub mod Growth
 pub mod Unmarked
 pub mod Domains
+pub mod Carries
