@@ -24,3 +24,4 @@ pub mod Growth
 pub mod Unmarked
 pub mod Domains
 pub mod Carries
+pub mod PieceLines
