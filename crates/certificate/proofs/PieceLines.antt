@@ -24,12 +24,22 @@ use Rattle.certificate.proofs.Carries.{fails_so}
 next_at : (i : ℕ) (line rest : List ℕ) → IsOneLine line → next_line (record { line = i; bytes = line ++ 10 ∷ rest }) ≡ Ok (line, record { line = i + 1; bytes = rest })
 next_at i line rest one = ap (λ (b : List ℕ). next_line (record { line = i; bytes = b })) (sym (append_assoc line (10 ∷ []) rest)) ∙ next_again i line rest one
 
-module _ (n h : Net) (old : Progress) (number : ℕ) (part : List ℕ) (one : IsOneLine part) where
-  pub line_passes : (new : Progress) → Passes (carry n h old) (carry n h new) part number → (more : List ℕ) → carry n h old (record { line = number; bytes = part ++ 10 ∷ more }) ≡ carry n h new (record { line = number + 1; bytes = more })
-  line_passes new passes more = passes _ _ (next_at number part more one) refl
+module _ (n h : Net) (old : Progress) (number : ℕ) (part text : List ℕ) (one : IsOneLine part) (is : text ≡ part) where
+  next_there : (more : List ℕ) → next_line (record { line = number; bytes = part ++ 10 ∷ more }) ≡ Ok (text, record { line = number + 1; bytes = more })
+  next_there more = next_at number part more one ∙ ap (λ (t : List ℕ). Ok (t, record { line = number + 1; bytes = more })) (sym is)
 
-  pub line_refuses : (f : CertFault) → Refuses (carry n h old) f part number → (more : List ℕ) → Fails f (carry n h old (record { line = number; bytes = part ++ 10 ∷ more }))
-  line_refuses f refuses more = refuses _ _ (next_at number part more one) refl
+  pub line_passes : (new : Progress) (left : List ℕ) → left ≡ [] → Passes (carry n h old) (carry n h new) text number → (more : List ℕ)
+      → carry n h old (record { line = number; bytes = part ++ 10 ∷ more }) ≡ carry n h new (record { line = number + 1; bytes = left ++ more })
+  line_passes new left none passes more =
+      passes (record { line = number; bytes = part ++ 10 ∷ more }) (record { line = number + 1; bytes = more }) (next_there more) refl
+      ∙ ap (λ (xs : List ℕ). carry n h new (record { line = number + 1; bytes = xs ++ more })) (sym none)
+
+  pub line_refuses : (f : CertFault) → Refuses (carry n h old) f text number → (more : List ℕ) → Fails f (carry n h old (record { line = number; bytes = part ++ 10 ∷ more }))
+  line_refuses f refuses more = refuses (record { line = number; bytes = part ++ 10 ∷ more }) (record { line = number + 1; bytes = more }) (next_there more) refl
+
+-- where no part of a line is in hand
+pub nothing_in_hand : (n h : Net) (old : Progress) (number : ℕ) (part bytes : List ℕ) → part ≡ [] → carry n h old (record { line = number; bytes = part ++ bytes }) ≡ carry n h old (record { line = number; bytes = bytes })
+nothing_in_hand n h old number part bytes none = ap (λ (xs : List ℕ). carry n h old (record { line = number; bytes = xs ++ bytes })) none
 
 -- ---- the line feed of a piece
 

@@ -37,13 +37,8 @@ pub record IsReady (h : Net) (line : LineInHand) (progress : Progress) : Type 0 
   pub one_line : IsOneLine line.part.items
   pub roles : length progress.nodes.roles.items ≡ length h.nodes
 
--- some bytes were given
-pub record WasGiven (r : ReaderState) : Type 0 where
-  pub given : List ℕ
-  pub read : HasRead r.original r.hardened r.refused r.line r.progress given
-
--- what every reader keeps
+-- what every reader keeps; and there are bytes that it was given
 pub record KeepsOn (r : ReaderState) : Type 0 where
   pub lines : r.line.number + r.room ≤ most_bytes + 1
   pub ready : r.refused ≡ None → IsReady r.hardened r.line r.progress
-  pub was_given : WasGiven r
+  pub was_given : (given : List ℕ) × HasRead r.original r.hardened r.refused r.line r.progress given

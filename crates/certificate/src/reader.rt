@@ -1,11 +1,12 @@
 //! A reader that is given a certificate's text in pieces.
 ghost use Rattle.std.specs.Prelude.{◌≡◌, ◌≤◌, ◌+◌, ◌++◌, [], List, ℕ, None, Ok, length, replicate, IfOk, IfSome};
 ghost use Rattle.flat_net.specs.Net.{IsDesign};
+ghost use Rattle.text_lines.specs.Pending.{IsOneLine};
 ghost use Rattle.certificate.specs.Cert.{PlainCert, IsCert, Fits};
 ghost use Rattle.certificate.specs.Carrying.{made};
 ghost use Rattle.certificate.specs.Gives.{Gives};
 ghost use Rattle.certificate.specs.Lines.{Rest};
-ghost use Rattle.certificate.specs.Reader.{HasRead, IsReady, WasGiven, StandsFor, most_bytes};
+ghost use Rattle.certificate.specs.Reader.{HasRead, IsReady, StandsFor, most_bytes};
 ghost use Rattle.certificate.specs.Reading.{cert_of_text};
 ghost use Rattle.certificate.specs.Tables.{nodes_read};
 ghost use Rattle.certificate.specs.Text.{cert_text};
@@ -162,28 +163,24 @@ fn certificate_of(
     Certificate::of_version(version, draft)
 }
 
-/// Ends the text, unless a fault was met before.
-fn ended(
+/// Ends a text without a fault so far: all its lines must have been read, and nothing behind them.
+fn end_unrefused(
     n: &FlatNet,
     h: &FlatNet,
     line: LineInHand,
     progress: Progress,
-    refused: Option<CertFault>,
 ) -> Result<Certificate, CertFault>
-    requires ready { refused ≡ None → IsReady h.now.net line progress }
-    requires given { WasGiven (record { original = n.now.net; hardened = h.now.net; room = 0; line = line; progress = progress; refused = refused }) }
-    ensures exact { (given : List ℕ) → HasRead n.now.net h.now.net refused line progress given → Gives (λ k. k) result (cert_of_text n.now.net h.now.net given) }
-    ensures original { IsDesign n.now }
-    ensures hardened { IsDesign h.now }
+    requires original { IsDesign n.now }
+    requires hardened { IsDesign h.now }
+    requires one_line { IsOneLine line.part.items }
+    requires given { (given : List ℕ) × HasRead n.now.net h.now.net None line progress given }
+    ensures { (given : List ℕ) → HasRead n.now.net h.now.net None line progress given → Gives (λ k. k) result (cert_of_text n.now.net h.now.net given) }
 {
-    // Each says that its design is valid.
-    n.input_count();
-    h.input_count();
-    if let Some(fault) = refused {
-        return Err(fault);
-    }
     match progress.stage {
-        Stage::Ended { version } if line.part.is_empty() => {
+        Stage::Ended { version } => {
+            if !line.part.is_empty() {
+                return Err(CertFault::Line(line.number));
+            }
             Ok(certificate_of(
                 n,
                 h,
@@ -194,5 +191,28 @@ fn ended(
             ))
         }
         _ => Err(CertFault::Line(line.number)),
+    }
+}
+
+/// Ends the text, unless a fault was met before.
+fn ended(
+    n: &FlatNet,
+    h: &FlatNet,
+    line: LineInHand,
+    progress: Progress,
+    refused: Option<CertFault>,
+) -> Result<Certificate, CertFault>
+    requires ready { refused ≡ None → IsReady h.now.net line progress }
+    requires given { (given : List ℕ) × HasRead n.now.net h.now.net refused line progress given }
+    ensures exact { (given : List ℕ) → HasRead n.now.net h.now.net refused line progress given → Gives (λ k. k) result (cert_of_text n.now.net h.now.net given) }
+    ensures original { IsDesign n.now }
+    ensures hardened { IsDesign h.now }
+{
+    // Each says that its design is valid.
+    n.input_count();
+    h.input_count();
+    match refused {
+        Some(fault) => Err(fault),
+        None => end_unrefused(n, h, line, progress),
     }
 }
