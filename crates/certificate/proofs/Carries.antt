@@ -1,5 +1,5 @@
 -- How reading goes on behind a line.
-use Rattle.std.proofs.Common.{◌≡◌, ℕ, zero, suc, ◌+◌, ◌-◌, ◌<◌, ◌≤◌, Bool, true, false, List, [], ◌∷◌, ◌++◌, length, Option, Some, None, Result, Ok, Err, IfErr, refl, sym, ap, subst, ◌∙◌, arith}
+use Rattle.std.proofs.Common.{◌≡◌, ℕ, ◌+◌, ◌-◌, ◌<◌, ◌≤◌, Bool, true, false, List, [], ◌∷◌, ◌++◌, length, Option, Some, None, Result, Ok, Err, IfErr, refl, sym, ap, subst, ◌∙◌, arith}
 use Rattle.std.specs.Prelude.{◌==◌, codes, slice_index_or}
 use Rattle.std.specs.Result.{IsErrAnd}
 use Rattle.std.specs.Str.{bytes_eq}
@@ -10,14 +10,13 @@ use Rattle.certificate.specs.declared.fault.CertFault.{CertFault}
 use Rattle.certificate.specs.declared.fault.CertFault.TheVariants as fault
 use Rattle.certificate.specs.declared.progress.Progress.{Progress}
 use Rattle.certificate.specs.declared.progress.Stage.{Stage}
-use Rattle.certificate.specs.declared.progress.Stage.TheVariants.{Begun, Versioned, Counted, Ended}
 use Rattle.certificate.specs.declared.reading.NodeTable.{NodeTable}
 use Rattle.certificate.specs.declared.role.Role.{Role}
 use Rattle.certificate.specs.Cert.{PlainCert}
 use Rattle.certificate.specs.Gives.{Fails}
 use Rattle.certificate.specs.Lines.{◌>>=◌, want, hold, Rest, next_line}
 use Rattle.certificate.specs.Tables.{depths_read, nodes_read, roles_read}
-use Rattle.certificate.specs.Folding.{version_named, Depths, Nodes, Roles, repeat, first_line, parts_line, last_line, part_step, node_step, voter_step, read_parts, read_part, read_node, read_voter, give_copies}
+use Rattle.certificate.specs.Folding.{version_named, Depths, Nodes, Roles, repeat, first_line, parts_line, last_line, part_step, node_step, voter_step, read_parts, read_part, read_voter}
 use Rattle.certificate.specs.Carrying.{part_taken, node_taken, voter_taken, made, carry_roles, carry_nodes, carry_parts, carry_count, carry_all, carry_end, carry_from, carry, Passes, Refuses}
 use Rattle.certificate.proofs.Steps.{goes_on, ends, is_done}
 
@@ -113,7 +112,7 @@ module _ (version : ℕ) (n h : Net) (parts : ℕ) (depth : List ℕ) (nodes : N
   part_passes new lt long e = λ r after found at.
       let step : part_step (depths_read depth r) ≡ Ok (depths_read new after) = part_at depth text r after found ∙ ap (λ (y : Result (List ℕ) CertFault). y >>= λ (d : List ℕ). Ok (depths_read d after)) (ap (part_taken depth text) at ∙ e) in
       let all : repeat (parts - length new) part_step (depths_read new after) ≡ repeat (parts - length depth) part_step (depths_read depth r) =
-          ap (λ (k : ℕ). repeat (parts - k) part_step (depths_read new after)) long ∙ goes_on part_step parts (length depth) (depths_read depth r) (depths_read new after) _ lt step refl in
+      ap (λ (k : ℕ). repeat (parts - k) part_step (depths_read new after)) long ∙ goes_on part_step parts (length depth) (depths_read depth r) (depths_read new after) _ lt step refl in
       ap (λ (y : Result Depths CertFault). y >>= λ depths. carry_nodes version n h parts depths.depth roles (nodes_read nodes depths.rest)) (sym all)
 
   pub part_refuses : (f : CertFault) → length depth < parts → Fails f (part_taken depth text line) → Refuses (carry_parts version n h parts depth nodes roles) f text line
@@ -131,7 +130,7 @@ module _ (version : ℕ) (n h : Net) (parts : ℕ) (depth : List ℕ) (nodes : N
   node_passes new deep lt long e = λ r after found at.
       let step : node_step n h parts (nodes_read nodes r) ≡ Ok (nodes_read new after) = node_at n h parts nodes text r after found ∙ (ap (node_taken n h parts (nodes_read nodes after) text) at ∙ e after) in
       let all : repeat (length n.nodes - length new.part.items) (node_step n h parts) (nodes_read new after) ≡ repeat (length n.nodes - length nodes.part.items) (node_step n h parts) (nodes_read nodes r) =
-          ap (λ (k : ℕ). repeat (length n.nodes - k) (node_step n h parts) (nodes_read new after)) long ∙ goes_on (node_step n h parts) (length n.nodes) (length nodes.part.items) (nodes_read nodes r) (nodes_read new after) _ lt step refl in
+      ap (λ (k : ℕ). repeat (length n.nodes - k) (node_step n h parts) (nodes_read new after)) long ∙ goes_on (node_step n h parts) (length n.nodes) (length nodes.part.items) (nodes_read nodes r) (nodes_read new after) _ lt step refl in
       parts_over version n h parts depth nodes roles r deep ∙ (ap (λ (y : Result Nodes CertFault). y >>= λ all. carry_roles version n h parts depth roles all) (sym all) ∙ sym (parts_over version n h parts depth new roles after deep))
 
   pub node_refuses : (f : CertFault) → parts ≤ length depth → length nodes.part.items < length n.nodes → ((after : Rest) → Fails f (node_taken n h parts (nodes_read nodes after) text line))
@@ -157,7 +156,7 @@ module _ (version : ℕ) (n h : Net) (parts : ℕ) (depth : List ℕ) (nodes : N
   unfolding carry_roles
   passed_over mid r deep wide places passed =
       let all : repeat (length h.nodes - length roles) (voter_step version n h parts nodes.roles.items) (roles_read roles r) ≡ repeat (length h.nodes - length mid) (voter_step version n h parts nodes.roles.items) (roles_read mid r) =
-          subst (λ (k : ℕ). repeat (k - length roles) (voter_step version n h parts nodes.roles.items) (roles_read roles r) ≡ repeat (k - length mid) (voter_step version n h parts nodes.roles.items) (roles_read mid r)) places (passed r) in
+      subst (λ (k : ℕ). repeat (k - length roles) (voter_step version n h parts nodes.roles.items) (roles_read roles r) ≡ repeat (k - length mid) (voter_step version n h parts nodes.roles.items) (roles_read mid r)) places (passed r) in
       parts_over version n h parts depth nodes roles r deep ∙ (nodes_over version n h parts depth roles (nodes_read nodes r) wide
       ∙ ap (λ (y : Result Roles CertFault). y >>= λ voters. (last_line voters.rest >>= λ end. Ok (made version n h depth (nodes_read nodes r) voters.roles))) all)
 
@@ -171,9 +170,9 @@ module _ (version : ℕ) (n h : Net) (parts : ℕ) (depth : List ℕ) (nodes : N
   unfolding carry_roles
   voter_passes mid new deep wide places passed lt due long e = λ r after found at.
       let step : voter_step version n h parts nodes.roles.items (roles_read mid r) ≡ Ok (roles_read new after) =
-          voter_at version n h parts nodes.roles.items mid text r after due found ∙ ap (λ (y : Result (List Role) CertFault). y >>= λ (v : List Role). Ok (roles_read v after)) (ap (voter_taken version n h parts mid text) at ∙ e) in
+      voter_at version n h parts nodes.roles.items mid text r after due found ∙ ap (λ (y : Result (List Role) CertFault). y >>= λ (v : List Role). Ok (roles_read v after)) (ap (voter_taken version n h parts mid text) at ∙ e) in
       let all : repeat (length h.nodes - length new) (voter_step version n h parts nodes.roles.items) (roles_read new after) ≡ repeat (length h.nodes - length mid) (voter_step version n h parts nodes.roles.items) (roles_read mid r) =
-          ap (λ (k : ℕ). repeat (length h.nodes - k) (voter_step version n h parts nodes.roles.items) (roles_read new after)) long ∙ goes_on (voter_step version n h parts nodes.roles.items) (length h.nodes) (length mid) (roles_read mid r) (roles_read new after) _ lt step refl in
+      ap (λ (k : ℕ). repeat (length h.nodes - k) (voter_step version n h parts nodes.roles.items) (roles_read new after)) long ∙ goes_on (voter_step version n h parts nodes.roles.items) (length h.nodes) (length mid) (roles_read mid r) (roles_read new after) _ lt step refl in
       passed_over mid r deep wide places passed ∙ (ap (λ (y : Result Roles CertFault). y >>= λ voters. (last_line voters.rest >>= λ end. Ok (made version n h depth (nodes_read nodes r) voters.roles))) (sym all)
       ∙ sym (filled_over new after deep wide))
 
@@ -183,7 +182,7 @@ module _ (version : ℕ) (n h : Net) (parts : ℕ) (depth : List ℕ) (nodes : N
   unfolding carry_roles
   voter_refuses mid f deep wide places passed lt due fails = λ r after found at.
       let step : Fails f (voter_step version n h parts nodes.roles.items (roles_read mid r)) =
-          fails_so f _ _ (sym (voter_at version n h parts nodes.roles.items mid text r after due found)) (fails_on f (voter_taken version n h parts mid text r.line) (λ (v : List Role). Ok (roles_read v after)) (fails_so f _ _ (ap (voter_taken version n h parts mid text) (sym at)) fails)) in
+      fails_so f _ _ (sym (voter_at version n h parts nodes.roles.items mid text r after due found)) (fails_on f (voter_taken version n h parts mid text r.line) (λ (v : List Role). Ok (roles_read v after)) (fails_so f _ _ (ap (voter_taken version n h parts mid text) (sym at)) fails)) in
       fails_so f _ _ (sym (passed_over mid r deep wide places passed)) (fails_on f (repeat (length h.nodes - length mid) (voter_step version n h parts nodes.roles.items) (roles_read mid r)) _ (ends f (voter_step version n h parts nodes.roles.items) (length h.nodes) (length mid) (roles_read mid r) _ lt step refl))
 
   last_at : (mid : List Role) (r after : Rest) → parts ≤ length depth → length n.nodes ≤ length nodes.part.items → length nodes.roles.items ≡ length h.nodes → Passed mid

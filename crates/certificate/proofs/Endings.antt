@@ -1,6 +1,6 @@
 -- What a text gives that comes to its end.
-use Rattle.std.proofs.Common.{◌≡◌, ℕ, zero, suc, ◌+◌, ◌-◌, ◌<◌, ◌≤◌, ◌⊎◌, inl, inr, Bool, true, false, List, [], ◌∷◌, ◌++◌, length, Option, Some, None, Result, Ok, Err, IfOk, IfSome, refl, sym, ap, subst, ◌∙◌, append-nil, arith}
-use Rattle.std.specs.Prelude.{◌==◌, replicate, map, nat_lt, slice_index_or}
+use Rattle.std.proofs.Common.{◌≡◌, ℕ, zero, suc, ◌-◌, ◌<◌, ◌⊎◌, inl, inr, Bool, false, List, [], ◌∷◌, ◌++◌, length, Option, Some, None, Result, Ok, Err, IfOk, IfSome, refl, sym, ap, subst, ◌∙◌, append-nil, arith}
+use Rattle.std.specs.Prelude.{◌==◌, replicate, nat_lt, slice_index_or}
 use Rattle.std.specs.List.{position_or_len}
 use Rattle.std.proofs.lemmas.Bool.{le-ltb}
 use Rattle.std.proofs.lemmas.Bool.Decides.{nat_tests}
@@ -22,7 +22,7 @@ use Rattle.certificate.specs.Lines.{◌>>=◌, hold, Rest, next_line}
 use Rattle.certificate.specs.Reading.{cert_of_text}
 use Rattle.certificate.specs.Tables.{depths_read, nodes_read, roles_read}
 use Rattle.certificate.specs.Text.{cert_text}
-use Rattle.certificate.specs.Folding.{Depths, Nodes, Roles, repeat, first_line, parts_line, last_line, part_step, node_step, voter_step, role_step, fold_of_text}
+use Rattle.certificate.specs.Folding.{Nodes, Roles, repeat, first_line, parts_line, last_line, part_step, node_step, voter_step, role_step, fold_of_text}
 use Rattle.certificate.specs.Carrying.{made, carry, carry_from, carry_roles, carry_nodes, carry_parts, carry_count, carry_all, carry_end, to_come}
 use Rattle.certificate.specs.Reader.{HasRead}
 use Rattle.certificate.proofs.Carries.{fails_so}

@@ -1,5 +1,4 @@
 pub mod TripleLaws
-pub mod LineLaws
 pub mod Names
 pub mod Steps
 pub mod Cases

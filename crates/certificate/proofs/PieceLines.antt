@@ -1,24 +1,21 @@
 -- The lines of a piece, behind the part of a line that is in hand.
-use Rattle.std.proofs.Common.{◌≡◌, ℕ, zero, suc, ◌+◌, ◌-◌, ◌<◌, ◌≤◌, Bool, true, false, cond, List, [], ◌∷◌, ◌++◌, length, take, drop, get_or, Option, Some, None, Result, Ok, Err, refl, sym, ap, subst, ◌∙◌, append_assoc, append-nil, length-append, arith, All}
-use Rattle.std.specs.Prelude.{nat_lt}
+use Rattle.std.proofs.Common.{◌≡◌, ℕ, ◌+◌, ◌<◌, false, List, [], ◌∷◌, ◌++◌, length, take, drop, get_or, Some, None, Ok, refl, sym, ap, subst, ◌∙◌, append_assoc, arith}
+use Rattle.std.specs.Prelude.{is_some}
 use Rattle.std.specs.List.{position, position_or_len, before_first, after_first}
 use Rattle.std.proofs.lemmas.Bool.{eqb-true}
-use Rattle.std.proofs.lemmas.Bool.Decides.{nat_tests}
-use Rattle.std.proofs.lemmas.List.{length-take-le, get_or-take, take_all, take-append-drop, length-drop}
+use Rattle.std.proofs.lemmas.List.{length-take, get_or-take}
 use Rattle.std.proofs.lemmas.List.Elements.{All-append}
 use Rattle.std.proofs.lemmas.List.Sums.{split_at_first, passes_at_first, fails_before_first}
 use Rattle.text_lines.specs.Lines.{is_line_feed}
 use Rattle.text_lines.specs.Pending.{IsOneLine}
-use Rattle.text_lines.proofs.NextLine.{end_within, before_end, behind_end}
+use Rattle.text_lines.proofs.NextLine.{before_end, behind_end, line_feed_within, line_feed_missing}
 use Rattle.flat_net.specs.Net.{Net}
 use Rattle.certificate.specs.declared.fault.CertFault.{CertFault}
-use Rattle.certificate.specs.declared.fault.CertFault.TheVariants.{Line}
 use Rattle.certificate.specs.declared.progress.Progress.{Progress}
 use Rattle.certificate.specs.Gives.{Fails}
-use Rattle.certificate.specs.Lines.{Rest, next_line}
+use Rattle.certificate.specs.Lines.{next_line}
 use Rattle.certificate.specs.Carrying.{carry, Passes, Refuses}
 use Rattle.certificate.proofs.Again.{next_again}
-use Rattle.certificate.proofs.Carries.{fails_so}
 
 -- a line with its line feed at the head of a text
 next_at : (i : ℕ) (line rest : List ℕ) → IsOneLine line → next_line (record { line = i; bytes = line ++ 10 ∷ rest }) ≡ Ok (line, record { line = i + 1; bytes = rest })
@@ -43,29 +40,14 @@ nothing_in_hand n h old number part bytes none = ap (λ (xs : List ℕ). carry n
 
 -- ---- the line feed of a piece
 
-position_is : (bytes : List ℕ) (end : ℕ) → position is_line_feed bytes ≡ Some end → position_or_len is_line_feed bytes ≡ end
-position_is bytes end e = go (nat_lt (position_or_len is_line_feed bytes) (length bytes)) refl e
-  where
-    go : (t : Bool) → nat_lt (position_or_len is_line_feed bytes) (length bytes) ≡ t → cond t (Some (position_or_len is_line_feed bytes)) None ≡ Some end → position_or_len is_line_feed bytes ≡ end
-    go true below e = cc
-    go false below e = absurd cc
-
-position_none : (bytes : List ℕ) → position is_line_feed bytes ≡ None → length bytes ≤ position_or_len is_line_feed bytes
-position_none bytes e = go (nat_lt (position_or_len is_line_feed bytes) (length bytes)) refl e
-  where
-    go : (t : Bool) → nat_lt (position_or_len is_line_feed bytes) (length bytes) ≡ t → cond t (Some (position_or_len is_line_feed bytes)) None ≡ None → length bytes ≤ position_or_len is_line_feed bytes
-    go true below e = absurd cc
-    go false below e = grind (arith, nat_tests, below)
-
 -- no line feed stands before the first
 pub front_one_line : (bytes : List ℕ) (end : ℕ) → position is_line_feed bytes ≡ Some end → IsOneLine (take end bytes)
-front_one_line bytes end e = λ i d lt.
-    let at = position_is bytes end e in
-    let long = length-take-le end bytes (omega (arith, end_within bytes end e)) in
-    ap is_line_feed (get_or-take end bytes i d (omega (arith, lt, long))) ∙ fails_before_first is_line_feed bytes i d (omega (arith, at, lt, long))
+front_one_line bytes end e = subst IsOneLine (sym (before_end bytes end e)) (λ i d lt.
+    let within : i < position_or_len is_line_feed bytes = omega (arith, lt, length-take (position_or_len is_line_feed bytes) bytes) in
+    ap is_line_feed (get_or-take (position_or_len is_line_feed bytes) bytes i d within) ∙ fails_before_first is_line_feed bytes i d within)
 
 pub all_one_line : (bytes : List ℕ) → position is_line_feed bytes ≡ None → IsOneLine bytes
-all_one_line bytes e = λ i d lt. fails_before_first is_line_feed bytes i d (omega (arith, position_none bytes e))
+all_one_line bytes e = λ i d lt. fails_before_first is_line_feed bytes i d (omega (arith, lt, line_feed_missing bytes (ap is_some e)))
 
 pub longer_one_line : (part bytes : List ℕ) → IsOneLine part → position is_line_feed bytes ≡ None → IsOneLine (part ++ bytes)
 longer_one_line part bytes one e = All-append (λ b. is_line_feed b ≡ false) part bytes one (all_one_line bytes e)
@@ -73,8 +55,7 @@ longer_one_line part bytes one e = All-append (λ b. is_line_feed b ≡ false) p
 -- the line, its line feed, and what stands behind it
 pub cut_at : (bytes : List ℕ) (end : ℕ) → position is_line_feed bytes ≡ Some end → bytes ≡ take end bytes ++ 10 ∷ drop (end + 1) bytes
 cut_at bytes end e =
-    let at = position_is bytes end e in
-    let lt : position_or_len is_line_feed bytes < length bytes = omega (arith, at, end_within bytes end e) in
+    let lt : position_or_len is_line_feed bytes < length bytes = line_feed_within bytes (ap is_some e) in
     let feed : get_or bytes (position_or_len is_line_feed bytes) 0 ≡ 10 = eqb-true _ _ (passes_at_first is_line_feed bytes 0 lt) in
     split_at_first is_line_feed bytes 0 lt ∙ (ap (λ (b : ℕ). before_first is_line_feed bytes ++ (b ∷ after_first is_line_feed bytes)) feed
     ∙ (ap (λ (x : List ℕ). x ++ 10 ∷ after_first is_line_feed bytes) (sym (before_end bytes end e)) ∙ ap (λ (x : List ℕ). take end bytes ++ 10 ∷ x) (sym (behind_end bytes end e))))

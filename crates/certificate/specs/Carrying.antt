@@ -1,6 +1,6 @@
--- The code's own way of reading a text line by line, from any line on. Private functions alone cite it; specs/Reader says what a
--- reader stands for.
-use Rattle.std.specs.Prelude.{◌≡◌, ℕ, ◌+◌, ◌-◌, ◌==◌, List, [], ◌∷◌, ◌++◌, length, map, Result, Ok, Err, if◌then◌else◌}
+-- The code's own way of reading a text line by line, from any line on: specs/Reader says by it what a reader goes on to, and no
+-- clause of a public function has to be believed by it.
+use Rattle.std.specs.Prelude.{◌≡◌, ℕ, ◌+◌, ◌-◌, ◌==◌, List, [], ◌∷◌, ◌++◌, length, Result, Ok}
 use Rattle.flat_net.specs.Net.{Net}
 use Rattle.certificate.specs.declared.fault.CertFault.{CertFault}
 use Rattle.certificate.specs.declared.fault.CertFault.TheVariants.{Line}
@@ -14,8 +14,7 @@ use Rattle.certificate.specs.Cert.{PlainCert}
 use Rattle.certificate.specs.Gives.{Fails}
 use Rattle.certificate.specs.Lines.{◌>>=◌, hold, Rest, next_line}
 use Rattle.certificate.specs.Tables.{depths_read, nodes_read, roles_read}
-use Rattle.certificate.specs.Threes.{three_of, three_ids}
-use Rattle.certificate.specs.Folding.{Depths, Nodes, Roles, repeat, first_line, parts_line, last_line, part_step, node_step, voter_step, read_part, read_node, read_voter, give_copies}
+use Rattle.certificate.specs.Folding.{Nodes, repeat, first_line, parts_line, last_line, part_step, node_step, voter_step, read_part, read_node, read_voter, give_copies}
 
 -- ---- one line
 

@@ -8,8 +8,8 @@ ghost use Rattle.certificate.specs.Carrying.{to_come};
 ghost use Rattle.certificate.specs.Reader.{HasRead, IsReady};
 ghost use Rattle.certificate.specs.declared.fault.CertFault.TheVariants.{Memory};
 
-use crate::progress::{Progress, take_line};
 use crate::CertFault;
+use crate::progress::{Progress, take_line};
 use flat_net::FlatNet;
 use std::alloc::Global;
 use text_lines::line_end;

@@ -32,7 +32,7 @@ pub struct Progress {
 }
 
 /// Takes the line of a voter, or `end` where none is left. All depths and nodes are read.
-fn take_role(
+fn take_voter_or_end(
     alloc: Global,
     scope: &Scope<'_>,
     progress: &mut Progress,
@@ -81,7 +81,7 @@ fn take_inner(
         take_node(alloc, scope, &mut progress.nodes, text, line)?;
         return Ok(());
     }
-    take_role(alloc, scope, progress, text, line)
+    take_voter_or_end(alloc, scope, progress, text, line)
 }
 
 /// Takes the next line, which has this number.

@@ -1,4 +1,3 @@
-use Rattle.std.proofs.Common.{[]}
 use Rattle.certificate.proofs.Carries.{passed_on}
 use Rattle.certificate.proofs.PieceLines.{line_passes, line_refuses}
 use Rattle.certificate.proofs.pieces.end_line.Goals as goal

@@ -1,4 +1,4 @@
-use Rattle.std.proofs.Common.{◌≡◌, ◌+◌, ◌++◌, ◌∙◌, List, ℕ, Some, None, drop, sym, ap, subst}
+use Rattle.std.proofs.Common.{◌≡◌, ◌+◌, ◌++◌, ◌∙◌, Some, None, drop, sym, ap, subst}
 use Rattle.std.specs.List.{position}
 use Rattle.text_lines.specs.Lines.{is_line_feed}
 use Rattle.text_lines.specs.Pending.{IsOneLine}

@@ -1,5 +1,4 @@
-use Rattle.std.proofs.Common.{◌≡◌, [], None, length, refl, ◌∙◌, ap, subst, sym, arith}
-use Rattle.std.specs.Prelude.{replicate}
+use Rattle.std.proofs.Common.{[], None, length, refl, ◌∙◌, ap, subst, sym, arith}
 use Rattle.std.proofs.lemmas.List.{length-replicate}
 use Rattle.text_lines.specs.Pending.{IsOneLine}
 use Rattle.certificate.proofs.Endings.{new_read}

@@ -3,7 +3,7 @@ use Rattle.std.specs.Prelude.{slice_index_or}
 use Rattle.certificate.specs.declared.role.Role.{Role}
 use Rattle.certificate.specs.declared.progress.Stage.TheVariants.{Counted, Ended}
 use Rattle.certificate.proofs.Carries.{passed_there, voter_passes, voter_refuses, end_passes, end_refuses, passes_so, refuses_so, passed_on}
-use Rattle.certificate.proofs.progress.take_role.Goals as goal
+use Rattle.certificate.proofs.progress.take_voter_or_end.Goals as goal
 
 pub returns-in_err-take_voter-clause-refuses : goal.returns-in_err-take_voter-clause-refuses
 returns-in_err-take_voter-clause-refuses c =
