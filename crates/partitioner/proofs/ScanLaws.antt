@@ -1,5 +1,5 @@
 -- Counting all partitions, 64 at once.
-use Rattle.std.proofs.Common.{◌≡◌, ℕ, ◌+◌, ◌-◌, ◌*◌, ◌/◌, ◌%◌, ◌^◌, ◌<◌, ◌≤◌, ◌⊎◌, inl, inr, Bool, true, false, eqb, not, ◌&&◌, List, [], length, take, get_or, refl, sym, ◌∙◌, ap, subst, arith, IsPermutation}
+use Rattle.std.proofs.Common.{◌≡◌, ℕ, ◌+◌, ◌-◌, ◌*◌, ◌/◌, ◌^◌, ◌<◌, ◌≤◌, ◌⊎◌, inl, inr, Bool, true, false, eqb, not, ◌&&◌, List, [], length, take, get_or, refl, sym, ◌∙◌, ap, subst, arith, IsPermutation}
 use Rattle.std.specs.List.{count_by}
 use Rattle.std.specs.Prelude.{nat_eq, bit_and}
 use Rattle.std.proofs.lemmas.Nat.Bits.{shr_and_one}

@@ -5,4 +5,4 @@ use Rattle.partitioner.proofs.counts.rows.Row.zeros.Goals as goal
 
 pub invariant_of-result : goal.invariant_of-result
 invariant_of-result c =
-    subst (λ (words : List ℕ). Covers c.in_ok-blocks.blocks.items words) (sym c.in_ok-words.ensures.items) (zeros_covered c.args.words c.in_ok-blocks.blocks.items c.in_ok-blocks.ensures)
+    subst (λ (words : List ℕ). Covers c.in_ok-blocks.blocks.items words) (sym (c.in_ok-words.ensures.items_if_clones_equal (λ y e. e))) (zeros_covered c.args.words c.in_ok-blocks.blocks.items c.in_ok-blocks.ensures)
