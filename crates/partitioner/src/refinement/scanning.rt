@@ -35,7 +35,15 @@ pub fn is_scanned(n: &FlatNet, p: &Partitioning, gains: &Gains, i: u32) -> bool
 }
 
 /// `bias`, and how many of the nodes that node i reads and that are not counted yet are near, in each lane of word w.
-fn counted_lanes(n: &FlatNet, p: &Partitioning, gains: &Gains, i: u32, level: Level, w: usize, bias: u64) -> Lanes
+fn counted_lanes(
+    n: &FlatNet,
+    p: &Partitioning,
+    gains: &Gains,
+    i: u32,
+    level: Level,
+    w: usize,
+    bias: u64,
+) -> Lanes
     requires counted { IsCounted n.now.net p.now i gains.now }
     requires bias { bias < 16 }
     ensures { AreCounted n.now.net p.now i gains.now level w bias result (length (slice_index_or p.now.sources i [])) }
@@ -75,7 +83,15 @@ fn needed(n: &FlatNet, p: &Partitioning, gains: &Gains, i: u32, lead: Lead, firs
 }
 
 /// The lanes of word w with partitions that may take the lead, as bits of a word.
-fn candidates(n: &FlatNet, p: &Partitioning, gains: &Gains, i: u32, lead: Lead, level: Level, w: u32) -> u64
+fn candidates(
+    n: &FlatNet,
+    p: &Partitioning,
+    gains: &Gains,
+    i: u32,
+    lead: Lead,
+    level: Level,
+    w: u32,
+) -> u64
     requires counted { IsCounted n.now.net p.now i gains.now }
     requires lead { lead.loss ≡ loss n.now.net p.now.of.items i lead.place }
     ensures { AreShut n.now.net p.now i level (w * 64) result lead.place }
