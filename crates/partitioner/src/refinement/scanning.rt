@@ -1,7 +1,7 @@
-//! Where a node goes that reads several nodes of very many readers: all partitions are counted, 64 at once.
-ghost use Rattle.std.specs.Prelude.{◌≡◌, ◌<◌, ◌≤◌, ◌+◌, ◌*◌, ◌⊎◌, ℕ, [], false, length, slice_index_or};
+//! Where a node goes that reads several nodes of very many readers: all partitions are counted, 64 at once, and before them blocks of 64
+//! partitions, 64 at once, so that only blocks are counted where enough of these nodes are near.
+ghost use Rattle.std.specs.Prelude.{◌≡◌, ◌<◌, ◌≤◌, ◌+◌, ◌*◌, ℕ, [], length, slice_index_or};
 ghost use Rattle.table_cover.specs.Words.{word_bit};
-ghost use Rattle.partitioner.specs.Private.Tracking.{Tracks};
 ghost use Rattle.partitioner.specs.Private.Gaining.{IsCounted};
 ghost use Rattle.partitioner.specs.Private.Loss.{loss};
 ghost use Rattle.partitioner.specs.Private.Leading.{IsLead, Leads, LeadsOpen, start_of};
@@ -67,7 +67,8 @@ fn first_in(level: Level, w: u32) -> u32
     }
 }
 
-/// How many of the nodes that are not counted yet are near, at least, in a partition of block w that takes the lead. 0 tells nothing.
+/// How many of the nodes that are not counted yet are near, at least, in a partition from `first` on that takes the lead. 0
+/// tells nothing.
 fn needed(n: &FlatNet, p: &Partitioning, gains: &Gains, i: u32, lead: Lead, first: u32) -> u64
     requires counted { IsCounted n.now.net p.now i gains.now }
     ensures { IsNeeded (length (slice_index_or p.now.sources i [])) (start_of p.now i) first gains.now.most lead result }
