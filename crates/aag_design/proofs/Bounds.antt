@@ -1,8 +1,7 @@
 -- What a file's graph keeps: few entries, and variables from 1 on that fit.
-use Rattle.std.proofs.Common.{◌≡◌, ◌≢◌, ℕ, zero, suc, ◌+◌, ◌*◌, ◌/◌, ◌%◌, ◌^◌, ◌<◌, ◌≤◌, Bool, true, false, List, [], ◌∷◌, ◌++◌, length, map, get_or, slice_get, Option, Some, None, refl, sym, ap, ◌∙◌, subst, arith, length-append, if◌then◌else◌}
-use Rattle.std.specs.Prelude.{nat_lt, nat_eq, not, ◌&&◌, ◌||◌, ◌==◌, drop, codes}
+use Rattle.std.proofs.Common.{◌≡◌, ℕ, suc, ◌+◌, ◌*◌, ◌/◌, ◌^◌, ◌<◌, ◌≤◌, Bool, true, false, List, [], ◌∷◌, ◌++◌, length, map, get_or, slice_get, Option, Some, None, refl, sym, ap, ◌∙◌, subst, arith, length-append}
+use Rattle.std.specs.Prelude.{nat_lt, not, ◌&&◌, ◌||◌, ◌==◌, drop}
 use Rattle.std.specs.Option.{option_map}
-use Rattle.std.specs.Str.{bytes_eq}
 use Rattle.std.specs.List.{slice_split, flat_map}
 use Rattle.std.specs.Fmt.{decimal}
 use Rattle.std.proofs.lemmas.Bool.{ltb-true}
@@ -25,7 +24,7 @@ use Rattle.aag_text.specs.Lines.{◌>>=◌, hold, word, is_line_feed, lines_from
 use Rattle.aag_text.proofs.Spelling.{line_cons}
 use Rattle.aag_text.specs.Variables.{defined}
 use Rattle.aag_design.specs.Draft.{map_from, numbered, aig_elements}
-use Rattle.aag_design.specs.Private.Drafting.{plain_draft, plain_marks}
+use Rattle.aag_design.specs.Private.Drafting.{plain_draft}
 use Rattle.aag_design.proofs.Places.{some_is, map_from_first, map_get, length-map_from, node_total, IsPlace, AtZero, AtLatch, AtGate, AtNext, AtOutput, place_of}
 use Rattle.aag_design.proofs.Nets.{element, element_get, elements_long}
 use Rattle.aag_design.proofs.Known.{IsDefinition, ByInput, ByLatch, ByGate, definition_of}

@@ -1,18 +1,17 @@
 -- The facts of a graph's design, as the calls need them.
-use Rattle.std.proofs.Common.{◌≡◌, ℕ, ◌+◌, ◌*◌, ◌^◌, ◌<◌, ◌≤◌, Bool, true, false, List, length, map, refl, sym, ap, ◌∙◌, subst, arith}
-use Rattle.flat_net.specs.Net.{Net, IsOrder, IsValid}
+use Rattle.std.proofs.Common.{◌≡◌, ℕ, ◌+◌, ◌<◌, List, length, map, refl, sym, ap, ◌∙◌, subst, arith}
+use Rattle.flat_net.specs.Net.{IsOrder, IsValid}
 use Rattle.flat_net.specs.Free.{FreeDesign, AreMarks}
 use Rattle.flat_net.specs.Draft.{PlainDraft, AreDistinct}
 use Rattle.flat_net.specs.Faults.{draft_reads, net_of_draft, IsDrivenOnce, IsCombLoop, IsFaultless}
-use Rattle.aag_text.specs.Aig.{PlainAig, plain_aig}
+use Rattle.aag_text.specs.Aig.{PlainAig}
 use Rattle.aag_design.specs.Draft.{numbered, aig_draft, aig_marks}
-use Rattle.aag_text.specs.Variables.{defined, IsDefinedOnce, IsDefined}
-use Rattle.aag_design.specs.Private.Drafting.{plain_draft, plain_marks, number_behind, IsTurnedFrom, IsGraph, IsSound, IsLoopOf}
+use Rattle.aag_design.specs.Private.Drafting.{plain_draft, plain_marks, number_behind, IsTurnedFrom, IsSound}
 use Rattle.aag_design.specs.Loop.{IsLoop, HasNoLoop}
 use Rattle.aag_design.specs.Same.{DoesTheSame}
-use Rattle.aag_design.proofs.Places.{length-map_from, node_total}
+use Rattle.aag_design.proofs.Places.{length-map_from}
 use Rattle.aag_design.proofs.Nets.{elements_long}
-use Rattle.aag_design.proofs.Bounds.{few_entries, variables_are, inputs_distinct, outputs_distinct, reads_few}
+use Rattle.aag_design.proofs.Bounds.{inputs_distinct, outputs_distinct, reads_few}
 use Rattle.aag_design.proofs.OneMeaning.{apart_of, does_the_same}
 use Rattle.aag_design.proofs.FreeMarks.{are_marks}
 use Rattle.aag_design.proofs.GateLoops.{no_loop}

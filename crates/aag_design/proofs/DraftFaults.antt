@@ -1,26 +1,25 @@
 -- A loop of tables of a graph's design is a loop of its gates.
-use Rattle.std.proofs.Common.{◌≡◌, ◌≢◌, ℕ, zero, suc, ◌+◌, ◌-◌, ◌^◌, ◌<◌, ◌≤◌, ◌⊎◌, inl, inr, Bool, true, false, List, [], ◌∷◌, ◌++◌, length, map, take, drop, get_or, slice_get, Option, Some, None, refl, sym, ap, ◌∙◌, subst, arith, length-append}
+use Rattle.std.proofs.Common.{◌≡◌, ◌≢◌, ℕ, zero, suc, ◌+◌, ◌-◌, ◌<◌, ◌≤◌, ◌⊎◌, inl, inr, true, false, List, [], ◌∷◌, ◌++◌, length, map, take, drop, get_or, slice_get, Option, Some, refl, sym, ap, ◌∙◌, subst, arith}
 use Rattle.std.specs.Prelude.{slice_index}
 use Rattle.std.proofs.lemmas.Bool.{cases_lt, cases_order, false≢true}
-use Rattle.std.proofs.lemmas.List.{length-map, length-take-le, get_or-map, get_or-take}
+use Rattle.std.proofs.lemmas.List.{length-map}
 use Rattle.std.proofs.lemmas.Option.{slice_get_within, get_or_from_slice_get, slice_get-get_or}
-use Rattle.tmr_base.specs.Numbers.{number_of}
 use Rattle.tmr_base.proofs.NumberLaws.{number_again}
-use Rattle.flat_net.specs.Net.{Net, node_of, name_of, table_pins}
+use Rattle.flat_net.specs.Net.{name_of}
 use Rattle.flat_net.specs.Loop.{ReadsTable, IsLoop as IsTableLoop}
 use Rattle.graph.specs.Turned.{IsTurned}
-use Rattle.flat_net.specs.Draft.{Element, out_of, AreDistinct}
-use Rattle.flat_net.specs.Faults.{is_among, draft_names, net_of_draft, IsDrivenOnce, IsCombLoop}
+use Rattle.flat_net.specs.Draft.{out_of, AreDistinct}
+use Rattle.flat_net.specs.Faults.{IsDrivenOnce, IsCombLoop}
 use Rattle.flat_net.proofs.Going.{taken_split}
 use Rattle.aag_text.specs.declared.aig.Gate.{Gate}
 use Rattle.aag_text.specs.Aig.{PlainAig}
-use Rattle.aag_text.specs.Variables.{defined, IsDefinedOnce, IsDefined}
+use Rattle.aag_text.specs.Variables.{defined}
 use Rattle.aag_design.specs.Draft.{map_from, numbered, aig_elements}
-use Rattle.aag_design.specs.Private.Drafting.{plain_draft, plain_marks}
+use Rattle.aag_design.specs.Private.Drafting.{plain_draft}
 use Rattle.aag_design.specs.Private.Drafting.{number_behind, IsTurnedFrom, IsSound}
 use Rattle.aag_design.specs.Loop.{ReadsGate, IsLoop}
-use Rattle.aag_design.proofs.Places.{some_is, get_left, get_right, map_get, length-map_from, node_total, IsPlace, place_of}
-use Rattle.aag_design.proofs.Nets.{element, element_get, elements_long, node_name, names_are, names_long, AreApart, is_there}
+use Rattle.aag_design.proofs.Places.{some_is, get_left, get_right, map_get, length-map_from, IsPlace, place_of}
+use Rattle.aag_design.proofs.Nets.{element, element_get, node_name, names_are, names_long, AreApart, is_there}
 use Rattle.aag_design.proofs.Known.{AreVariables, defined_gate}
 use Rattle.aag_design.proofs.Values.{names, design}
 use Rattle.aag_design.proofs.GateLoops.{next_read, last_read, IsGateAt, gate_at, reads_gate, gate_same, gate_name}

@@ -1,15 +1,13 @@
 -- The design of a file, or its first fault.
-use Rattle.std.proofs.Common.{◌≡◌, ℕ, ◌+◌, ◌*◌, ◌^◌, ◌<◌, ◌≤◌, Bool, true, false, List, length, map, refl, sym, ap, ◌∙◌, subst, arith}
-use Rattle.std.specs.Prelude.{nat_le}
+use Rattle.std.proofs.Common.{◌≡◌, ℕ, ◌<◌, ◌≤◌, Bool, true, false, List, length, sym, ap, ◌∙◌, subst, arith}
 use Rattle.std.proofs.lemmas.Bool.{leb-true, leb-false}
 use Rattle.limits.specs.Most.{widest_original}
-use Rattle.flat_net.specs.Net.{Net, IsOrder, IsValid}
+use Rattle.flat_net.specs.Net.{Net, IsValid}
 use Rattle.blif_writer.specs.Text.{free_text}
 use Rattle.flat_net.specs.Free.{FreeDesign, AreMarks}
-use Rattle.flat_net.specs.Draft.{PlainDraft, AreDistinct}
-use Rattle.flat_net.specs.Faults.{draft_reads, net_of_draft, IsDrivenOnce, IsCombLoop, IsFaultless}
+use Rattle.flat_net.specs.Faults.{net_of_draft}
 use Rattle.aag_text.specs.Aig.{PlainAig, plain_aig}
-use Rattle.aag_design.specs.Draft.{numbered, aig_draft, aig_marks}
+use Rattle.aag_design.specs.Draft.{aig_draft, aig_marks}
 use Rattle.aag_text.specs.Variables.{defined, IsDefinedOnce, IsDefined}
 use Rattle.aag_text.specs.Lines.{IsFile}
 use Rattle.aag_reader.specs.declared.file.Graph.{Graph}
@@ -17,12 +15,11 @@ use Rattle.aag_design.specs.declared.fault.AagFault.{AagFault}
 use Rattle.aag_design.specs.declared.fault.AagFault.TheVariants.{Line, Doubled, Undefined, Loop, TooLarge, Memory}
 use Rattle.aag_design.specs.declared.file.CountedDesign.{CountedDesign}
 use Rattle.aag_design.specs.Counts.{counts_of}
-use Rattle.aag_design.specs.Private.Drafting.{plain_draft, plain_marks, number_behind, IsTurnedFrom, IsGraph, IsSound, IsLoopOf}
+use Rattle.aag_design.specs.Private.Drafting.{IsGraph, IsSound, IsLoopOf}
 use Rattle.aag_design.specs.Private.Small.{is_small}
 use Rattle.aag_design.specs.Read.{design_text, IsGraphOf, IsDesignOf, IsFaultOf, IsReadCounted}
 use Rattle.aag_design.specs.Loop.{IsLoop, HasNoLoop}
-use Rattle.aag_design.specs.Same.{DoesTheSame}
-use Rattle.aag_design.proofs.Bounds.{few_entries, variables_are, inputs_distinct, outputs_distinct, reads_few}
+use Rattle.aag_design.proofs.Bounds.{few_entries, variables_are}
 use Rattle.aag_design.proofs.Designs.{same_meaning, are_free_marks}
 
 -- a file's graph is sound

@@ -1,12 +1,12 @@
 -- Loops of gates, and loops of tables.
-use Rattle.std.proofs.Common.{◌≡◌, ◌≢◌, ℕ, zero, suc, ◌+◌, ◌-◌, ◌<◌, ◌≤◌, ◌⊎◌, inl, inr, Bool, true, false, List, [], ◌∷◌, ◌++◌, length, map, get_or, slice_get, Option, Some, None, refl, sym, ap, ◌∙◌, subst, arith}
-use Rattle.std.specs.Prelude.{slice_index, Contains, nat_eq, if◌then◌else◌}
+use Rattle.std.proofs.Common.{◌≡◌, ℕ, zero, suc, ◌+◌, ◌-◌, ◌<◌, ◌≤◌, ◌⊎◌, inl, inr, List, [], ◌∷◌, length, get_or, slice_get, Option, Some, None, refl, sym, ap, ◌∙◌, subst, arith}
+use Rattle.std.specs.Prelude.{slice_index, Contains}
 use Rattle.std.proofs.lemmas.Bool.{cases_lt}
 use Rattle.std.proofs.lemmas.List.{get_or_default}
 use Rattle.std.proofs.lemmas.Option.{slice_get_within, get_or_from_slice_get, slice_get-get_or}
-use Rattle.flat_net.specs.Net.{Net, Node, Table, Register, node_of, name_of, net_names, net_count, table_pins, IsTable, IsOrder, IsValid}
-use Rattle.flat_net.specs.Loop.{ReadsTable, IsLoop as IsTableLoop}
-use Rattle.flat_net.specs.Faults.{number_in, node_of_element, draft_names, net_of_draft}
+use Rattle.flat_net.specs.Net.{Net, Node, Table, Register, node_of, name_of, net_count, table_pins, IsTable, IsOrder}
+use Rattle.flat_net.specs.Loop.{ReadsTable}
+use Rattle.flat_net.specs.Faults.{number_in, node_of_element, draft_names}
 use Rattle.flat_net.proofs.Ranges.{table_within}
 use Rattle.flat_net.proofs.Sound.{names_of_draft}
 use Rattle.flat_net.specs.Private.ByPlace.{IsOrderByPlace}
@@ -17,9 +17,9 @@ use Rattle.aag_text.specs.declared.aig.Gate.{Gate}
 use Rattle.aag_text.specs.Aig.{PlainAig, positive}
 use Rattle.aag_text.specs.Variables.{IsDefinedOnce, IsDefined}
 use Rattle.aag_design.specs.Draft.{numbered, net_name}
-use Rattle.aag_design.specs.Private.Drafting.{plain_draft, plain_marks}
+use Rattle.aag_design.specs.Private.Drafting.{plain_draft}
 use Rattle.aag_design.specs.Loop.{ReadsGate, IsLoop}
-use Rattle.aag_design.proofs.Places.{some_is, node_total, IsPlace, AtZero, AtLatch, AtGate, AtNext, AtOutput, place_of}
+use Rattle.aag_design.proofs.Places.{some_is, IsPlace, AtZero, AtLatch, AtGate, AtNext, AtOutput, place_of}
 use Rattle.aag_design.proofs.Nets.{element, node_at, node_name, input_at, count_is, AreApart, number_is}
 use Rattle.aag_design.proofs.Known.{AreVariables, IsKnown, IsNetOf, gate_net, known_net, next_known, output_known, left_known, right_known, defined_gate}
 use Rattle.aag_design.proofs.Values.{names, design}

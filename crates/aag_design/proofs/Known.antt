@@ -1,5 +1,5 @@
 -- The net of each variable.
-use Rattle.std.proofs.Common.{◌≡◌, ℕ, zero, suc, ◌+◌, ◌-◌, ◌<◌, ◌≤◌, ◌⊎◌, inl, inr, Bool, true, false, List, [], ◌∷◌, ◌++◌, length, map, take, drop, get_or, slice_get, Option, Some, None, refl, sym, ap, ◌∙◌, subst, arith, ltb}
+use Rattle.std.proofs.Common.{◌≡◌, ℕ, zero, suc, ◌+◌, ◌-◌, ◌<◌, ◌≤◌, ◌⊎◌, inl, inr, true, false, List, [], ◌∷◌, ◌++◌, length, map, take, drop, get_or, slice_get, Option, Some, None, refl, sym, ap, ◌∙◌, subst, arith, ltb}
 use Rattle.std.specs.Prelude.{nat_eq, not, ◌||◌, position, Contains, codes}
 use Rattle.std.specs.Option.{unwrap_or}
 use Rattle.std.specs.List.{list_any, flat_map, position_or_len}
@@ -22,9 +22,9 @@ use Rattle.aag_text.specs.declared.aig.Gate.{Gate}
 use Rattle.aag_text.specs.Aig.{PlainAig, positive}
 use Rattle.aag_text.specs.Variables.{defined, is_among, read_variables, IsDefinedOnce, IsDefined}
 use Rattle.aag_design.specs.Draft.{numbered, placed_name, net_name}
-use Rattle.aag_design.specs.Private.Drafting.{plain_draft, plain_marks}
+use Rattle.aag_design.specs.Private.Drafting.{plain_draft}
 use Rattle.aag_design.specs.Same.{net_literals}
-use Rattle.aag_design.proofs.Places.{some_is, get_left, get_right, map_get, IsPlace, AtZero, AtLatch, AtGate}
+use Rattle.aag_design.proofs.Places.{some_is, get_left, get_right, map_get, AtZero, AtLatch, AtGate}
 use Rattle.aag_design.proofs.Nets.{input_name, node_name, input_literal, literal_get}
 
 -- ---- numbers in lists

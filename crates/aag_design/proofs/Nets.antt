@@ -1,14 +1,12 @@
 -- The nets of a graph's design, by number.
-use Rattle.std.proofs.Common.{◌≡◌, ℕ, zero, suc, ◌+◌, ◌-◌, ◌<◌, ◌≤◌, ◌⊎◌, inl, inr, Bool, true, false, List, [], ◌∷◌, ◌++◌, length, map, get_or, slice_get, Option, Some, None, refl, sym, ap, ◌∙◌, subst, arith, length-append}
-use Rattle.std.specs.Prelude.{filter, not, Contains}
+use Rattle.std.proofs.Common.{◌≡◌, ℕ, zero, suc, ◌+◌, ◌-◌, ◌<◌, true, List, [], ◌∷◌, ◌++◌, length, map, get_or, slice_get, Option, Some, None, refl, sym, ap, ◌∙◌, subst, arith, length-append}
+use Rattle.std.specs.Prelude.{filter, not}
 use Rattle.std.specs.Str.{bytes_eq}
-use Rattle.std.specs.Option.{option_map}
 use Rattle.std.specs.List.{list_any}
-use Rattle.std.proofs.lemmas.Bool.{cases_lt}
 use Rattle.std.proofs.lemmas.List.{length-map}
 use Rattle.std.proofs.lemmas.List.Folds.{list_any-from_Any}
-use Rattle.std.proofs.lemmas.Option.{slice_get-map, slice_get_within, get_or_from_slice_get}
-use Rattle.flat_net.specs.Net.{Node, Net, node_of, net_count}
+use Rattle.std.proofs.lemmas.Option.{slice_get_within, get_or_from_slice_get}
+use Rattle.flat_net.specs.Net.{node_of, net_count}
 use Rattle.flat_net.specs.Draft.{Element, TableOf, LatchOf, out_of}
 use Rattle.flat_net.specs.Faults.{is_among, number_in, node_of_element, net_inputs, draft_names, clock_of, clock_from, first_control, is_clock, net_of_draft}
 use Rattle.flat_net.proofs.Names.{eq_true}
@@ -18,8 +16,8 @@ use Rattle.aag_text.specs.declared.aig.Literal.{Literal}
 use Rattle.aag_text.specs.declared.aig.Latch.{Latch}
 use Rattle.aag_text.specs.declared.aig.Gate.{Gate}
 use Rattle.aag_text.specs.Aig.{PlainAig, positive}
-use Rattle.aag_design.specs.Draft.{map_from, each_node, numbered, table_of, zero_element, latch_element, gate_element, literal_element, aig_elements}
-use Rattle.aag_design.specs.Private.Drafting.{plain_draft, plain_marks}
+use Rattle.aag_design.specs.Draft.{map_from, each_node, numbered, zero_element, latch_element, gate_element, literal_element, aig_elements}
+use Rattle.aag_design.specs.Private.Drafting.{plain_draft}
 use Rattle.aag_design.specs.Same.{net_literals}
 use Rattle.aag_design.proofs.Places.{some_is, get_left, get_right, map_from_first, map_get, length-map_from, node_total, IsPlace, AtZero, AtLatch, AtGate, AtNext, AtOutput, place_of, entry, each_get, each_length}
 

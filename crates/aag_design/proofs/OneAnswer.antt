@@ -1,6 +1,5 @@
 -- A file gives a design or has a first fault, and not both.
 use Rattle.std.proofs.Common.{◌≡◌, ◌≢◌, ℕ, ◌<◌, ◌≤◌, List, length, subst, refl, sym, arith}
-use Rattle.flat_net.specs.First.{IsFirst}
 use Rattle.flat_net.specs.Free.{FreeDesign}
 use Rattle.aag_text.specs.Aig.{PlainAig}
 use Rattle.aag_text.specs.Lines.{IsFile}
@@ -8,7 +7,7 @@ use Rattle.aag_text.specs.Variables.{defined, is_among, is_undefined, read_varia
 use Rattle.aag_reader.proofs.OneFile.{one_file, file_or_bad, none_or_first}
 use Rattle.aag_design.specs.declared.fault.AagFault.{AagFault}
 use Rattle.aag_design.specs.declared.fault.AagFault.TheVariants.{Line, Doubled, Undefined, Loop, TooLarge, Memory}
-use Rattle.aag_design.specs.Loop.{IsLoop, HasNoLoop}
+use Rattle.aag_design.specs.Loop.{IsLoop}
 use Rattle.aag_design.specs.Read.{design_text, IsFaultOf, IsReadAs}
 
 small_or_large : (limit : ℕ) (text : List ℕ) → length text ≤ limit → limit < length text → ⊥

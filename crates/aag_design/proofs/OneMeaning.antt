@@ -1,7 +1,6 @@
 -- A graph's design does the same as the graph.
-use Rattle.std.proofs.Common.{◌≡◌, ℕ, zero, suc, ◌+◌, ◌-◌, ◌<◌, ◌≤◌, ◌⊎◌, inl, inr, Bool, true, false, List, [], ◌∷◌, ◌++◌, length, map, get_or, slice_get, Option, Some, None, refl, sym, ap, ◌∙◌, subst, arith}
-use Rattle.std.specs.Prelude.{nat_eq, ◌&&◌, slice_index, if◌then◌else◌}
-use Rattle.std.specs.Option.{unwrap_or}
+use Rattle.std.proofs.Common.{◌≡◌, ℕ, zero, suc, ◌+◌, ◌-◌, ◌<◌, ◌≤◌, ◌⊎◌, inl, inr, Bool, false, List, [], length, map, get_or, slice_get, Option, Some, refl, sym, ap, ◌∙◌, subst, arith}
+use Rattle.std.specs.Prelude.{nat_eq, slice_index, if◌then◌else◌}
 use Rattle.std.specs.List.{range_with_len}
 use Rattle.std.proofs.lemmas.Bool.{cases_lt, ne_eqb}
 use Rattle.std.proofs.lemmas.List.{length-map}
@@ -12,21 +11,21 @@ use Rattle.flat_net.proofs.Sound.{names_of_draft, count_of_draft}
 use Rattle.flat_net.specs.Net.{Net, Node, Register, net_count, node_of, IsValid}
 use Rattle.flat_net.specs.Free.{FreeDesign}
 use Rattle.flat_net.specs.Faults.{number_in, node_of_element, draft_names, net_of_draft}
-use Rattle.net_meaning.specs.Meaning.{bit, row_at, row_before, value_at, start_at, node_value, net_value, AreRows, IsFreeTrace, IsScheduleOf, HasOneTrace}
+use Rattle.net_meaning.specs.Meaning.{bit, row_at, row_before, value_at, start_at, node_value, net_value, AreRows, IsFreeTrace, HasOneTrace}
 use Rattle.net_meaning.proofs.OneTrace.{one_trace}
 use Rattle.aag_text.specs.declared.aig.Literal.{Literal}
 use Rattle.aag_text.specs.declared.aig.Latch.{Latch}
 use Rattle.aag_text.specs.declared.aig.Gate.{Gate}
-use Rattle.aag_text.specs.Aig.{PlainAig, literal_value, IsMet, positive}
-use Rattle.aag_text.specs.Traces.{start_value, latch_value, IsAigTrace}
+use Rattle.aag_text.specs.Aig.{PlainAig, literal_value, positive}
+use Rattle.aag_text.specs.Traces.{latch_value, IsAigTrace}
 use Rattle.aag_text.specs.Same.{latch_bits}
 use Rattle.aag_text.specs.Variables.{IsDefinedOnce, IsDefined}
 use Rattle.aag_design.specs.Draft.{numbered, net_name, starts_with_1}
 use Rattle.aag_design.specs.Private.Drafting.{plain_draft, plain_marks}
 use Rattle.aag_design.specs.Same.{net_literals, DoesTheSame}
 use Rattle.aag_design.proofs.Places.{map_get, node_total, IsPlace, AtZero, AtLatch, AtGate, AtNext, AtOutput, place_of}
-use Rattle.aag_design.proofs.Nets.{element, node_at, node_name, input_at, count_is, input_count, literals_long, literal_get, input_literal, node_literal, AreApart, number_is}
-use Rattle.aag_design.proofs.Known.{AreVariables, IsKnown, IsNetOf, zero_net, input_net, latch_net, gate_net, known_net, next_known, output_known, left_known, right_known, defined_input, defined_latch, defined_gate}
+use Rattle.aag_design.proofs.Nets.{element, node_at, node_name, input_at, count_is, literals_long, literal_get, input_literal, node_literal, AreApart, number_is}
+use Rattle.aag_design.proofs.Known.{AreVariables, IsNetOf, zero_net, input_net, latch_net, gate_net, known_net, next_known, output_known, left_known, right_known, defined_input, defined_latch, defined_gate}
 use Rattle.aag_design.proofs.Values.{names, design, pin_bit, PinsAgree, literal_agrees, gate_agrees, no_value, start_same}
 
 -- the names of a valid design stand apart

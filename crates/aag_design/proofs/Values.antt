@@ -1,34 +1,28 @@
 -- The values of a design's nets and those of its graph's literals.
-use Rattle.std.proofs.Common.{◌≡◌, ℕ, zero, suc, ◌+◌, ◌-◌, ◌<◌, ◌≤◌, ◌⊎◌, inl, inr, Bool, true, false, List, [], ◌∷◌, ◌++◌, length, map, get_or, slice_get, Option, Some, None, refl, sym, ap, ◌∙◌, subst, arith}
-use Rattle.std.specs.Prelude.{nat_eq, not, ◌&&◌, slice_index, if◌then◌else◌}
+use Rattle.std.proofs.Common.{◌≡◌, ℕ, zero, suc, ◌+◌, ◌-◌, Bool, true, false, List, [], ◌∷◌, ◌++◌, length, map, get_or, slice_get, Option, Some, None, refl, sym, ap, ◌∙◌, arith}
+use Rattle.std.specs.Prelude.{not, ◌&&◌, if◌then◌else◌}
 use Rattle.std.specs.Option.{unwrap_or}
-use Rattle.std.specs.List.{range_with_len}
-use Rattle.std.proofs.lemmas.Bool.{cases_lt}
-use Rattle.std.proofs.lemmas.List.{length-map}
-use Rattle.std.proofs.lemmas.List.FromFn.{length-map-range_with_len, get_or-map-range_with_len}
-use Rattle.std.proofs.lemmas.Option.{slice_get_within, get_or_from_slice_get}
-use Rattle.flat_net.proofs.Slots.{slot_at, slice_get_there}
+use Rattle.std.proofs.lemmas.Option.{get_or_from_slice_get}
+use Rattle.flat_net.proofs.Slots.{slot_at}
 use Rattle.table_cover.specs.Cover.{cover_value}
-use Rattle.flat_net.specs.Net.{Net, Node, Table, Register, net_count, node_of}
+use Rattle.flat_net.specs.Net.{Net, node_of}
 use Rattle.flat_net.specs.Free.{node_bit}
-use Rattle.flat_net.specs.Draft.{Element, TableOf, LatchOf}
+use Rattle.flat_net.specs.Draft.{Element}
 use Rattle.flat_net.specs.Faults.{number_in, node_of_element, net_inputs, draft_names, net_of_draft}
-use Rattle.net_meaning.specs.Meaning.{bit, row_at, row_before, value_at, start_at, node_value, net_value, AreRows, IsFreeTrace}
+use Rattle.net_meaning.specs.Meaning.{bit, start_at}
 use Rattle.aag_text.specs.declared.aig.Literal.{Literal}
 use Rattle.aag_text.specs.declared.aig.Latch.{Latch}
 use Rattle.aag_text.specs.declared.aig.Gate.{Gate}
 use Rattle.aag_text.specs.declared.aig.Start.{Start}
 use Rattle.aag_text.specs.declared.aig.Start.TheVariants.{Zero, One, Free}
-use Rattle.aag_text.specs.Aig.{PlainAig, literal_value, IsMet, positive}
-use Rattle.aag_text.specs.Traces.{start_value, latch_value, IsAigTrace}
+use Rattle.aag_text.specs.Aig.{PlainAig, literal_value}
+use Rattle.aag_text.specs.Traces.{start_value}
 use Rattle.aag_text.specs.Same.{registers, registers_from, latch_bits}
-use Rattle.aag_text.specs.Variables.{IsDefinedOnce, IsDefined}
-use Rattle.aag_design.specs.Draft.{map_from, mark_of, literals_cover, latch_element, gate_element, literal_element, net_name, starts_with_1, starts_free}
+use Rattle.aag_design.specs.Draft.{map_from, literals_cover, latch_element, gate_element, literal_element, net_name, starts_with_1, starts_free}
 use Rattle.aag_design.specs.Private.Drafting.{plain_draft, plain_marks}
-use Rattle.aag_design.specs.Same.{net_literals}
-use Rattle.aag_design.proofs.Places.{map_get, node_total, IsPlace, AtZero, AtLatch, AtGate, AtNext, AtOutput, place_of, entry, each_get}
-use Rattle.aag_design.proofs.Nets.{input_count, element, node_at, input_at, count_is, literals_long, literal_get, input_literal, node_literal, AreApart, number_is}
-use Rattle.aag_design.proofs.Known.{AreVariables, IsKnown, IsNetOf, zero_net, input_net, latch_net, gate_net, known_net, next_known, output_known, left_known, right_known}
+use Rattle.aag_design.proofs.Places.{map_get, IsPlace, AtLatch, entry, each_get}
+use Rattle.aag_design.proofs.Nets.{input_count, element}
+use Rattle.aag_design.proofs.Known.{IsKnown}
 
 -- ---- tables of one row
 

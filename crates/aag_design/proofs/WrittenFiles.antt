@@ -1,6 +1,6 @@
 -- The file of a design has no fault but its size.
-use Rattle.std.proofs.Common.{◌≡◌, ℕ, zero, suc, ◌+◌, ◌-◌, ◌<◌, ◌≤◌, ◌⊎◌, inl, inr, List, [], ◌∷◌, length, refl, sym, ap, subst, arith}
-use Rattle.std.specs.Prelude.{All, Contains, slice_index}
+use Rattle.std.proofs.Common.{◌≡◌, ℕ, ◌-◌, ◌<◌, ◌≤◌, ◌⊎◌, inl, inr, List, length, sym, ap, subst, arith}
+use Rattle.std.specs.Prelude.{All, slice_index}
 use Rattle.std.proofs.lemmas.Bool.{cases_lt}
 use Rattle.flat_net.specs.Free.{FreeDesign}
 use Rattle.aag_text.specs.declared.aig.Gate.{Gate}
@@ -12,7 +12,7 @@ use Rattle.aag_reader.proofs.OneFile.{one_file, file_or_bad, none_or_first}
 use Rattle.aag_design.specs.declared.fault.AagFault.{AagFault}
 use Rattle.aag_design.specs.declared.fault.AagFault.TheVariants.{Line, Doubled, Undefined, Loop, TooLarge, Memory}
 use Rattle.aag_design.specs.Loop.{ReadsGate, IsLoop, HasNoLoop}
-use Rattle.aag_design.specs.Read.{IsFaultOf, IsReadAs}
+use Rattle.aag_design.specs.Read.{IsFaultOf}
 use Rattle.aag_design.specs.ReadBack.{IsOfSize, IsReadBack}
 use Rattle.aag_design.proofs.GateLoops.{two_in}
 

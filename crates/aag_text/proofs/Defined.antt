@@ -1,5 +1,5 @@
 -- The variables that the graph of a design defines, and those that it reads.
-use Rattle.std.proofs.Common.{◌≡◌, ◌≢◌, ℕ, zero, suc, ◌+◌, ◌-◌, ◌<◌, ◌≤◌, ◌⊎◌, inl, inr, Bool, true, false, List, [], ◌∷◌, ◌++◌, length, map, get_or, slice_get, Some, refl, sym, ◌∙◌, ap, subst, arith, length-append}
+use Rattle.std.proofs.Common.{◌≡◌, ◌≢◌, ℕ, zero, suc, ◌+◌, ◌-◌, ◌<◌, ◌≤◌, ◌⊎◌, inl, inr, Bool, true, false, List, [], ◌∷◌, ◌++◌, length, map, slice_get, Some, refl, sym, ◌∙◌, ap, subst, arith, length-append}
 use Rattle.std.specs.Prelude.{All, not, ◌||◌, nat_eq}
 use Rattle.std.specs.List.{range_with_len, flat_map}
 use Rattle.std.proofs.lemmas.Bool.{ne_eqb, eq-eqb}
@@ -14,12 +14,12 @@ use Rattle.aag_text.specs.declared.aig.Literal.{Literal}
 use Rattle.aag_text.specs.declared.aig.Latch.{Latch}
 use Rattle.aag_text.specs.declared.aig.Gate.{Gate}
 use Rattle.aag_text.specs.Aig.{PlainAig, ReadsLesser, IsGreaterFirst}
-use Rattle.aag_text.specs.Variables.{defined, is_among, read_variables, is_undefined, IsDefinedOnce, IsDefined}
+use Rattle.aag_text.specs.Variables.{defined, is_among, read_variables, is_undefined}
 use Rattle.aag_text.specs.Written.{IsWellDefined}
-use Rattle.aag_text.specs.Private.Gates.{next_of, AreStacked}
+use Rattle.aag_text.specs.Private.Gates.{AreStacked}
 use Rattle.aag_text.specs.Private.Nets.{IsMadeGraph}
 use Rattle.aag_text.proofs.Exist.{latch_numbered}
-use Rattle.aag_text.proofs.Spelling.{IsWithin, AreLatches, AreLiterals, AreGates}
+use Rattle.aag_text.proofs.Spelling.{AreLatches, AreLiterals, AreGates}
 use Rattle.aag_text.proofs.Within.{within, top, input_count}
 
 -- ---- variables in order

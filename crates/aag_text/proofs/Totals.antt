@@ -1,11 +1,10 @@
 -- A sum over an order is the sum over the nodes.
-use Rattle.std.proofs.Common.{◌≡◌, ◌≢◌, ℕ, zero, suc, ◌+◌, ◌-◌, ◌<◌, ◌≤◌, ◌⊎◌, inl, inr, false, List, [], ◌∷◌, length, drop, get_or, set, slice_get, Option, Some, None, refl, sym, ◌∙◌, ap, subst, arith}
+use Rattle.std.proofs.Common.{◌≡◌, ◌≢◌, ℕ, zero, suc, ◌+◌, ◌-◌, ◌<◌, ◌≤◌, ◌⊎◌, inl, inr, false, List, [], ◌∷◌, length, drop, get_or, set, slice_get, Option, Some, refl, sym, ◌∙◌, ap, subst, arith}
 use Rattle.std.specs.Prelude.{sum_by}
 use Rattle.std.proofs.lemmas.List.{get_or-set_other, get_or-set_same, length-set, nil_from_length, length-drop}
 use Rattle.std.proofs.lemmas.List.Sums.{sum_by-set, sum_by-cons}
-use Rattle.flat_net.specs.Net.{Net, Node, Register, node_of, net_count, IsOrder}
+use Rattle.flat_net.specs.Net.{Net, Node, Register, node_of, IsOrder}
 use Rattle.flat_net.proofs.ByPlace.{by_place}
-use Rattle.flat_net.proofs.Orders.{length-order}
 use Rattle.blif_writer.proofs.NodeLines.{node_at}
 
 unfoldable pub no_node : Node

@@ -1,6 +1,5 @@
 -- What the search cuts where registers read themselves is the cut at registers.
-use Rattle.std.proofs.Common.{◌≡◌, ◌≢◌, ℕ, ◌<◌, ◌≤◌, ◌⊎◌, ◌&&◌, ◌==◌, Bool, true, false, List, [], length, get_or, map, refl, sym, ◌∙◌, ap, subst, inl, inr, arith}
-use Rattle.std.specs.Prelude.{nat_lt}
+use Rattle.std.proofs.Common.{◌≡◌, ◌≢◌, ℕ, ◌<◌, ◌≤◌, ◌⊎◌, Bool, true, false, List, [], length, get_or, map, refl, sym, ◌∙◌, ap, subst, inl, inr, arith}
 use Rattle.std.specs.List.{range_with_len}
 use Rattle.std.proofs.lemmas.Bool.{cases_eq, cases_lt}
 use Rattle.std.proofs.lemmas.Bool.Decides.{nat_tests}
@@ -14,10 +13,10 @@ use Rattle.graph.specs.Search.{Kept, IsSearched}
 use Rattle.graph.proofs.Places.{leads_map}
 use Rattle.graph.proofs.Decisions.{no_absurd}
 use Rattle.graph.proofs.Orders.{open_ended}
-use Rattle.feedback_cut.specs.Inner.{node_pins, ReadsInside, inner_rows}
+use Rattle.feedback_cut.specs.Inner.{ReadsInside, inner_rows}
 use Rattle.feedback_cut.specs.Registers.{is_register_at}
 use Rattle.feedback_cut.specs.Components.{ReadsNode, PlainGroups, AreComponents, AreJoined}
-use Rattle.feedback_cut.specs.Cut.{is_cut, ReadsUncut, LeadsUncut, CutsLoops, ClosesRegister, CutsRegisters, OrdersUncut}
+use Rattle.feedback_cut.specs.Cut.{is_cut, ReadsUncut, LeadsUncut, ClosesRegister, CutsRegisters, OrdersUncut}
 use Rattle.feedback_cut.specs.Private.SelfReads.{self_read, self_row, self_rows}
 use Rattle.feedback_cut.proofs.InnerLaws.{inner_long, inner_pins, read_from, read_to}
 use Rattle.feedback_cut.proofs.CutLaws.{cut_within}

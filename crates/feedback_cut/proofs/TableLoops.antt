@@ -1,8 +1,8 @@
 -- Each loop of reads inside a partition goes through a register.
-use Rattle.std.proofs.Common.{◌≡◌, ℕ, zero, suc, ◌+◌, ◌<◌, ◌≤◌, Bool, true, false, List, [], length, get_or, refl, sym, ◌∙◌, ap, subst, arith}
+use Rattle.std.proofs.Common.{◌≡◌, ℕ, zero, suc, ◌+◌, ◌<◌, Bool, true, false, List, [], length, get_or, refl, sym, ◌∙◌, ap, subst, arith}
 use Rattle.std.specs.Prelude.{Option, Some, None}
 use Rattle.tmr_base.specs.Parts.{PlainParts}
-use Rattle.flat_net.specs.Net.{Net, Node, Table, Register, node_of, net_count, pins_at, table_pins, IsTable, IsOrder, IsValid}
+use Rattle.flat_net.specs.Net.{Net, Node, Table, Register, node_of, pins_at, table_pins, IsTable, IsOrder, IsValid}
 use Rattle.flat_net.specs.Private.ByPlace.{IsOrderByPlace}
 use Rattle.flat_net.proofs.ByPlace.{by_place}
 use Rattle.flat_net.proofs.Slots.{slot_there}

@@ -42,7 +42,8 @@ HardenedTextsAreShort n = (h : Net) (k : PlainCert) → IsHardenedFrom n h k →
 
 -- so they keep their limit where the flat text of the original keeps its own, with the usual limits and with the large ones
 abbrev pub HardenedTextsKeepLimits : Net → Type 0
-HardenedTextsKeepLimits n = (l : Limits) (h : Net) (k : PlainCert) (f : List Bool) → IsHardenedFrom n h k → length (free_text n f) ≤ most_original l → KeepLimits l n h k
+HardenedTextsKeepLimits n =
+    (l : Limits) (h : Net) (k : PlainCert) (f : List Bool) → IsHardenedFrom n h k → length (free_text n f) ≤ most_original l → KeepLimits l n h k
 
 -- a design that a library is flattened to within a limit has a flat text within it
 abbrev pub FlatTextKeepsLimit : Net → Type 0

@@ -1,7 +1,7 @@
 //! How large files may be.
 //!
 //! There are two sets of limits: the usual one, and the large one, which the word `--large` asks for. specs/Most has all their numbers, and
-//! no other crate states one of them.
+//! no contract of another crate states one of them.
 #![tactic(auto)]
 
 ghost use Rattle.std.specs.Prelude.{◌≡◌, ◌≤◌};

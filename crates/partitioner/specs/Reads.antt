@@ -1,5 +1,5 @@
 -- What partitioning looks up of a design.
-use Rattle.std.specs.Prelude.{◌≡◌, ℕ, ◌<◌, List, [], Option, Some, length, slice_index_or, IsPermutation}
+use Rattle.std.specs.Prelude.{◌≡◌, ℕ, ◌<◌, [], Option, Some, length, slice_index_or, IsPermutation}
 use Rattle.flat_net.specs.Net.{Net}
 use Rattle.node_reads.specs.Sources.{AreOtherReaders, other_sources, wide_sources}
 use Rattle.partitioner.specs.declared.reading.Sources.{Sources}

@@ -10,14 +10,14 @@ use Rattle.std.proofs.Math.Seq.{take-suc}
 use Rattle.tmr_base.specs.declared.copies.CopyNo.{CopyNo}
 use Rattle.tmr_base.specs.declared.ids.NetId.{NetId}
 use Rattle.flat_net.specs.Net.{Net, net_count}
-use Rattle.flat_net.specs.Free.{node_bit, AreMarks}
+use Rattle.flat_net.specs.Free.{node_bit}
 use Rattle.flat_net.proofs.Slots.{slot_at, slot_below}
 use Rattle.net_meaning.specs.Meaning.{start_at}
 use Rattle.certificate.specs.declared.role.Role.{Role}
 use Rattle.certificate.specs.declared.role.Role.TheVariants.{Copy}
 use Rattle.certificate.specs.Cert.{PlainCert, RoleIsInRange, role_of}
 use Rattle.certificate.specs.Starts.{role_start}
-use Rattle.schedule_replay.specs.Starts.{forced_to, placed_starts, or_else, MarksRegisters}
+use Rattle.schedule_replay.specs.Starts.{forced_to, placed_starts, or_else}
 use Rattle.schedule_replay.proofs.Taking.{or_none, forced_to-append}
 
 -- the bit of node i

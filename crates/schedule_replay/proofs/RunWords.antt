@@ -1,6 +1,6 @@
 -- Words of which one run has its bit.
 use Rattle.std.proofs.Common.{◌≡◌, ◌≢◌, ℕ, ◌*◌, ◌<◌, ◌/◌, ◌%◌, ◌^◌, ◌⊎◌, inl, inr, sym, ◌∙◌, ap, refl, arith}
-use Rattle.std.specs.Prelude.{nat_eq, bit_or, Bool, ◌&&◌, ◌||◌}
+use Rattle.std.specs.Prelude.{nat_eq, bit_or}
 use Rattle.std.specs.Int.{bit_at}
 use Rattle.std.proofs.lemmas.Bool.{eq-eqb, ne_eqb}
 use Rattle.std.proofs.lemmas.Nat.Bits.{bit_at-pow_same, bit_at-pow_other}

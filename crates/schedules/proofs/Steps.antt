@@ -1,5 +1,5 @@
 -- Entries that are read one after the other, and all entries together.
-use Rattle.std.proofs.Common.{◌≡◌, ℕ, suc, ◌+◌, Bool, true, false, cond, not, ◌||◌, List, [], ◌∷◌, ◌++◌, length, map, take, filter_map, zip, Option, Some, None, Result, Ok, Err, refl, sym, ◌∙◌, ap, subst, arith, append_assoc, append-nil, length-append, option_map, option_and_then}
+use Rattle.std.proofs.Common.{◌≡◌, ℕ, ◌+◌, Bool, true, false, cond, not, List, [], ◌∷◌, ◌++◌, length, map, take, filter_map, zip, Option, Some, None, Result, Ok, Err, refl, sym, ◌∙◌, ap, append_assoc, append-nil, length-append, option_map, option_and_then}
 use Rattle.std.specs.Prelude.{nat_lt}
 use Rattle.std.specs.List.{range_with_len}
 use Rattle.std.proofs.Math.Seq.{take-append_seam}
@@ -9,7 +9,7 @@ use Rattle.flat_net.specs.Net.{Net}
 use Rattle.toml.specs.Data.{Data}
 use Rattle.schedules.specs.declared.fault.ScheduleFault.{ScheduleFault}
 use Rattle.schedules.specs.declared.fault.ScheduleFault.TheVariants as fault
-use Rattle.schedules.specs.Document.{Entry, and_then, all_or_fault, is_listed, placed, known, struck_named, upset_of, upset_in, named_upset, entry_of, numbered_upset, listed_upsets, row_of, row_or_fault, numbered_row, listed_rows}
+use Rattle.schedules.specs.Document.{Entry, and_then, all_or_fault, is_listed, known, struck_named, upset_of, upset_in, named_upset, entry_of, numbered_upset, listed_upsets, row_of, row_or_fault, numbered_row, listed_rows}
 use Rattle.schedules.specs.Private.Reading.{rows_from, upsets_from}
 
 -- what was read before stands in front

@@ -9,5 +9,5 @@ bytes_in (Long bytes) = bytes.items
 
 -- no more of them stand in the value than there is room
 abbrev pub IsWithin : Form → Type 0
-IsWithin (Short length room) = length ≤ 31
+IsWithin (Short length room) = length ≤ 30
 IsWithin (Long bytes) = Unit {0}

@@ -20,7 +20,7 @@ use std::hash::{Hash, Hasher};
 use std::marker::Model;
 
 /// One or more bytes above 0x20, none of them 0x7F or `#`, of which the last is no backslash.
-/// Names are equal and ordered as their bytes. Up to 31 bytes stand in the value itself; only a longer name takes memory of its own.
+/// Names are equal and ordered as their bytes. Up to 30 bytes stand in the value itself; only a longer name takes memory of its own.
 #[derive(Debug, Drop)]
 pub struct Name {
     bytes: NameBytes,

@@ -6,7 +6,7 @@ use std::alloc::Global;
 use std::marker::Model;
 
 /// How many bytes stand in the value itself.
-const INLINE: usize = 31;
+const INLINE: usize = 30;
 
 /// Where the bytes stand.
 #[derive(Debug, Drop)]
@@ -15,7 +15,7 @@ enum Form {
     Long(Vec<u8>),
 }
 
-/// Bytes. Up to 31 stand in the value itself; only more take memory of their own.
+/// Bytes. Up to 30 stand in the value itself; only more take memory of their own.
 #[derive(Debug, Drop)]
 pub(crate) struct NameBytes {
     form: Form,
@@ -34,7 +34,7 @@ impl Model for NameBytes {
 
 /// Writes the bytes from `start` on.
 fn put(room: &mut [u8; INLINE], start: usize, bytes: &[u8])
-    requires { start + length bytes.now ≤ 31 }
+    requires { start + length bytes.now ≤ 30 }
     ensures { take (start + length bytes.now) room.new ≡ take start room.old ++ bytes.now }
 {
     room[start..start + bytes.len()].copy_from_slice(bytes);
@@ -42,7 +42,7 @@ fn put(room: &mut [u8; INLINE], start: usize, bytes: &[u8])
 
 /// The bytes of both parts, which fit in.
 fn short(first: &[u8], second: &[u8]) -> NameBytes
-    requires { length first.now + length second.now ≤ 31 }
+    requires { length first.now + length second.now ≤ 30 }
     ensures { result ≡ first.now ++ second.now }
 {
     let mut room = [0; INLINE];

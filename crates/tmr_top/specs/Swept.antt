@@ -1,5 +1,5 @@
 -- `sweep ORIG`: what it comes to. It saves nothing.
-use Rattle.std.specs.Prelude.{◌≡◌, ℕ, Bool, List, []}
+use Rattle.std.specs.Prelude.{◌≡◌, ℕ, List, []}
 use Rattle.flat_net.specs.Free.{FreeDesign}
 use Rattle.sweep.specs.Sweep.{IsSweepText}
 use Rattle.tmr_outside.specs.Contents.{Contents}

@@ -3,6 +3,7 @@ ghost use Rattle.std.specs.Prelude.{◌≡◌, ◌∷◌, [], IfOk};
 ghost use Rattle.tmr_top.specs.Private.Works.{IsDoneWith, IsDeniedWith};
 
 use crate::Status;
+use hardened_text::{CertificateText, DesignText};
 use std::alloc::Global;
 use tmr_base::OutOfMemory;
 
@@ -14,11 +15,19 @@ pub enum Verdict {
     Refused,
 }
 
+/// A text to be saved: one that is held whole, or one that is made piece by piece while it is saved.
+#[derive(Drop)]
+pub enum SavedText<'a> {
+    Whole(Vec<u8>),
+    Design(DesignText<'a>),
+    Certificate(CertificateText<'a>),
+}
+
 /// A text to be saved, and the name that it is saved under.
 #[derive(Drop)]
 pub struct Save<'a> {
     pub name: &'a str,
-    pub text: Vec<u8>,
+    pub text: SavedText<'a>,
 }
 
 /// What the work of a command gives, where its files are read: the verdict, the texts to be saved
@@ -58,7 +67,10 @@ pub fn saving<'a>(
     ensures { IfOk result (IsDoneWith (name.now ∷ []) (bytes.items ∷ []) text.items) }
 {
     let mut saves = Vec::new(alloc);
-    saves.push(Save { name, text: bytes })?;
+    saves.push(Save {
+        name,
+        text: SavedText::Whole(bytes),
+    })?;
     Ok(Work {
         verdict: Verdict::Done,
         saves,

@@ -1,5 +1,5 @@
 -- Start values and marks.
-use Rattle.std.proofs.Common.{◌≡◌, ℕ, ◌-◌, ◌<◌, zero, suc, Bool, true, false, nat_lt, nat_eq, List, [], length, map, refl, sym, ◌∙◌, ap, subst, slice_get, Option, Some, None}
+use Rattle.std.proofs.Common.{◌≡◌, ℕ, ◌-◌, zero, suc, Bool, true, false, nat_lt, nat_eq, List, [], length, map, refl, sym, ◌∙◌, ap, subst, slice_get, Option, Some, None}
 use Rattle.std.specs.Prelude.{if◌then◌else◌}
 use Rattle.std.specs.Option.{unwrap_or, option_map}
 use Rattle.std.proofs.lemmas.List.{length-map}

@@ -1,10 +1,8 @@
-use Rattle.std.proofs.Common.{◌≡◌, ◌∙◌, ℕ, List, map, sym, ap, subst}
-use Rattle.flat_net.specs.declared.fault.NetFault.{NetFault}
-use Rattle.flat_net.specs.Net.{Net, IsValid}
+use Rattle.std.proofs.Common.{◌∙◌, ℕ, List, map, sym, ap, subst}
+use Rattle.flat_net.specs.Net.{IsValid}
 use Rattle.flat_net.specs.Draft.{PlainDraft, AreDistinct}
 use Rattle.flat_net.specs.Faults.{net_of_draft, IsFaultless, IsFaultOf}
 use Rattle.aag_text.specs.Aig.{plain_aig}
-use Rattle.aag_design.specs.Draft.{aig_draft}
 use Rattle.aag_design.specs.Private.Drafting.{number_behind, IsTurnedFrom}
 use Rattle.aag_design.proofs.Designs.{inputs_apart, outputs_apart, no_gate_loop, loop_is}
 use Rattle.aag_design.proofs.design.design_of.Goals as goal

@@ -1,5 +1,4 @@
-use Rattle.std.proofs.Common.{get_or, refl, sym, ap, ◌∙◌, List, ℕ, ◌∷◌, [], ◌++◌}
-use Rattle.std.proofs.lemmas.Option.{slice_get-get_or}
+use Rattle.std.proofs.Common.{get_or, sym, ap, ◌∙◌, List, ℕ, ◌∷◌, [], ◌++◌}
 use Rattle.flat_net.proofs.Slots.{slice_get_there}
 use Rattle.std.proofs.lemmas.Option.{get_or_from_slice_get}
 use Rattle.aag_design.specs.Draft.{numbered}

@@ -1,4 +1,4 @@
-use Rattle.std.proofs.Common.{◌≡◌, ◌∙◌, ◌++◌, ℕ, List, Bool, false, length, map, replicate, ap}
+use Rattle.std.proofs.Common.{◌∙◌, ◌++◌, ℕ, List, false, length, map, replicate, ap}
 use Rattle.aag_text.specs.declared.aig.Latch.{Latch}
 use Rattle.aag_text.specs.Aig.{plain_aig}
 use Rattle.aag_design.specs.Draft.{starts_free}

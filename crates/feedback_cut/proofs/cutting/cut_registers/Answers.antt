@@ -1,5 +1,4 @@
-use Rattle.std.proofs.Common.{◌≡◌, List, ℕ, length, sym, ◌∙◌, ap, subst}
-use Rattle.std.proofs.lemmas.List.FromFn.{length-map-range_with_len}
+use Rattle.std.proofs.Common.{length, sym, ◌∙◌, ap, subst}
 use Rattle.graph.specs.Search.{IsSearched}
 use Rattle.feedback_cut.specs.Inner.{inner_rows}
 use Rattle.feedback_cut.specs.Private.SelfReads.{self_row, self_rows}

@@ -1,4 +1,4 @@
-use Rattle.std.proofs.Common.{ℕ, arith}
+use Rattle.std.proofs.Common.{arith}
 use Rattle.std.proofs.lemmas.List.{length-map}
 use Rattle.flat_net.specs.Nodes.{number_of}
 use Rattle.net_simulator.specs.Cycle.{forced_in}

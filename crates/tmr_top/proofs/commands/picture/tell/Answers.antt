@@ -1,4 +1,4 @@
-use Rattle.std.proofs.Common.{List, ℕ, [], ◌∷◌, refl, subst}
+use Rattle.std.proofs.Common.{refl, subst}
 use Rattle.flat_net.specs.Net.{Design}
 use Rattle.partition_graph.specs.Picture.{IsPicture}
 use Rattle.tmr_top.proofs.RoomLaws.{if_ok, done_over, denied_over}
