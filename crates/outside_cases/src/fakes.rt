@@ -1,4 +1,4 @@
-//! A reader and an output that fail in the middle, and a taker that only counts.
+//! A reader, an output and a giver that fail in the middle, and a taker that only counts.
 ghost use Rattle.std.specs.Prelude.{◌≡◌, ◌+◌, ◌<◌, ◌^◌, length};
 
 use crate::room::{load_fault, put_answer};
@@ -7,7 +7,7 @@ use std::cell::Cell;
 use std::fmt::Display;
 use std::io;
 use std::io::{ErrorKind, Read};
-use tmr_outside::{Counted, LONGEST_PIECE, Sink, StdSink, Taker, hand_out_within};
+use tmr_outside::{Counted, Giver, LONGEST_PIECE, Sink, StdSink, Taker, hand_out_within};
 
 /// Counts the bytes that it takes, and the pieces that are as long as a piece may be, and keeps none of them.
 #[derive(Drop)]
@@ -31,6 +31,63 @@ impl Taker for ByteCount {
         if piece.len() == LONGEST_PIECE {
             self.full = self.full.wrapping_add(1);
         }
+    }
+}
+
+/// Gives a text in pieces of `size` bytes, and an empty piece before each. After `fails_after` pieces there is no room for the next.
+#[derive(Drop)]
+pub struct CutText<'a> {
+    rest: &'a [u8],
+    piece: &'a [u8],
+    size: usize,
+    is_filled: bool,
+    fails_after: Option<u64>,
+}
+
+impl<'a> CutText<'a> {
+    /// Nothing is given yet.
+    pub fn new(text: &'a str, size: u64, fails_after: Option<u64>) -> CutText<'a> {
+        CutText {
+            rest: text.as_bytes(),
+            piece: b"",
+            size: size.min(100) as usize,
+            is_filled: true,
+            fails_after,
+        }
+    }
+}
+
+impl Giver for CutText<'_> {
+    ghost use Rattle.std.specs.Prelude.{length, cond, ◌+◌, ◌*◌};
+
+    ghost rest = { λ text. text.rest.now };
+
+    ghost piece = { λ text. text.piece.now };
+
+    ghost left = { λ text. 2 * length text.rest.now + cond text.is_filled 1 0 };
+
+    fn advance(&mut self) -> Result<bool, AllocError> {
+        if self.rest.is_empty() {
+            return Ok(false);
+        }
+        if self.fails_after == Some(0) {
+            return Err(AllocError);
+        }
+        self.fails_after = self.fails_after.map(|pieces| pieces.saturating_sub(1));
+        self.is_filled = !self.is_filled;
+        let count = if self.is_filled {
+            self.size.max(1).min(self.rest.len())
+        } else {
+            0
+        };
+        let (piece, rest) = self.rest.split_at(count);
+        self.piece = piece;
+        self.rest = rest;
+        Ok(true)
+    }
+
+    fn piece(&self) -> &[u8] {
+        self.piece
     }
 }
 

@@ -1,9 +1,9 @@
 //! Real files.
 use crate::fakes::ByteCount;
-use crate::room::{load_fault, save_answer};
+use crate::room::{load_fault, save_answer, shown};
 use std::alloc::{AllocError, Global};
 use std::rt;
-use tmr_outside::{DiskFiles, Files, LoadFault};
+use tmr_outside::{DiskFiles, Files, Giver, LoadFault};
 
 /// What came of a load in pieces.
 fn taken<F: Files>(
@@ -86,4 +86,20 @@ pub fn real_file<R: rt::Files + rt::Clock + Eprint>(
     let at_once = whole(alloc, &mut files, name, limit)?;
     let by_pieces = pieces(alloc, &mut files, name, limit)?;
     format!(in alloc; "{saved}, {at_once}, {by_pieces}")
+}
+
+/// Saves what is given, and loads it again.
+pub fn real_pieces<R: rt::Files + rt::Clock + Eprint, G: Giver>(
+    rt: &R,
+    alloc: Global,
+    name: &str,
+    from: &mut G,
+) -> Result<String, AllocError> {
+    let mut files = DiskFiles::new(alloc, rt);
+    let saved = save_answer(files.save_pieces(name, from));
+    let held = match files.load(alloc, name, 100) {
+        Ok(bytes) => shown(alloc, bytes.as_slice())?,
+        Err(fault) => String::from_str(alloc, load_fault(fault))?,
+    };
+    format!(in alloc; "{saved}, {held}")
 }

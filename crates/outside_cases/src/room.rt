@@ -1,6 +1,6 @@
 //! What the lines speak of.
-use crate::fakes::{part_of_a_put, read_in_the_middle};
-use crate::real::{full_pieces, real_file};
+use crate::fakes::{CutText, part_of_a_put, read_in_the_middle};
+use crate::real::{full_pieces, real_file, real_pieces};
 use std::alloc::{AllocError, Global};
 use std::{rt, str};
 use tmr_base::read_u64;
@@ -31,6 +31,15 @@ pub fn word(line: &str, i: usize) -> &str {
 /// The number that word i is, or 0.
 pub fn number(line: &str, i: usize) -> u64 {
     read_u64(word(line, i).as_bytes()).unwrap_or(0)
+}
+
+/// The text that word 2 is, cut into pieces of as many bytes as word 3 says. There is room for as many pieces as word 4 says, if it says it.
+fn cut_text(line: &str) -> CutText<'_> {
+    CutText::new(
+        word(line, 2),
+        number(line, 3),
+        read_u64(word(line, 4).as_bytes()),
+    )
 }
 
 /// What a load answered where it gave nothing.
@@ -68,7 +77,7 @@ fn noted(answer: Result<(), AllocError>) -> &'static str {
 }
 
 /// Bytes as a text; of a long one its length alone.
-fn shown(alloc: Global, bytes: &[u8]) -> Result<String, AllocError> {
+pub fn shown(alloc: Global, bytes: &[u8]) -> Result<String, AllocError> {
     if bytes.len() > 100 {
         return format!(in alloc; "{} bytes", bytes.len());
     }
@@ -112,6 +121,7 @@ fn short_answer(room: &mut Room, line: &str) -> Option<&'static str> {
         "hold" => Some(noted(room.files.hold(name, word(line, 2).as_bytes()))),
         "fail" => Some(noted(room.files.fail_at(number(line, 1), number(line, 2)))),
         "save" => Some(save_answer(room.files.save(name, word(line, 2).as_bytes()))),
+        "give" => Some(save_answer(room.files.save_pieces(name, &mut cut_text(line)))),
         "put" => Some(put_answer(room.sink.put(name.as_bytes()))),
         "fail-put" => Some(noted(room.sink.fail_at(number(line, 1), number(line, 2)))),
         _ => None,
@@ -141,6 +151,7 @@ pub fn answer<R: rt::Files + rt::Clock + Eprint>(
         "read" => read_in_the_middle(alloc, number(line, 1), number(line, 2), word(line, 3)),
         "out" => part_of_a_put(alloc, name, word(line, 2)),
         "disk" => real_file(rt, alloc, name, number(line, 2), number(line, 3)),
+        "disk-give" => real_pieces(rt, alloc, name, &mut cut_text(line)),
         _ => String::from_str(alloc, "no call"),
     }
 }

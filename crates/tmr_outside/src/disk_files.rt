@@ -1,15 +1,17 @@
 //! Real files.
-ghost use Rattle.std.specs.Prelude.{[], ◌≡◌, ◌≤◌, None, IfOk, IsOk, vec_len};
+ghost use Rattle.std.specs.Prelude.{[], ◌≡◌, ◌≤◌, None, IfOk, IsOk, OnErr, vec_len};
+ghost use Rattle.tmr_outside.specs.Counts.{Rose};
 ghost use Rattle.tmr_outside.specs.Pieces.{TakesFile};
 
 use crate::fault_count::FaultCount;
 use crate::gathered::Gathered;
 use crate::progress::Progress;
 use crate::reading::hand_out_within;
-use crate::saving::save_file;
+use crate::saving::{Save, save_file};
 use crate::source::{Counted, load_fault};
 use crate::watched::Watched;
-use crate::{Files, LoadFault, SaveFault, Taker};
+use crate::whole::Whole;
+use crate::{Files, Giver, LoadFault, SaveFault, Taker};
 use std::alloc::Global;
 use std::fs::OpenFile;
 use std::io::Read;
@@ -24,7 +26,7 @@ use std::{fs, rt};
 /// A save replaces the whole file at once, where that can be done: what is saved is written beside it, synced and renamed. Elsewhere
 /// the file is written where it stands. No clause says so.
 ///
-/// A load that takes over a second is told of on standard error, where that was asked for: no clause speaks of it.
+/// A load or a save that takes over a second is told of on standard error, where that was asked for: no clause speaks of it.
 #[derive(Drop)]
 pub struct DiskFiles<'a, R: rt::Files + Clock + Eprint> {
     rt: &'a R,
@@ -42,7 +44,7 @@ impl<'a, R: rt::Files + Clock + Eprint> Model for DiskFiles<'a, R> {
 }
 
 impl<'a, R: rt::Files + Clock + Eprint> DiskFiles<'a, R> {
-    /// The files of this runtime, without faults. No load is told of.
+    /// The files of this runtime, without faults. No load and no save is told of.
     pub fn new(alloc: Global, rt: &'a R) -> Self
         ensures { result ≡ 0 }
     {
@@ -54,7 +56,7 @@ impl<'a, R: rt::Files + Clock + Eprint> DiskFiles<'a, R> {
         }
     }
 
-    /// The same, but long loads are told of on standard error.
+    /// The same, but long loads and saves are told of on standard error.
     pub fn telling(alloc: Global, rt: &'a R) -> Self
         ensures { result ≡ 0 }
     {
@@ -67,6 +69,24 @@ impl<'a, R: rt::Files + Clock + Eprint> DiskFiles<'a, R> {
     }
 }
 
+impl<R: rt::Files + Clock + Eprint> DiskFiles<'_, R> {
+    /// Makes the name hold what is given, and counts a refusal.
+    fn save_given<G: Giver>(&mut self, name: &str, from: &mut G) -> Result<(), SaveFault>
+        ensures refused { OnErr result (Rose self.old self.new) }
+        ensures later { self.old ≤ self.new }
+    {
+        let save = Save {
+            rt: self.rt,
+            alloc: self.alloc,
+            name,
+            tells: self.tells,
+        };
+        let outcome = save_file(&save, from);
+        self.faults.raise_if(outcome.is_err());
+        outcome
+    }
+}
+
 /// What tells of a load of this open file. Only where it will tell, the system is asked how long the file is.
 fn progress_of<'a, R: rt::Files + Clock + Eprint>(
     rt: &'a R,
@@ -75,11 +95,11 @@ fn progress_of<'a, R: rt::Files + Clock + Eprint>(
     tells: bool,
 ) -> Progress<'a, R> {
     if !tells {
-        return Progress::silent(rt, name);
+        return Progress::silent(rt, "reading", name);
     }
     match file.metadata() {
-        Ok(found) => Progress::new(rt, name, found.len()),
-        Err(_) => Progress::new(rt, name, 0),
+        Ok(found) => Progress::of_load(rt, name, found.len()),
+        Err(_) => Progress::of_load(rt, name, 0),
     }
 }
 
@@ -170,8 +190,10 @@ impl<R: rt::Files + Clock + Eprint> Files for DiskFiles<'_, R> {
     }
 
     fn save(&mut self, name: &str, bytes: &[u8]) -> Result<(), SaveFault> {
-        let outcome = save_file(self.rt, self.alloc, name, bytes);
-        self.faults.raise_if(outcome.is_err());
-        outcome
+        self.save_given(name, &mut Whole::new(bytes))
+    }
+
+    fn save_pieces<G: Giver>(&mut self, name: &str, from: &mut G) -> Result<(), SaveFault> {
+        self.save_given(name, from)
     }
 }

@@ -6,7 +6,7 @@ ghost use Rattle.tmr_outside.specs.Pieces.{TakesFile};
 ghost use Rattle.tmr_outside.specs.Saving.{IsSave};
 ghost use Rattle.tmr_outside.specs.Seen.{FilesSeen, IsTold};
 
-use crate::{LoadFault, SaveFault, Taker};
+use crate::{Giver, LoadFault, SaveFault, Taker};
 use std::alloc::Global;
 
 /// Files by name. Each name has a count of its failed loads and one of its failed saves, and no count
@@ -47,6 +47,13 @@ pub trait Files {
     /// before.
     fn save(&mut self, name: &str, bytes: &[u8]) -> Result<(), SaveFault>
         ensures { IsSave name.now bytes.now result (seen self.old) (seen self.new)
+            (steady self.old) (steady self.new) };
+
+    /// Makes the name hold the bytes that are given, piece by piece, and leaves all other names as they were.
+    /// Its answers come as those of `save`, and `Memory` also where there was no room for a piece. After a
+    /// refusal a first part of the pieces has been given.
+    fn save_pieces<G: Giver>(&mut self, name: &str, from: &mut G) -> Result<(), SaveFault>
+        ensures { IsSave name.now (G.rest from.old) result (seen self.old) (seen self.new)
             (steady self.old) (steady self.new) };
 
     /// A steady object tells what its files hold.

@@ -9,10 +9,11 @@ ghost use Rattle.tmr_outside.specs.MemoryFiles.{called, noting, holding, failing
 ghost use Rattle.tmr_outside.specs.Saving.{IsSave};
 
 use crate::failed_calls::{CallKind, FailedCalls};
+use crate::gathering::gather;
 use crate::pieces::{front, hand_out};
 use crate::plan::CallPlan;
 use crate::stored_files::StoredFiles;
-use crate::{Files, LoadFault, SaveFault, Taker};
+use crate::{Files, Giver, LoadFault, SaveFault, Taker};
 use std::alloc::{AllocError, Global};
 use std::marker::Model;
 
@@ -269,6 +270,30 @@ impl Files for MemFiles {
                 name,
                 front(bytes, keep),
             )),
+        }
+    }
+
+    #[tactic(auto, using(crate::proofs::FailedCallLemmas::call_rules, crate::proofs::ContentsLemmas::contents_rules))]
+    fn save_pieces<G: Giver>(&mut self, name: &str, from: &mut G) -> Result<(), SaveFault>
+        ensures seen { IsSave name.now (G.rest from.old) result (files_seen self.old) (files_seen self.new)
+            (is_steady self.old) (is_steady self.new) }
+
+        // Of a save that did not want memory: it fails exactly where its number is on the list.
+        ensures listed { IsErrOf result SaveFault.Failed → IsSome (prefix_left self.old.plan) }
+        ensures listed_only { OnOk result (prefix_left self.old.plan ≡ None) }
+
+        // What the object is after each answer.
+        ensures after_ok { OnOk result (self.new ≡ holding (called self.old) name.now (G.rest from.old)) }
+        ensures after_failed { IsErrOf result SaveFault.Failed → IfSome (prefix_left self.old.plan) (λ keep.
+            self.new ≡ noting (holding (called self.old) name.now (take keep (G.rest from.old))) CallKind.Save name.now) }
+        ensures after_memory { IsErrOf result SaveFault.Memory → self.new ≡ called self.old }
+    {
+        match gather(self.alloc, from) {
+            Ok(bytes) => self.save(name, bytes.as_slice()),
+            Err(_) => {
+                let _ = self.plan.begin();
+                Err(SaveFault::Memory)
+            }
         }
     }
 }

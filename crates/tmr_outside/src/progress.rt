@@ -1,27 +1,30 @@
-//! How far a load has come, told while it lasts.
+//! How far a load or a save has come, told while it lasts.
 //!
-//! A load that takes over a second is told on standard error, in one line that is rewritten and in the end wiped away. What is told changes
-//! nothing of what is loaded, and where standard error fails the load goes on untold. Names come from outside: a name that could steer a
-//! terminal is left out.
+//! What takes over a second is told on standard error, in one line that is rewritten and in the end wiped away. What is told changes
+//! nothing of what is loaded or saved, and where standard error fails the work goes on untold. Names come from outside: a name that could
+//! steer a terminal is left out.
 
 use std::rt::Clock;
 use std::time::Instant;
 
-/// So many seconds a load lasts before it is told of.
+/// So many seconds a load or a save lasts before it is told of.
 const PATIENCE: u64 = 1;
 
 /// The longest name that is told, in bytes, so that the line stays one.
 const LONGEST_NAME: usize = 48;
 
-/// How far the load of one file has come.
+/// How far the load or the save of one file has come.
 #[derive(Drop)]
 pub struct Progress<'a, R: Clock + Eprint> {
     to: &'a R,
+    /// What is done with the file.
+    verb: &'static str,
     name: &'a str,
-    /// How long the file is; 0 where that is not known, as of a pipe.
+    /// How long the file is; 0 where that is not known, as of a pipe and of each save.
     length: u64,
-    read: u64,
-    /// When the load began; None where nothing is to be told.
+    /// So many bytes are read or written.
+    done: u64,
+    /// When it began; None where nothing is to be told.
     begun: Option<Instant>,
     /// The number that was told last.
     told: Option<u64>,
@@ -47,32 +50,38 @@ fn percent(part: u64, whole: u64) -> u64 {
 
 impl<'a, R: Clock + Eprint> Progress<'a, R> {
     /// Nothing is read yet of a file of this length, 0 where that is not known.
-    pub fn new(to: &'a R, name: &'a str, length: u64) -> Self {
+    pub fn of_load(to: &'a R, name: &'a str, length: u64) -> Self {
         Progress {
-            to,
-            name,
             length,
-            read: 0,
             begun: Instant::now(to).ok(),
-            told: None,
+            ..Progress::silent(to, "reading", name)
+        }
+    }
+
+    /// Nothing is saved yet. How much it will be is not known.
+    pub fn of_save(to: &'a R, name: &'a str) -> Self {
+        Progress {
+            begun: Instant::now(to).ok(),
+            ..Progress::silent(to, "saving", name)
         }
     }
 
     /// Nothing will be told.
-    pub fn silent(to: &'a R, name: &'a str) -> Self {
+    pub fn silent(to: &'a R, verb: &'static str, name: &'a str) -> Self {
         Progress {
             to,
+            verb,
             name,
             length: 0,
-            read: 0,
+            done: 0,
             begun: None,
             told: None,
         }
     }
 
-    /// So many bytes more are read.
+    /// So many bytes more are read or written.
     pub fn advance(&mut self, count: u64) {
-        self.read = self.read.saturating_add(count);
+        self.done = self.done.saturating_add(count);
         if let Some(begun) = self.begun {
             if let Ok(lasted) = begun.elapsed(self.to) {
                 if lasted.as_secs() >= PATIENCE {
@@ -82,21 +91,22 @@ impl<'a, R: Clock + Eprint> Progress<'a, R> {
         }
     }
 
-    /// Tells how far the load is, if that has another number than what was told last.
+    /// Tells how far it is, if that has another number than what was told last.
     fn tell(&mut self) {
         let (number, unit) = if self.length == 0 {
-            (self.read / 1_000_000, "MB")
+            (self.done / 1_000_000, "MB")
         } else {
-            (percent(self.read, self.length), "%")
+            (percent(self.done, self.length), "%")
         };
         if self.told != Some(number) {
             self.told = Some(number);
+            let verb = self.verb;
             let name = shown(self.name);
-            let _ = eprint!(self.to; "\rreading {name} {number} {unit}\x1b[K");
+            let _ = eprint!(self.to; "\r{verb} {name} {number} {unit}\x1b[K");
         }
     }
 
-    /// The load has ended: what was told is wiped away.
+    /// It has ended: what was told is wiped away.
     pub fn end(&mut self) {
         if self.told.is_some() {
             self.told = None;
