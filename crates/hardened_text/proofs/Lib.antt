@@ -4,6 +4,9 @@ pub mod VoterPuts
 pub mod BlockPuts
 pub mod CertPuts
 pub mod ReadNames
-pub mod DesignText
+pub mod FlatText
 pub mod CertText
+pub mod Stepping
+pub mod Steps
+pub mod Wholes
 pub mod Pairs

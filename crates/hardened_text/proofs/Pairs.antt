@@ -1,14 +1,12 @@
--- The texts are those of the pair that is made of the plan.
+-- What is answered is told of the pair that is made of the plan.
 use Rattle.std.proofs.Common.{◌≡◌, ℕ, zero, suc, ◌+◌, ◌*◌, ◌-◌, ◌<◌, ◌≤◌, ◌^◌, ◌⊎◌, Bool, List, [], ◌∷◌, length, get_or, refl, sym, ap, subst, ◌∙◌, arith}
 use Rattle.std.specs.Prelude.{All, nat_eq}
 use Rattle.flat_net.specs.Net.{Net, Design, IsValid, IsDesign}
 use Rattle.flat_net.specs.Free.{FreeDesign, AreMarks}
-use Rattle.blif_writer.specs.NetOf.{IsFreeNetOf}
 use Rattle.blif_writer.specs.Text.{free_text}
 use Rattle.blif_writer.proofs.Again.{free_of_text}
 use Rattle.blif_writer.proofs.Lengths.{text_long}
-use Rattle.certificate.specs.Cert.{IsCert}
-use Rattle.certificate.specs.Folding.{fold_of_text}
+use Rattle.certificate.specs.Cert.{IsCert, Fits}
 use Rattle.certificate.specs.Starts.{counted, spread_start}
 use Rattle.certificate.specs.Text.{cert_text}
 use Rattle.certificate.proofs.RoundTrip.{fold_of_text_again}
@@ -26,8 +24,8 @@ use Rattle.triplicate.proofs.Planned.{planned_is}
 use Rattle.triplicate.proofs.Sizes.{roles_counted}
 use Rattle.triplicate.proofs.Valid.{is_valid}
 use Rattle.triplicate.proofs.Whole.{nodes_long}
-use Rattle.hardened_text.specs.declared.texts.HardenedTexts.{HardenedTexts}
-use Rattle.hardened_text.specs.Texts.{AreTexts}
+use Rattle.hardened_text.specs.declared.form.HardenedForm.{HardenedForm}
+use Rattle.hardened_text.specs.Texts.{IsFormOf}
 
 depths_are : (n : Net) (p : Plan) → (cert_in n p).depth ≡ p.extra.table.depths
 unfolding hardened_cert
@@ -48,22 +46,21 @@ pub few_nodes : (kind : Form) (n : Net) (size : ℕ) (inputs : Bool) (most : ℕ
 few_nodes kind n size inputs most p nets ins count is e f g = omega (arith, e, f, g, roles_counted n p.parts (plan_votes n p))
 
 -- all that is answered is told of one pair
-pub texts_are : (kind : Form) (n : FreeDesign) (d : Design) (size version most : ℕ) (p : Plan) (r : HardenedTexts) (nets ins count : ℕ) → (version ≡ 1) ⊎ (version ≡ 2) → most < 2 ^ 32 → d ≡ n.design → AreMarks n.design.net n.free → IsDesign d → IsPlan kind d.net size (nat_eq version 2) most p
+pub form_is : (kind : Form) (n : FreeDesign) (d : Design) (size version most : ℕ) (p : Plan) (r : HardenedForm) (nets ins count : ℕ) → (version ≡ 1) ⊎ (version ≡ 2) → most < 2 ^ 32 → d ≡ n.design → AreMarks n.design.net n.free → IsDesign d → IsPlan kind d.net size (nat_eq version 2) most p
     → nets ≡ 3 * length d.net.inputs + length (hardened_roles d.net p.parts (plan_votes d.net p)) → ins ≡ length d.net.inputs → count ≡ length d.net.nodes
-    → r.design.items ≡ free_text (hardened_net n.design.net p.parts (plan_votes n.design.net p)) (spread_start (cert_in n.design.net p) (counted (cert_in n.design.net p) n.free)) → r.certificate.items ≡ cert_text d.net (hardened_net d.net p.parts (plan_votes d.net p)) (cert_in d.net p)
-    → r.depths.items ≡ p.extra.table.depths → All (λ x. x < 2 ^ 32) p.extra.table.depths → r.nodes ≡ nets - 3 * ins → r.partitions ≡ p.parts.count → r.cost ≡ p.cost → r.plain ≡ p.plain → r.minimal ≡ p.minimal → r.voters ≡ nets - 3 * ins - 3 * count
-    → AreTexts kind n size version most r
-texts_are kind n d size version most p r nets ins count known small same marks design planned en ei ec ed ek eds small_depths er ep ecost eplain eminimal ev = record {
+    → r.depths.items ≡ p.extra.table.depths → All (λ x. x < 2 ^ 32) p.extra.table.depths → r.nodes ≡ nets - 3 * ins → r.partitions ≡ p.parts.count → r.cost ≡ p.cost → r.plain ≡ p.plain → r.minimal ≡ p.minimal → r.voters ≡ nets - 3 * ins - 3 * count → r.plan ≡ p
+    → IsFormOf kind n size version most r
+form_is kind n d size version most p r nets ins count known small same marks design planned en ei ec eds small_depths er ep ecost eplain eminimal ev own = record {
+  formed = record { kind = kind; size = size; inputs = nat_eq version 2; most = most; planned = subst (λ (q : Plan). IsPlan kind n.design.net size (nat_eq version 2) most q) (sym own) is };
   pair = pair_in n p;
   bounded = planned_is kind n size version most p known is;
   valid = valid;
   certified = certified;
-  fits = cert_fits n.design.net p.parts (plan_votes n.design.net p) (labeling p.inputs p.extra.table) is.given;
-  design = ed;
-  design_read = λ limit fits. subst (λ (bytes : List ℕ). IsFreeNetOf bytes limit h g) (sym ed)
-      (free_of_text h g limit valid own_marks (subst (λ (m : ℕ). m ≤ limit) (ap length ed ∙ text_long h g valid) fits));
-  certificate = text;
-  certificate_read = sym (same_reading n.design.net h r.certificate.items) ∙ (ap (fold_of_text n.design.net h) text ∙ fold_of_text_again n.design.net h (cert_in n.design.net p) is.given.valid valid certified (cert_fits n.design.net p.parts (plan_votes n.design.net p) (labeling p.inputs p.extra.table) is.given));
+  fits = fits;
+  design = ap (λ (q : Plan). free_text (pair_in n q).net.design.net (pair_in n q).net.free) own;
+  design_read = λ limit fits. free_of_text h g limit valid own_marks (subst (λ (m : ℕ). m ≤ limit) (text_long h g valid) fits);
+  certificate = ap (λ (q : Plan). cert_text n.design.net (pair_in n q).net.design.net (pair_in n q).cert) own;
+  certificate_read = sym (same_reading n.design.net h (cert_text n.design.net h (cert_in n.design.net p))) ∙ fold_of_text_again n.design.net h (cert_in n.design.net p) is.given.valid valid certified fits;
   nodes = omega (arith, er, total, inputs, nodes_long n.design.net p.parts (plan_votes n.design.net p));
   partitions = omega (arith, ep, is.bound.depths.parts_long, ap length (depths_are n.design.net p));
   depths = eds ∙ sym (depths_are n.design.net p);
@@ -95,8 +92,8 @@ texts_are kind n d size version most p r nets ins count known small same marks d
     own_marks : AreMarks (hardened_net n.design.net p.parts (plan_votes n.design.net p)) (spread_start (cert_in n.design.net p) (counted (cert_in n.design.net p) n.free))
     own_marks = marks_are_marks n.design.net p.parts (plan_votes n.design.net p) (labeling p.inputs p.extra.table) is.given (counted (cert_in n.design.net p) n.free) (counted_marks n.design.net n.free (cert_in n.design.net p) marks.registers)
 
-    text : r.certificate.items ≡ cert_text n.design.net (hardened_net n.design.net p.parts (plan_votes n.design.net p)) (cert_in n.design.net p)
-    text = ek ∙ ap (λ (e : Design). cert_text e.net (hardened_net e.net p.parts (plan_votes e.net p)) (cert_in e.net p)) same
+    fits : Fits n.design.net (hardened_net n.design.net p.parts (plan_votes n.design.net p)) (cert_in n.design.net p)
+    fits = cert_fits n.design.net p.parts (plan_votes n.design.net p) (labeling p.inputs p.extra.table) is.given
 
     total : nets ≡ 3 * length n.design.net.inputs + length (hardened_roles n.design.net p.parts (plan_votes n.design.net p))
     total = en ∙ ap (λ (e : Design). 3 * length e.net.inputs + length (hardened_roles e.net p.parts (plan_votes e.net p))) same

@@ -2,3 +2,5 @@
 pub mod Spelled
 pub mod Lines
 pub mod Pieces
+pub mod Steps
+pub mod Inside

@@ -1,24 +1,21 @@
-//! The text of the certificate.
-ghost use Rattle.std.specs.Prelude.{◌≡◌, ◌<◌, ◌+◌, ◌++◌, ◌∷◌, [], length, codes, IfOk, OnOk};
+//! Parts of the text of the certificate.
+ghost use Rattle.std.specs.Prelude.{◌≡◌, ◌<◌, ◌+◌, ◌++◌, ◌∷◌, [], length, codes, OnOk};
 ghost use Rattle.std.specs.Fmt.{decimal};
 ghost use Rattle.std.specs.List.{flat_map};
 ghost use Rattle.tmr_base.specs.Copies.{copy_number};
 ghost use Rattle.flat_net.specs.Net.{net_count};
-ghost use Rattle.certificate.specs.Text.{line_text, part_line, cert_text};
+ghost use Rattle.certificate.specs.Text.{line_text, part_line};
 ghost use Rattle.triplicate.specs.Form.{version_of};
 ghost use Rattle.triplicate.specs.Planned.{plan_votes};
-ghost use Rattle.triplicate.specs.Construction.{hardened_net, hardened_cert};
-ghost use Rattle.triplicate.specs.Given.{IsGiven};
-ghost use Rattle.triplicate.specs.Labels.{labeling};
 ghost use Rattle.triplicate.specs.Starts.{AreVoterRows};
 ghost use Rattle.hardened_text.specs.Private.Spelled.{line_head, line_end, line_at, lines_at};
-ghost use Rattle.hardened_text.specs.Private.Lines.{node_words, nodes_text, all_voters_text, parts_text};
+ghost use Rattle.hardened_text.specs.Private.Lines.{node_words, node_text, voters_text};
 
 use crate::names::put_three_names;
 use flat_net::{FlatNet, nodes_of};
 use itoa::Buffer;
-use std::alloc::{AllocError, Global};
-use tmr_base::{CopyNo, NetId, PartId};
+use std::alloc::AllocError;
+use tmr_base::{CopyNo, NetId};
 use triplicate::Plan;
 
 /// Puts a blank and the word.
@@ -65,18 +62,16 @@ fn put_node(out: &mut Vec<u8>, name: &[u8], part: u32, label: u32) -> Result<(),
     Ok(())
 }
 
-/// Puts the lines of all nodes.
-fn put_nodes(out: &mut Vec<u8>, n: &FlatNet, plan: &Plan) -> Result<(), AllocError>
+/// Puts the line of node y.
+pub fn put_node_of(out: &mut Vec<u8>, n: &FlatNet, plan: &Plan, y: u32) -> Result<(), AllocError>
     requires parts { length plan.now.parts.of ≡ length n.now.net.nodes }
     requires labels { length plan.now.extra.table.labels ≡ length n.now.net.nodes }
-    ensures { OnOk result (out.new.items ≡ out.old.items ++ nodes_text n.now.net plan.now.parts plan.now.extra.table.labels (length n.now.net.nodes)) }
+    requires node { y < length n.now.net.nodes }
+    ensures { OnOk result (out.new.items ≡ out.old.items ++ node_text n.now.net plan.now.parts plan.now.extra.table.labels y) }
 {
-    let inputs = n.input_count();
-    let count = nodes_of(n);
-    for y in 0..count {
-        let name = n.name(NetId(inputs + y)).bytes();
-        put_node(out, name, plan.parts.of(y), plan.extra.label(y))?;
-    }
+    let _nodes = nodes_of(n);
+    let name = n.name(NetId(n.input_count() + y)).bytes();
+    put_node(out, name, plan.parts.of(y), plan.extra.label(y))?;
     Ok(())
 }
 
@@ -172,21 +167,24 @@ fn put_row(
     Ok(())
 }
 
-/// Puts the lines of all voters.
-fn put_voters(alloc: Global, out: &mut Vec<u8>, n: &FlatNet, plan: &Plan) -> Result<(), AllocError>
-    requires { AreVoterRows n.now.net plan.now.parts (plan_votes n.now.net plan.now) plan.now.voters }
-    ensures { OnOk result (out.new.items ≡ out.old.items ++ all_voters_text n.now.net plan.now.parts (plan_votes n.now.net plan.now) (net_count n.now.net)) }
+/// Puts the lines of the voters of net x. `head` is room for a part of a line.
+pub fn put_voters_of(
+    out: &mut Vec<u8>,
+    n: &FlatNet,
+    plan: &Plan,
+    x: u32,
+    head: &mut Vec<u8>,
+) -> Result<(), AllocError>
+    requires voters { AreVoterRows n.now.net plan.now.parts (plan_votes n.now.net plan.now) plan.now.voters }
+    requires net { x < net_count n.now.net }
+    ensures { OnOk result (out.new.items ≡ out.old.items ++ voters_text n.now.net plan.now.parts (plan_votes n.now.net plan.now) x) }
 {
-    let mut head = Vec::new(alloc);
-    let nets = n.input_count() + nodes_of(n);
-    for x in 0..nets {
-        put_row(out, n.name(NetId(x)).bytes(), plan.voters.row(x), &mut head)?;
-    }
+    put_row(out, n.name(NetId(x)).bytes(), plan.voters.row(x), head)?;
     Ok(())
 }
 
 /// Puts the line of partition p.
-fn put_part(out: &mut Vec<u8>, p: u32, depth: u32) -> Result<(), AllocError>
+pub fn put_part(out: &mut Vec<u8>, p: u32, depth: u32) -> Result<(), AllocError>
     ensures { OnOk result (out.new.items ≡ out.old.items ++ line_text (part_line p depth)) }
 {
     out.extend_from_slice(b"part")?;
@@ -194,18 +192,6 @@ fn put_part(out: &mut Vec<u8>, p: u32, depth: u32) -> Result<(), AllocError>
     out.extend_from_slice(b" depth")?;
     put_number(out, depth)?;
     out.push(b'\n')?;
-    Ok(())
-}
-
-/// Puts the lines of all partitions.
-fn put_parts(out: &mut Vec<u8>, plan: &Plan) -> Result<(), AllocError>
-    requires { length plan.now.extra.table.depths ≡ plan.now.parts.count }
-    ensures { OnOk result (out.new.items ≡ out.old.items ++ parts_text plan.now.extra.table.depths 0) }
-{
-    let count = plan.parts.count();
-    for p in 0..count {
-        put_part(out, p, plan.extra.depth(PartId(p)))?;
-    }
     Ok(())
 }
 
@@ -217,7 +203,7 @@ fn version(inputs: bool) -> u32
 }
 
 /// Puts the first two lines.
-fn put_front(out: &mut Vec<u8>, plan: &Plan) -> Result<(), AllocError>
+pub fn put_front(out: &mut Vec<u8>, plan: &Plan) -> Result<(), AllocError>
     ensures { OnOk result (out.new.items ≡ (out.old.items ++ line_text (codes "tmr-cert" ∷ decimal (version_of plan.now.inputs) ∷ [])) ++ line_text (codes "parts" ∷ decimal plan.now.parts.count ∷ [])) }
 {
     out.extend_from_slice(b"tmr-cert")?;
@@ -226,20 +212,4 @@ fn put_front(out: &mut Vec<u8>, plan: &Plan) -> Result<(), AllocError>
     put_number(out, plan.parts.count())?;
     out.push(b'\n')?;
     Ok(())
-}
-
-/// The text of the hardened design's certificate.
-pub fn certificate_text(alloc: Global, n: &FlatNet, plan: &Plan) -> Result<Vec<u8>, AllocError>
-    requires voters { AreVoterRows n.now.net plan.now.parts (plan_votes n.now.net plan.now) plan.now.voters }
-    requires given { IsGiven n.now.net plan.now.parts (plan_votes n.now.net plan.now) (labeling plan.now.inputs plan.now.extra.table) }
-    ensures { IfOk result (λ bytes. bytes.items ≡ cert_text n.now.net (hardened_net n.now.net plan.now.parts (plan_votes n.now.net plan.now))
-        (hardened_cert n.now.net plan.now.parts (plan_votes n.now.net plan.now) (labeling plan.now.inputs plan.now.extra.table))) }
-{
-    let mut out = Vec::new(alloc);
-    put_front(&mut out, plan)?;
-    put_parts(&mut out, plan)?;
-    put_nodes(&mut out, n, plan)?;
-    put_voters(alloc, &mut out, n, plan)?;
-    out.extend_from_slice(b"end\n")?;
-    Ok(out)
 }

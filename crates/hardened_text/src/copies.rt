@@ -1,5 +1,5 @@
 //! The lines of the copies of nodes.
-ghost use Rattle.std.specs.Prelude.{◌≡◌, ◌<◌, ◌≤◌, ◌+◌, ◌++◌, ◌∷◌, length, map, OnOk};
+ghost use Rattle.std.specs.Prelude.{◌≡◌, ◌<◌, ◌+◌, ◌++◌, ◌∷◌, length, map, OnOk};
 ghost use Rattle.std.specs.List.{range_with_len};
 ghost use Rattle.flat_net.specs.Net.{net_count, node_of, pins_at};
 ghost use Rattle.feedback_cut.specs.Inner.{node_pins};

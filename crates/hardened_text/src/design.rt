@@ -1,26 +1,22 @@
-//! The flat text of the hardened design.
-ghost use Rattle.std.specs.Prelude.{◌≡◌, ◌<◌, ◌+◌, ◌*◌, ◌++◌, ◌∷◌, [], length, codes, IfOk, OnOk};
+//! Parts of the flat text of the hardened design.
+ghost use Rattle.std.specs.Prelude.{◌≡◌, ◌<◌, ◌+◌, ◌++◌, ◌∷◌, [], length, codes, IfOk, OnOk};
 ghost use Rattle.std.specs.List.{flat_map};
 ghost use Rattle.flat_net.specs.Net.{net_count, name_of};
 ghost use Rattle.flat_net.specs.Free.{node_bit};
 ghost use Rattle.blif_writer.specs.Left.{spaced, spaced_line};
-ghost use Rattle.blif_writer.specs.Text.{edge_word, clock_words, control_words, lines_text, free_text};
-ghost use Rattle.certificate.specs.Starts.{counted, spread_start};
+ghost use Rattle.blif_writer.specs.Text.{edge_word, clock_words, control_words, lines_text};
 ghost use Rattle.triplicate.specs.Blocks.{copies_of, hardened_clock};
 ghost use Rattle.triplicate.specs.Planned.{votes_in, plan_votes};
-ghost use Rattle.triplicate.specs.Construction.{hardened_net, hardened_cert};
-ghost use Rattle.triplicate.specs.Given.{IsGiven};
-ghost use Rattle.triplicate.specs.Labels.{labeling};
 ghost use Rattle.triplicate.specs.Pins.{AreVotesOf};
 ghost use Rattle.triplicate.specs.Taps.{AreTaps};
 ghost use Rattle.triplicate.specs.Starts.{AreVoterRows};
 ghost use Rattle.hardened_text.specs.Private.Spelled.{three_spelled};
-ghost use Rattle.hardened_text.specs.Private.Lines.{role_lines, block_text, blocks_text, marks_of};
+ghost use Rattle.hardened_text.specs.Private.Lines.{role_lines, block_text, marks_of};
 
 use crate::copies::{Room, put_copies};
 use crate::names::put_three_names;
 use crate::voters::put_voters;
-use flat_net::{FlatNet, FreeNet, nodes_of};
+use flat_net::{FlatNet, FreeNet};
 use std::alloc::{AllocError, Global};
 use tmr_base::{Edge, NetId};
 use triplicate::Plan;
@@ -98,6 +94,15 @@ fn put_control(out: &mut Vec<u8>, n: &FlatNet) -> Result<(), AllocError>
     }
 }
 
+/// The clock's edge and the hardened clock's name, as each register of the hardened design tells them.
+pub fn control_text(alloc: Global, n: &FlatNet) -> Result<Vec<u8>, AllocError>
+    ensures { IfOk result (λ control. control.items ≡ spaced (control_words (hardened_clock n.now.net.clock))) }
+{
+    let mut control = Vec::new(alloc);
+    put_control(&mut control, n)?;
+    Ok(control)
+}
+
 /// Puts the lines of the copies of net x, if it is a node.
 fn put_own_copies(
     out: &mut Vec<u8>,
@@ -123,7 +128,7 @@ fn put_own_copies(
 }
 
 /// Puts what stands for net x: the lines of its copies, if it is a node, and of its voters.
-fn put_block(
+pub fn put_block(
     out: &mut Vec<u8>,
     n: &FlatNet,
     plan: &Plan,
@@ -150,7 +155,7 @@ fn put_block(
 }
 
 /// Whether the copies of net x are registers whose value in cycle 0 is free.
-fn is_free(n: &FreeNet, inputs: bool, x: u32) -> bool
+pub fn is_free(n: &FreeNet, inputs: bool, x: u32) -> bool
     requires { x < net_count n.now.design.net }
     ensures { result ≡ node_bit (length n.now.design.net.inputs) (marks_of inputs n.now.free) x }
 {
@@ -160,27 +165,8 @@ fn is_free(n: &FreeNet, inputs: bool, x: u32) -> bool
     false
 }
 
-/// Puts what stands for all nets.
-fn put_blocks(alloc: Global, out: &mut Vec<u8>, n: &FreeNet, plan: &Plan) -> Result<(), AllocError>
-    requires planned { AreVotesOf n.now.design.net plan.now.parts (votes_in plan.now) }
-    requires taps { AreTaps n.now.design.net plan.now.parts (plan_votes n.now.design.net plan.now) plan.now.taps }
-    requires voters { AreVoterRows n.now.design.net plan.now.parts (plan_votes n.now.design.net plan.now) plan.now.voters }
-    ensures { OnOk result (out.new.items ≡ out.old.items ++ blocks_text n.now.design.net plan.now.parts (plan_votes n.now.design.net plan.now) (marks_of plan.now.inputs n.now.free) (net_count n.now.design.net)) }
-{
-    let net = n.net();
-    let mut control = Vec::new(alloc);
-    put_control(&mut control, net)?;
-    let mut room = Room::new(alloc);
-    let nets = net.input_count() + nodes_of(net);
-    for x in 0..nets {
-        let free = is_free(n, plan.inputs, x);
-        put_block(out, net, plan, x, free, &control, &mut room)?;
-    }
-    Ok(())
-}
-
 /// Puts the lines in front of the nodes'.
-fn put_ports(out: &mut Vec<u8>, n: &FlatNet) -> Result<(), AllocError>
+pub fn put_ports(out: &mut Vec<u8>, n: &FlatNet) -> Result<(), AllocError>
     ensures { OnOk result (out.new.items ≡ ((out.old.items ++ spaced_line (codes ".model") (n.now.net.model ∷ []))
         ++ (codes ".inputs" ++ (flat_map three_spelled n.now.net.inputs ++ (spaced (clock_words (hardened_clock n.now.net.clock)) ++ 10 ∷ []))))
         ++ (codes ".outputs" ++ (flat_map (λ x. three_spelled (name_of n.now.net x)) n.now.net.outputs ++ 10 ∷ []))) }
@@ -193,21 +179,4 @@ fn put_ports(out: &mut Vec<u8>, n: &FlatNet) -> Result<(), AllocError>
     put_outputs(out, n)?;
     out.push(b'\n')?;
     Ok(())
-}
-
-/// The flat text of the hardened design.
-pub fn design_text(alloc: Global, n: &FreeNet, plan: &Plan) -> Result<Vec<u8>, AllocError>
-    requires planned { AreVotesOf n.now.design.net plan.now.parts (votes_in plan.now) }
-    requires taps { AreTaps n.now.design.net plan.now.parts (plan_votes n.now.design.net plan.now) plan.now.taps }
-    requires voters { AreVoterRows n.now.design.net plan.now.parts (plan_votes n.now.design.net plan.now) plan.now.voters }
-    requires given { IsGiven n.now.design.net plan.now.parts (plan_votes n.now.design.net plan.now) (labeling plan.now.inputs plan.now.extra.table) }
-    ensures { IfOk result (λ bytes. bytes.items ≡ free_text (hardened_net n.now.design.net plan.now.parts (plan_votes n.now.design.net plan.now))
-        (spread_start (hardened_cert n.now.design.net plan.now.parts (plan_votes n.now.design.net plan.now) (labeling plan.now.inputs plan.now.extra.table))
-        (counted (hardened_cert n.now.design.net plan.now.parts (plan_votes n.now.design.net plan.now) (labeling plan.now.inputs plan.now.extra.table)) n.now.free))) }
-{
-    let mut out = Vec::new(alloc);
-    put_ports(&mut out, n.net())?;
-    put_blocks(alloc, &mut out, n, plan)?;
-    out.extend_from_slice(b".end\n")?;
-    Ok(out)
 }

@@ -90,10 +90,13 @@ voters_text n parts voted x =
     ++ (line_text (voter_words (name_of n x) p Second) ++ line_text (voter_words (name_of n x) p Third)))
     (voting_parts n parts voted x)
 
--- a certificate's lines of the first count nodes, of these labels
+-- a certificate's line of node y, of these labels
+abbrev pub node_text : Net → PlainParts → List ℕ → ℕ → List ℕ
+node_text n parts labels y = line_text (node_words (name_of n (length n.inputs + y)) (slice_index parts.of y) (slice_index labels y))
+
+-- a certificate's lines of the first count nodes
 abbrev pub nodes_text : Net → PlainParts → List ℕ → ℕ → List ℕ
-nodes_text n parts labels count =
-    flat_map (λ y. line_text (node_words (name_of n (length n.inputs + y)) (slice_index parts.of y) (slice_index labels y))) (range_with_len 0 count)
+nodes_text n parts labels count = flat_map (node_text n parts labels) (range_with_len 0 count)
 
 -- a certificate's lines of the voters of the first count nets
 abbrev pub all_voters_text : Net → PlainParts → (ℕ → ℕ → Bool) → ℕ → List ℕ

@@ -1,23 +1,18 @@
-//! Both texts, and what is told of the pair.
+//! What both texts are made of, and what is told of the pair.
 ghost use Rattle.std.specs.Prelude.{◌≡◌, ◌+◌, ◌<◌, ◌≤◌, ◌⊎◌, IfOk};
 ghost use Rattle.limits.specs.Most.{widest_nets};
 ghost use Rattle.flat_net.specs.Net.{net_count, pin_total};
-ghost use Rattle.hardened_text.specs.Texts.{AreTexts};
+ghost use Rattle.hardened_text.specs.Texts.{IsFormOf};
 
-use crate::certificate_lines::certificate_text;
-use crate::design::design_text;
 use flat_net::{FreeNet, nodes_of};
 use std::alloc::Global;
 use tmr_base::OutOfMemory;
-use triplicate::{Form, make_plan};
+use triplicate::{Form, Plan, make_plan};
 
-/// The texts of a hardened form, and what is told of it.
+/// A hardened form of a design, of which both texts can be given: its plan, and what is told of it.
 #[derive(Drop)]
-pub struct HardenedTexts {
-    /// The flat text of the hardened design.
-    pub design: Vec<u8>,
-    /// The text of its certificate.
-    pub certificate: Vec<u8>,
+pub struct HardenedForm {
+    pub(crate) plan: Plan,
     /// How many nodes the hardened design has.
     pub nodes: u32,
     /// How many partitions there are.
@@ -34,33 +29,29 @@ pub struct HardenedTexts {
     pub voters: u32,
 }
 
-/// The texts of the design made threefold in this form and of its certificate, of this version. `size` is the size of partitions; no
-/// depth is above `most`, and a bound above the number of nodes adds no voters. Both are those of one pair in the
-/// hardened form, of which the numbers tell too. The one refusal is want of memory.
-pub fn harden_texts(
+/// The design made threefold in this form, with a certificate of this version. `size` is the size of partitions; no
+/// depth is above `most`, and a bound above the number of nodes adds no voters. Both texts and all numbers are those of one
+/// pair in the hardened form. The one refusal is want of memory.
+pub fn harden_form(
     alloc: Global,
     n: &FreeNet,
     form: Form,
     size: u32,
     version: u8,
     most: u32,
-) -> Result<HardenedTexts, OutOfMemory>
+) -> Result<HardenedForm, OutOfMemory>
     requires size { 0 < size }
     requires version { (version ≡ 1) ⊎ (version ≡ 2) }
     requires most { 0 < most }
     requires few { net_count n.now.design.net + pin_total n.now.design.net ≤ widest_nets }
-    ensures { IfOk result (λ t. AreTexts form n.now size version most t) }
+    ensures { IfOk result (λ t. IsFormOf form n.now size version most t) }
 {
     let net = n.net();
     let count = nodes_of(net);
     let plan = make_plan(alloc, net, form, size, version == 2, most)?;
-    let design = design_text(alloc, n, &plan)?;
-    let certificate = certificate_text(alloc, net, &plan)?;
     let depths = plan.depths(alloc)?;
     let nodes = plan.nets(net) - 3 * net.input_count();
-    Ok(HardenedTexts {
-        design,
-        certificate,
+    Ok(HardenedForm {
         nodes,
         partitions: plan.parts.count(),
         depths,
@@ -68,5 +59,6 @@ pub fn harden_texts(
         plain: plan.plain,
         minimal: plan.minimal,
         voters: nodes - 3 * count,
+        plan,
     })
 }

@@ -1,0 +1,22 @@
+use Rattle.std.proofs.Common.{◌<◌, length, ap, arith}
+use Rattle.flat_net.specs.Net.{Design}
+use Rattle.hardened_text.specs.Private.Steps.{design_step, design_steps, design_rest}
+use Rattle.hardened_text.proofs.Stepping.{step_put}
+use Rattle.hardened_text.proofs.design_text.make_piece.Goals as goal
+
+pub loop-step-preserved : goal.loop-step-preserved
+loop-step-preserved c =
+    let n = c.args.n.now in
+    let t = c.args.form.now in
+    let low : c.loop-step.step < design_steps n = omega (
+      arith,
+      c.loop-step-test.true,
+      c.from-steps.ensures,
+      c.input_count.ensures.count,
+      c.nodes_of.ensures.count,
+      ap (λ (d : Design). length d.net.nodes) c.net-net.ensures.net,
+      ap (λ (d : Design). length d.net.inputs) c.net-net.ensures.net,
+    ) in (
+      step_put (design_step n t.plan) (design_steps n) c.loop-step.step c.loop-step.piece.items c.put_step.new.out.items (design_rest n t c.args.from) low c.in_ok-put_step.ensures c.loop-step.invariant.0,
+      λ e. absurd (omega (arith, e, c.loop-step.auto.step)),
+    )
