@@ -17,25 +17,25 @@ pub enum Verdict {
 
 /// A text to be saved: one that is held whole, or one that is made piece by piece while it is saved.
 #[derive(Drop)]
-pub enum SavedText<'a> {
+pub enum SavedText<'t> {
     Whole(Vec<u8>),
-    Design(DesignText<'a>),
-    Certificate(CertificateText<'a>),
+    Design(DesignText<'t>),
+    Certificate(CertificateText<'t>),
 }
 
 /// A text to be saved, and the name that it is saved under.
 #[derive(Drop)]
-pub struct Save<'a> {
-    pub name: &'a str,
-    pub text: SavedText<'a>,
+pub struct Save<'n, 't> {
+    pub name: &'n str,
+    pub text: SavedText<'t>,
 }
 
 /// What the work of a command gives, where its files are read: the verdict, the texts to be saved
 /// where it is Done, in this order, and the text to be printed.
 #[derive(Drop)]
-pub struct Work<'a> {
+pub struct Work<'n, 't> {
     pub verdict: Verdict,
-    pub saves: Vec<Save<'a>>,
+    pub saves: Vec<Save<'n, 't>>,
     pub text: Vec<u8>,
 }
 
@@ -47,7 +47,7 @@ pub struct Decision {
 }
 
 /// The work that is done with this text, and saves nothing.
-pub fn telling<'a>(alloc: Global, text: Vec<u8>) -> Work<'a>
+pub fn telling<'a>(alloc: Global, text: Vec<u8>) -> Work<'a, 'a>
     ensures { IsDoneWith [] [] text.items result }
 {
     Work {
@@ -63,7 +63,7 @@ pub fn saving<'a>(
     name: &'a str,
     bytes: Vec<u8>,
     text: Vec<u8>,
-) -> Result<Work<'a>, OutOfMemory>
+) -> Result<Work<'a, 'a>, OutOfMemory>
     ensures { IfOk result (IsDoneWith (name.now ∷ []) (bytes.items ∷ []) text.items) }
 {
     let mut saves = Vec::new(alloc);
@@ -79,7 +79,7 @@ pub fn saving<'a>(
 }
 
 /// The work where the files do not agree, with this text.
-pub fn denying<'a>(alloc: Global, text: Vec<u8>) -> Work<'a>
+pub fn denying<'a>(alloc: Global, text: Vec<u8>) -> Work<'a, 'a>
     ensures { IsDeniedWith text.items result }
 {
     Work {

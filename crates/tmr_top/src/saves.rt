@@ -53,13 +53,13 @@ fn save_one<'a, F: Files>(
 /// Saves the texts under their names, in this order, up to the first that fails.
 pub fn save_all<'a, F: Files>(
     files: &mut F,
-    saves: Vec<Save<'a>>,
+    saves: Vec<Save<'a, '_>>,
 ) -> Result<(), SaveStop<'a>>
-    ensures saves { OnOk result (Saves (save_names saves.items) (save_texts saves.items)
+    ensures saves { OnOk result (Saves (save_names saves.entry.items) (save_texts saves.entry.items)
         (F.seen files.old) (F.seen files.new)) }
-    ensures stop { IfErr result (λ stop. IsSaveStop (save_names saves.items) (save_texts saves.items)
+    ensures stop { IfErr result (λ stop. IsSaveStop (save_names saves.entry.items) (save_texts saves.entry.items)
         (F.seen files.old) (F.seen files.new) stop) }
-    ensures changes { ChangesOnly [] (save_names saves.items) (F.seen files.old) (F.seen files.new) }
+    ensures changes { ChangesOnly [] (save_names saves.entry.items) (F.seen files.old) (F.seen files.new) }
     ensures steady { F.steady files.old → F.steady files.new }
     ensures steady_stop { F.steady files.old → IfErr result (λ stop. stop ≡ SaveStop.Memory) }
 {

@@ -26,6 +26,13 @@ use tmr_outside::Files;
 use tmr_texts::{FormNumbers, greatest_of, hardened_lines};
 use tmr_words::HardenWords;
 
+/// A design, and the hardened form that was made of it.
+#[derive(Drop)]
+struct Made {
+    design: FreeNet,
+    form: Result<HardenedForm, OutOfMemory>,
+}
+
 /// What is told of a hardened form of a design.
 fn form_text(
     alloc: Global,
@@ -62,12 +69,12 @@ fn texts_keep_limits(words: &HardenWords, n: &FreeNet, made: &HardenedForm)
 }
 
 /// The texts of a hardened form, of which nothing is made yet, and what is told of it.
-fn tell_form<'a>(
+fn tell_form<'n, 't>(
     alloc: Global,
-    words: &HardenWords<'a>,
-    n: &'a FreeNet,
-    made: &'a HardenedForm,
-) -> Result<Work<'a>, OutOfMemory>
+    words: &HardenWords<'n>,
+    n: &'t FreeNet,
+    made: &'t HardenedForm,
+) -> Result<Work<'n, 't>, OutOfMemory>
     requires made { IsFormOf words.now.form n.now words.now.size words.now.version words.now.most made.now }
     requires within { IsWithin (most_original words.now.limits) n.now }
     ensures { IfOk result (IsWorkOver (Harden (hardening_in words.now))
@@ -101,25 +108,34 @@ fn make_form(
     n: &FreeNet,
 ) -> Result<HardenedForm, OutOfMemory>
     requires { IsWithin (most_original words.now.limits) n.now }
-    ensures { IfOk result (λ made. IsFormOf words.now.form n.now words.now.size words.now.version words.now.most made) }
+    ensures { IfOk result (λ form. IsFormOf words.now.form n.now words.now.size words.now.version words.now.most form) }
 {
     harden_form(alloc, n, words.form, words.size, words.version, words.most)
 }
 
-/// The work of `harden`, where there was memory for the form.
-fn tell<'a>(
-    alloc: Global,
-    words: &HardenWords<'a>,
-    n: &'a FreeNet,
-    made: &'a Result<HardenedForm, OutOfMemory>,
-) -> Result<Work<'a>, OutOfMemory>
-    requires within { IsWithin (most_original words.now.limits) n.now }
-    requires made { IfOk made.now (λ made. IsFormOf words.now.form n.now words.now.size words.now.version words.now.most made) }
-    ensures { IfOk result (IsWorkOver (Harden (hardening_in words.now))
-        (λ held. HoldsDesign held (original_file words.now.limits words.now.original.now) n.now.design.net n.now.free)) }
+/// The design, and its hardened form.
+fn make(alloc: Global, words: &HardenWords, design: FreeNet) -> Made
+    requires { IsWithin (most_original words.now.limits) design }
+    ensures design { result.design ≡ design }
+    ensures form { IfOk result.form (λ form. IsFormOf words.now.form design words.now.size words.now.version words.now.most form) }
 {
-    match made {
-        Ok(made) => tell_form(alloc, words, n, made),
+    let form = make_form(alloc, words, &design);
+    Made { design, form }
+}
+
+/// The work of `harden`, where there was memory for the form.
+fn tell<'n, 't>(
+    alloc: Global,
+    words: &HardenWords<'n>,
+    made: &'t Made,
+) -> Result<Work<'n, 't>, OutOfMemory>
+    requires within { IsWithin (most_original words.now.limits) made.now.design }
+    requires form { IfOk made.now.form (λ form. IsFormOf words.now.form made.now.design words.now.size words.now.version words.now.most form) }
+    ensures { IfOk result (IsWorkOver (Harden (hardening_in words.now))
+        (λ held. HoldsDesign held (original_file words.now.limits words.now.original.now) made.now.design.design.net made.now.design.free)) }
+{
+    match &made.form {
+        Ok(form) => tell_form(alloc, words, &made.design, form),
         Err(_) => Err(OutOfMemory),
     }
 }
@@ -135,8 +151,8 @@ pub fn perform<F: Files>(
 {
     match open_original(alloc, words.original, words.limits, files) {
         Ok(design) => {
-            let made = make_form(alloc, words, &design);
-            conclude(alloc, tell(alloc, words, &design, &made), files)
+            let made = make(alloc, words, design);
+            conclude(alloc, tell(alloc, words, &made), files)
         }
         Err(stop) => stopped(alloc, stop),
     }

@@ -238,7 +238,7 @@ fn replay_accepted<'a>(
     h: &FreeNet,
     c: &Certificate,
     s: &Schedule,
-) -> Result<Work<'a>, OutOfMemory>
+) -> Result<Work<'a, 'a>, OutOfMemory>
     requires fits { Fits n.now.design.net h.now.design.net c.now }
     requires accepted { FreeCorresponds n.now.design.net n.now.free h.now.design.net h.now.free c.now }
     requires rows { s.now.inputs ≡ length n.now.design.net.inputs }
@@ -271,7 +271,7 @@ fn tell<'a>(
     alloc: Global,
     words: &ReplayWords<'a>,
     read: &ReplayRead,
-) -> Result<Work<'a>, OutOfMemory>
+) -> Result<Work<'a, 'a>, OutOfMemory>
     requires fit { IsFit read.now.pair }
     requires replayable { IsReplayable (word_in words.now.waves) read.now.pair read.now.schedule }
     ensures { IfOk result (IsWorkOver (Replay (replaying_in words.now))

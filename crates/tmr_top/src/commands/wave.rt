@@ -100,7 +100,7 @@ pub fn save_waves<'a>(
     h: &FreeNet,
     c: &Certificate,
     s: &Schedule,
-) -> Result<Vec<Save<'a>>, OutOfMemory>
+) -> Result<Vec<Save<'a, 'a>>, OutOfMemory>
     requires fits { Fits n.now.design.net h.now.design.net c.now }
     requires inputs { length h.now.design.net.inputs ≡ 3 * length n.now.design.net.inputs }
     requires outputs { length h.now.design.net.outputs ≡ 3 * length n.now.design.net.outputs }
