@@ -2,9 +2,14 @@
 use crate::design::{Net, NodeKind};
 use crate::partitions::{partitions, Partitions};
 use crate::words::{put, put_number, put_rows};
+use std::fs::File;
+use std::io::{self, Write};
+
+/// The most bytes that are kept before they are written.
+const PIECE: usize = 65_536;
 
 /// What is voted, and the labels.
-struct Form {
+pub struct Form {
     parts: Partitions,
     /// Of each pin of the design.
     voted: Vec<bool>,
@@ -16,8 +21,7 @@ struct Form {
 }
 
 pub struct Hardened {
-    pub design: Vec<u8>,
-    pub certificate: Vec<u8>,
+    pub form: Form,
     pub told: String,
 }
 
@@ -112,6 +116,15 @@ fn form(n: &Net, size: u32) -> Form {
 const COPIES: [&[u8]; 3] = [b"~0", b"~1", b"~2"];
 const LETTERS: [&[u8]; 3] = [b"~a", b"~b", b"~c"];
 
+/// Writes what is kept, where that is much.
+fn turn(kept: &mut Vec<u8>, out: &mut File) -> io::Result<()> {
+    if kept.len() >= PIECE {
+        out.write_all(kept)?;
+        kept.clear();
+    }
+    Ok(())
+}
+
 impl Form {
     fn needs_of(&self, x: usize) -> &[u32] {
         &self.needs[self.starts[x] as usize..self.starts[x + 1] as usize]
@@ -160,7 +173,7 @@ impl Form {
         }
     }
 
-    fn design_text(&self, n: &Net) -> Vec<u8> {
+    pub fn write_design(&self, n: &Net, file: &mut File) -> io::Result<()> {
         let mut out = Vec::new();
         put(&mut out, &[b".model ", n.model, b"\n.inputs"]);
         for name in &n.names[..n.inputs] {
@@ -179,12 +192,13 @@ impl Form {
                 self.put_node(&mut out, n, x - n.inputs);
             }
             self.put_voters(&mut out, n, x);
+            turn(&mut out, file)?;
         }
         out.extend_from_slice(b".end\n");
-        out
+        file.write_all(&out)
     }
 
-    fn certificate_text(&self, n: &Net) -> Vec<u8> {
+    pub fn write_certificate(&self, n: &Net, file: &mut File) -> io::Result<()> {
         let mut out = b"tmr-cert 1\nparts ".to_vec();
         put_number(&mut out, self.parts.count as u64);
         for (p, depth) in self.depths.iter().enumerate() {
@@ -192,6 +206,7 @@ impl Form {
             put_number(&mut out, p as u64);
             out.extend_from_slice(b" depth ");
             put_number(&mut out, u64::from(*depth));
+            turn(&mut out, file)?;
         }
         for (y, label) in self.labels.iter().enumerate() {
             let name = n.names[n.inputs + y];
@@ -202,6 +217,7 @@ impl Form {
                 out.push(b' ');
                 put_number(&mut out, u64::from(*label));
             }
+            turn(&mut out, file)?;
         }
         for (x, name) in n.names.iter().enumerate() {
             for p in self.needs_of(x) {
@@ -213,9 +229,10 @@ impl Form {
                     out.extend_from_slice(*copy);
                 }
             }
+            turn(&mut out, file)?;
         }
         out.extend_from_slice(b"\nend\n");
-        out
+        file.write_all(&out)
     }
 }
 
@@ -229,5 +246,5 @@ pub fn harden(n: &Net, size: u32) -> Hardened {
         3 * nodes + voters, parts.count, parts.cost, parts.plain, if parts.minimal { "yes" } else { "no" },
         form.depths.iter().max().unwrap_or(&0), n.open_count(),
     );
-    Hardened { design: form.design_text(n), certificate: form.certificate_text(n), told }
+    Hardened { form, told }
 }

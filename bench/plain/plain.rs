@@ -29,7 +29,7 @@ use design::{design, Net};
 use names::Fault;
 use rules::Check;
 use std::fs::{self, File};
-use std::io::Write;
+use std::io::{self, Write};
 use std::process::{self, exit};
 
 fn load(file: &str) -> Vec<u8> {
@@ -41,9 +41,14 @@ fn load(file: &str) -> Vec<u8> {
 
 /// Saves a file whole or not at all, as tmr does: it is written beside, synced, and renamed.
 fn save(file: &str, bytes: &[u8]) {
+    save_pieces(file, |out| out.write_all(bytes))
+}
+
+/// The same, of a text that is written while it is made.
+fn save_pieces(file: &str, write: impl FnOnce(&mut File) -> io::Result<()>) {
     let beside = format!("{file}.{}", process::id());
     let written = File::create(&beside).and_then(|mut it| {
-        it.write_all(bytes)?;
+        write(&mut it)?;
         it.sync_all()
     });
     written.and_then(|()| fs::rename(&beside, file)).unwrap_or_else(|_| {
@@ -99,8 +104,8 @@ fn validate(original: &str, hardened: &str, certificate: &str) {
 fn harden(original: &str, hardened: &str, certificate: &str, size: u32) {
     with_design(original, |n| {
         let made = harden::harden(n, size);
-        save(hardened, &made.design);
-        save(certificate, &made.certificate);
+        save_pieces(hardened, |out| made.form.write_design(n, out));
+        save_pieces(certificate, |out| made.form.write_certificate(n, out));
         print!("{}", made.told);
     })
 }

@@ -1,14 +1,13 @@
 -- Rows of bits.
-use Rattle.std.proofs.Common.{◌≡◌, ℕ, ◌-◌, ◌*◌, ◌/◌, ◌%◌, ◌^◌, ◌<◌, ◌≤◌, ◌⊎◌, inl, inr, Bool, true, false, ◌||◌, List, [], length, set, get_or, refl, sym, ◌∙◌, ap, subst, arith}
-use Rattle.std.specs.Prelude.{nat_eq, bit_and, bit_or, Vec}
+use Rattle.std.proofs.Common.{◌≡◌, ℕ, ◌+◌, ◌-◌, ◌*◌, ◌/◌, ◌%◌, ◌^◌, ◌<◌, ◌≤◌, ◌⊎◌, inl, inr, Bool, true, false, ◌||◌, ◌&&◌, List, [], ◌∷◌, ◌++◌, length, set, get_or, replicate, refl, sym, ◌∙◌, ap, subst, arith}
+use Rattle.std.specs.Prelude.{nat_eq, bit_and, bit_or}
 use Rattle.std.specs.Int.{bit_at, w64}
-use Rattle.std.specs.declared.alloc.Global.{Global}
-use Rattle.std.proofs.lemmas.Bool.{cases_eq, true≢false}
-use Rattle.std.proofs.lemmas.List.{map-set, get_or-map, get_or-set_same, get_or-set_other, get_or_default, get_or_past, length-map}
-use Rattle.std.proofs.lemmas.Nat.Bits.{bit_at_set_same, bit_at_clear_other}
+use Rattle.std.proofs.lemmas.Bool.{cases_eq, cases_lt, true≢false}
+use Rattle.std.proofs.lemmas.List.{get_or-set_same, get_or-set_other, get_or_default, get_or_past, get_or-replicate, length-replicate, length_push, get_or_push}
+use Rattle.std.proofs.lemmas.Nat.Bits.{bit_at_set_same, bit_at_clear_other, bit_at_mask_inside, ones_shl}
 use Rattle.table_cover.specs.Words.{word_bit}
-use Rattle.table_cover.proofs.WordLaws.{word_bit_or, word_bit_ones}
-use Rattle.partitioner.specs.Private.Marks.{rows_of, has_bit}
+use Rattle.table_cover.proofs.WordLaws.{word_bit_and, word_bit_or, word_bit_ones, word_bit_zero}
+use Rattle.partitioner.specs.Private.Marks.{has_bit, Covers}
 
 in_either : (b o : Bool) → b ≡ true → (b || o) ≡ true
 in_either true o e = refl
@@ -42,25 +41,59 @@ unfolding word_bit
 bit_clear_kept q r was ne e h =
     ap (λ (b : ℕ). nat_eq b 1) (bit_at_clear_other w64 was (q % 64) (omega arith) (r % 64) (omega arith) (λ same. ne (omega (arith, e, same)))) ∙ h
 
--- one row of many replaced by another
-pub row_here : (rows : List (Vec ℕ Global)) (x : ℕ) (now : Vec ℕ Global) → x < length rows → get_or (rows_of (set rows x now)) x [] ≡ now.items
-row_here rows x now l =
-    ap (λ (r : List (List ℕ)). get_or r x []) (map-set (λ (v : Vec ℕ Global). v.items) rows x now)
-    ∙ get_or-set_same (rows_of rows) x now.items [] (subst (λ (k : ℕ). x < k) (sym (length-map rows (λ (v : Vec ℕ Global). v.items))) l)
+pub bit_elsewhere : (words : List ℕ) (k now r : ℕ) → (r / 64 ≡ k → ⊥) → has_bit (set words k now) r ≡ has_bit words r
+bit_elsewhere words k now r ne = ap (word_bit (r % 64)) (get_or-set_other words k (r / 64) now 18446744073709551615 ne)
 
-pub row_there : (rows : List (Vec ℕ Global)) (x z : ℕ) (now : Vec ℕ Global) → (z ≡ x → ⊥) → get_or (rows_of (set rows x now)) z [] ≡ get_or (rows_of rows) z []
-row_there rows x z now ne =
-    ap (λ (r : List (List ℕ)). get_or r z []) (map-set (λ (v : Vec ℕ Global). v.items) rows x now) ∙ get_or-set_other (rows_of rows) x z now.items [] ne
+both_first : (a b : Bool) → (a && b) ≡ true → a ≡ true
+both_first true b e = refl
+both_first false b e = e
 
-pub row_was : (rows : List (Vec ℕ Global)) (x : ℕ) (was : Vec ℕ Global) → x < length rows → was ≡ get_or rows x was → get_or (rows_of rows) x [] ≡ was.items
-row_was rows x was l at = get_or-map (λ (v : Vec ℕ Global). v.items) rows x was [] l ∙ ap (λ (v : Vec ℕ Global). v.items) (sym at)
-
--- what holds of the one row and of itself holds of each
-pub row_each : (rows : List (Vec ℕ Global)) (x : ℕ) (was now : Vec ℕ Global) (P : List ℕ → List ℕ → Type 0) → x < length rows → was ≡ get_or rows x was → P was.items now.items → (z : ℕ) → ((z ≡ x → ⊥) → P (get_or (rows_of rows) z []) (get_or (rows_of rows) z [])) → P (get_or (rows_of rows) z []) (get_or (rows_of (set rows x now)) z [])
-row_each rows x was now P l at step z same = go (cases_eq z x)
+-- a word of a row replaced by one with fewer bits
+pub bits_fewer : (words : List ℕ) (k was mask r : ℕ) → k < length words → was ≡ get_or words k was → has_bit (set words k (bit_and was mask)) r ≡ true → has_bit words r ≡ true
+bits_fewer words k was mask r l at h = go (cases_eq (r / 64) k)
   where
-    go : (z ≡ x) ⊎ (z ≡ x → ⊥) → P (get_or (rows_of rows) z []) (get_or (rows_of (set rows x now)) z [])
+    go : (r / 64 ≡ k) ⊎ (r / 64 ≡ k → ⊥) → has_bit words r ≡ true
     go (inl e) =
-        subst (λ (k : ℕ). P (get_or (rows_of rows) k []) (get_or (rows_of (set rows x now)) k [])) (sym e)
-        (subst (λ (b : List ℕ). P (get_or (rows_of rows) x []) b) (sym (row_here rows x now l)) (subst (λ (a : List ℕ). P a now.items) (sym (row_was rows x was l at)) step))
-    go (inr ne) = subst (λ (b : List ℕ). P (get_or (rows_of rows) z []) b) (sym (row_there rows x z now ne)) (same ne)
+        let here : get_or (set words k (bit_and was mask)) (r / 64) 18446744073709551615 ≡ bit_and was mask = ap (λ (w : ℕ). get_or (set words k (bit_and was mask)) w 18446744073709551615) e ∙ get_or-set_same words k (bit_and was mask) 18446744073709551615 l in
+        let before : get_or words (r / 64) 18446744073709551615 ≡ was = ap (λ (w : ℕ). get_or words w 18446744073709551615) e ∙ (get_or_default words k 18446744073709551615 was l ∙ sym at) in
+        let both : (word_bit (r % 64) was && word_bit (r % 64) mask) ≡ true = sym (word_bit_and (r % 64) was mask) ∙ (sym (ap (word_bit (r % 64)) here) ∙ h) in
+        ap (word_bit (r % 64)) before ∙ both_first (word_bit (r % 64) was) (word_bit (r % 64) mask) both
+    go (inr ne) = sym (bit_elsewhere words k (bit_and was mask) r ne) ∙ h
+
+-- all bits from j on
+high_bits : (j i : ℕ) → j ≤ i → i < 64 → word_bit i (18446744073709551615 * 2 ^ j % 18446744073709551616) ≡ true
+unfolding word_bit
+high_bits j i from l =
+    ap (λ (n : ℕ). nat_eq (bit_at n i) 1) (ones_shl 64 j (omega (arith, from, l))) ∙ ap (λ (b : ℕ). nat_eq b 1) (bit_at_mask_inside j 64 i from l)
+
+-- the bits past so many
+pub bits_past : (words w : ℕ) (blocks : List ℕ) → blocks ≡ replicate (words / 64) 0 ++ (18446744073709551615 * 2 ^ (words % 64) % 18446744073709551616) ∷ [] → words ≤ w → has_bit blocks w ≡ true
+bits_past words w blocks e from = subst (λ (xs : List ℕ). has_bit xs w ≡ true) (sym e) (go (cases_eq (w / 64) (words / 64)))
+  where
+    last : ℕ
+    last = 18446744073709551615 * 2 ^ (words % 64) % 18446744073709551616
+
+    long : length (replicate (words / 64) 0 ++ last ∷ []) ≡ words / 64 + 1
+    long = length_push (replicate (words / 64) 0) last ∙ ap (λ (k : ℕ). k + 1) (length-replicate (words / 64) 0)
+
+    go : (w / 64 ≡ words / 64) ⊎ (w / 64 ≡ words / 64 → ⊥) → has_bit (replicate (words / 64) 0 ++ last ∷ []) w ≡ true
+    go (inl same) =
+        let here : get_or (replicate (words / 64) 0 ++ last ∷ []) (w / 64) 18446744073709551615 ≡ last = get_or_push (replicate (words / 64) 0) last 18446744073709551615 (w / 64) (length-replicate (words / 64) 0 ∙ sym same) in
+        ap (word_bit (w % 64)) here ∙ high_bits (words % 64) (w % 64) (omega (arith, from, same)) (omega arith)
+    go (inr ne) = bit_past (replicate (words / 64) 0 ++ last ∷ []) w (omega (arith, long, from, ne))
+
+-- a row of words of which none has a bit set
+pub zeros_covered : (n : ℕ) (blocks : List ℕ) → ((w : ℕ) → n ≤ w → has_bit blocks w ≡ true) → Covers blocks (replicate n 0)
+zeros_covered n blocks past q h = past (q / 64) (go (cases_lt (q / 64) n))
+  where
+    go : (q / 64 < n) ⊎ (n ≤ q / 64) → n ≤ q / 64
+    go (inl l) = absurd (true≢false (sym h ∙ (ap (word_bit (q % 64)) (get_or-replicate n (q / 64) 0 18446744073709551615 l) ∙ word_bit_zero (q % 64))))
+    go (inr l) = l
+
+-- the bit of a word without bits is cleared
+pub covers_closed : (w : ℕ) (blocks blocks' words : List ℕ) → Covers blocks words → get_or words w 18446744073709551615 ≡ 0 → ((r : ℕ) → (w ≡ r → ⊥) → has_bit blocks r ≡ true → has_bit blocks' r ≡ true) → Covers blocks' words
+covers_closed w blocks blocks' words before none kept q h = go (cases_eq w (q / 64))
+  where
+    go : (w ≡ q / 64) ⊎ (w ≡ q / 64 → ⊥) → has_bit blocks' (q / 64) ≡ true
+    go (inl e) = absurd (true≢false (sym h ∙ (ap (word_bit (q % 64)) (sym (ap (λ (k : ℕ). get_or words k 18446744073709551615) e) ∙ none) ∙ word_bit_zero (q % 64))))
+    go (inr ne) = kept (q / 64) ne (before q h)

@@ -4,6 +4,7 @@ pub mod counting;
 pub mod marking;
 pub mod marks;
 pub mod partitioning;
+pub mod rows;
 pub mod sets;
 pub mod spots;
 pub mod tracking;

@@ -42,14 +42,14 @@ fn exit_code(status: Status) -> ExitCode
     ExitCode::from(status.code())
 }
 
-/// Whether long loads are told of: standard error is a terminal, and the variable `TMR_QUIET` is not set.
+/// Whether long loads and saves are told of: standard error is a terminal, and the variable `TMR_QUIET` is not set.
 fn tells_progress(rt: &HostRuntime) -> bool {
     let mut value = [0u8; 1];
     let is_quiet = !matches!(rt.var("TMR_QUIET", &mut value), Err(FillError::NotPresent));
     !is_quiet && rt.stderr().is_terminal()
 }
 
-/// Real files. Long loads are told of where a person sees it.
+/// Real files. Long loads and saves are told of where a person sees it.
 fn real_files(rt: &HostRuntime) -> DiskFiles<'_, HostRuntime> {
     if tells_progress(rt) {
         DiskFiles::telling(rt.alloc(), rt)

@@ -7,7 +7,8 @@ use crate::fault_count::FaultCount;
 use crate::gathered::Gathered;
 use crate::progress::Progress;
 use crate::reading::hand_out_within;
-use crate::saving::{Save, save_file};
+use crate::save_call::SaveCall;
+use crate::saving::save_file;
 use crate::source::{Counted, load_fault};
 use crate::watched::Watched;
 use crate::whole::Whole;
@@ -75,7 +76,7 @@ impl<R: rt::Files + Clock + Eprint> DiskFiles<'_, R> {
         ensures refused { OnErr result (Rose self.old self.new) }
         ensures later { self.old ≤ self.new }
     {
-        let save = Save {
+        let save = SaveCall {
             rt: self.rt,
             alloc: self.alloc,
             name,

@@ -22,6 +22,7 @@ mod plan;
 mod progress;
 mod reading;
 mod replacing;
+mod save_call;
 mod save_target;
 mod saving;
 mod sink;

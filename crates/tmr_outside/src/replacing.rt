@@ -6,7 +6,7 @@ ghost use Rattle.std.specs.Path.{path_buf_bytes, path_with_file_name};
 ghost use Rattle.tmr_outside.specs.Beside.{file_beside};
 
 use crate::Giver;
-use crate::saving::Save;
+use crate::save_call::SaveCall;
 use crate::watched_writer::WatchedWriter;
 use crate::writing::write_pieces;
 use std::alloc::{AllocError, Global};
@@ -24,7 +24,7 @@ const MOST_NAMES: u64 = 1_000;
 #[derive(Drop)]
 pub enum Replaced<F: Drop> {
     /// It is the new one.
-    Whole,
+    Done,
     /// It is as before: the new one cannot take its place, but it may be that it can be written where it stands. This is the new one, with
     /// all that was given. It has no name any more.
     Unplaced(F),
@@ -92,7 +92,7 @@ struct NewFile<'a, R: rt::Files + Clock + Eprint> {
 
 /// Makes a new file beside, which only its owner may read yet where it is `private`.
 fn make_beside<'a, R: rt::Files + Clock + Eprint>(
-    save: &Save<'a, R>,
+    save: &SaveCall<'a, R>,
     path: &PathBuf,
     is_private: bool,
 ) -> Result<NewFile<'a, R>, Kept> {
@@ -198,7 +198,7 @@ fn put_in_place<R: rt::Files + Clock + Eprint, G: Giver>(
 
 /// Makes a file of this name hold what is given: it is replaced whole. `old` is what is known of the file that has the name, if one has it.
 pub fn replace<R: rt::Files + Clock + Eprint, G: Giver>(
-    save: &Save<'_, R>,
+    save: &SaveCall<'_, R>,
     path: &PathBuf,
     old: Option<Metadata>,
     from: &mut G,
@@ -207,7 +207,7 @@ pub fn replace<R: rt::Files + Clock + Eprint, G: Giver>(
     let outcome = put_in_place(save.rt, &mut new, old, path, from);
     new.file.end();
     if outcome == Ok(true) {
-        return Ok(Replaced::Whole);
+        return Ok(Replaced::Done);
     }
     let _ = fs::remove_file(save.rt, new.path.as_path());
     match outcome {

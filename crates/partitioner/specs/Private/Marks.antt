@@ -1,15 +1,8 @@
 -- Rows of bits, one for each partition, in words of 64.
-use Rattle.std.specs.Prelude.{ℕ, ◌/◌, ◌%◌, Bool, List, [], map, slice_index_or, Vec}
-use Rattle.std.specs.declared.alloc.Global.{Global}
+use Rattle.std.specs.Prelude.{◌≡◌, ℕ, ◌/◌, ◌%◌, Bool, true, List, [], slice_index_or}
 use Rattle.table_cover.specs.Words.{word_bit}
-
--- the rows as lists
-abbrev pub rows_of : List (Vec ℕ Global) → List (List ℕ)
-rows_of rows = map (λ row. row.items) rows
-
--- word w of row x; where there is none, all its bits are set
-abbrev pub word_at : List (List ℕ) → ℕ → ℕ → ℕ
-word_at rows x w = slice_index_or (slice_index_or rows x []) w 18446744073709551615
+use Rattle.partitioner.specs.declared.counts.rows.Level.{Level}
+use Rattle.partitioner.specs.declared.counts.rows.Level.TheVariants.{Partitions, Blocks}
 
 -- bit q of words; it is set where there is no such word
 abbrev pub has_bit : List ℕ → ℕ → Bool
@@ -18,3 +11,12 @@ has_bit words q = word_bit (q % 64) (slice_index_or words (q / 64) 1844674407370
 -- bit q of row x is set
 abbrev pub is_marked : List (List ℕ) → ℕ → ℕ → Bool
 is_marked rows x q = has_bit (slice_index_or rows x []) q
+
+-- where a bit of a word is set, the bit of the word is
+abbrev pub Covers : List ℕ → List ℕ → Type 0
+Covers blocks words = (q : ℕ) → has_bit words q ≡ true → has_bit blocks (q / 64) ≡ true
+
+-- where partition q is counted: by itself, or with those of its block of 64
+abbrev pub lane_of : Level → ℕ → ℕ
+lane_of Partitions q = q
+lane_of Blocks q = q / 64

@@ -1,7 +1,9 @@
 //! In which partitions nodes of very many readers are near, in rows of bits.
-ghost use Rattle.std.specs.Prelude.{◌≡◌, ◌<◌, ℕ, true, [], length, slice_index_or, IfOk, OnOk};
-ghost use Rattle.partitioner.specs.Private.Marks.{has_bit, is_marked, rows_of, word_at};
+ghost use Rattle.std.specs.Prelude.{◌≡◌, ◌<◌, ◌+◌, ◌*◌, ℕ, true, [], length, slice_index_or, IfOk, OnOk};
+ghost use Rattle.table_cover.specs.Words.{word_bit};
+ghost use Rattle.partitioner.specs.Private.Marks.{is_marked, lane_of};
 
+use crate::counts::rows::{Level, Row};
 use std::alloc::Global;
 use std::marker::Model;
 use tmr_base::OutOfMemory;
@@ -9,53 +11,29 @@ use tmr_base::OutOfMemory;
 /// For some nodes a row of bits, one for each partition. A node without a row is taken to be marked in all of them.
 #[derive(Drop)]
 pub struct Marks {
-    rows: Vec<Vec<u64>>,
+    rows: Vec<Row>,
 }
 
 impl Model for Marks {
     ghost use Rattle.std.specs.Prelude.{ℕ, List};
-    ghost use Rattle.partitioner.specs.Private.Marks.{rows_of};
 
     ghost Value = { List (List ℕ) };
 
-    ghost view = { λ m. rows_of m.rows.items };
+    ghost view = { λ m. m.rows.items };
 }
 
 /// As many empty rows.
-fn empty_rows(alloc: Global, count: u32) -> Result<Vec<Vec<u64>>, OutOfMemory>
+fn empty_rows(alloc: Global, count: u32) -> Result<Vec<Row>, OutOfMemory>
     ensures long { IfOk result (λ rows. length rows.items ≡ count) }
-    ensures empty { IfOk result (λ rows. (x : ℕ) → length (slice_index_or (rows_of rows.items) x []) ≡ 0) }
+    ensures empty { IfOk result (λ rows. (x : ℕ) → length (slice_index_or rows.items x []) ≡ 0) }
 {
     let mut rows = Vec::new(alloc);
     let mut left = count;
     while left > 0 {
-        rows.push(Vec::new(alloc))?;
+        rows.push(Row::none(alloc))?;
         left -= 1;
     }
     Ok(rows)
-}
-
-/// Sets bit q of a row.
-fn set_bit(row: &mut Vec<u64>, q: u32)
-    ensures long { length row.new.items ≡ length row.old.items }
-    ensures kept { (r : ℕ) → has_bit row.old.items r ≡ true → has_bit row.new.items r ≡ true }
-    ensures added { has_bit row.new.items q ≡ true }
-{
-    let w = (q / 64) as usize;
-    if w < row.len() {
-        row[w] |= 1u64 << (q % 64);
-    }
-}
-
-/// Clears bit q of a row.
-fn clear_bit(row: &mut Vec<u64>, q: u32)
-    ensures long { length row.new.items ≡ length row.old.items }
-    ensures kept { (r : ℕ) → (q ≡ r → ⊥) → has_bit row.old.items r ≡ true → has_bit row.new.items r ≡ true }
-{
-    let w = (q / 64) as usize;
-    if w < row.len() {
-        row[w] &= !(1u64 << (q % 64));
-    }
 }
 
 impl Marks {
@@ -74,7 +52,7 @@ impl Marks {
         ensures long { OnOk result (length self.new ≡ length self.old) }
         ensures others { OnOk result ((z : ℕ) → (z ≡ x → ⊥) → slice_index_or self.new z [] ≡ slice_index_or self.old z []) }
     {
-        self.rows[x as usize] = vec![in alloc; 0u64; words]?;
+        self.rows[x as usize] = Row::zeros(alloc, words)?;
         Ok(())
     }
 
@@ -82,16 +60,15 @@ impl Marks {
     pub fn has_row(&self, x: u32) -> bool
         requires { x < length self.now }
     {
-        self.rows[x as usize].len() > 0
+        self.rows[x as usize].has_words()
     }
 
-    /// Word w of node x: bit c of it stands for partition 64 w + c.
-    pub fn word(&self, x: u32, w: usize) -> u64
+    /// Word w of node x: bit c of it is set if the node is marked in what lane 64 w + c stands for.
+    pub fn word(&self, x: u32, level: Level, w: usize) -> u64
         requires { x < length self.now }
-        ensures { result ≡ word_at self.now x w }
+        ensures { (c q : ℕ) → c < 64 → lane_of level q ≡ w * 64 + c → is_marked self.now x q ≡ true → word_bit c result ≡ true }
     {
-        let row = &self.rows[x as usize];
-        if w < row.len() { row[w] } else { u64::MAX }
+        self.rows[x as usize].word(level, w)
     }
 
     /// Marks node x in partition q.
@@ -102,7 +79,7 @@ impl Marks {
         ensures kept { (z r : ℕ) → is_marked self.old z r ≡ true → is_marked self.new z r ≡ true }
         ensures added { is_marked self.new x q ≡ true }
     {
-        set_bit(&mut self.rows[x as usize], q);
+        self.rows[x as usize].set(q);
     }
 
     /// Marks node x no longer in partition q.
@@ -113,6 +90,6 @@ impl Marks {
         ensures kept { (z r : ℕ) → (q ≡ r → ⊥) → is_marked self.old z r ≡ true → is_marked self.new z r ≡ true }
         ensures others { (z r : ℕ) → (z ≡ x → ⊥) → is_marked self.old z r ≡ true → is_marked self.new z r ≡ true }
     {
-        clear_bit(&mut self.rows[x as usize], q);
+        self.rows[x as usize].clear(q);
     }
 }

@@ -1,15 +1,17 @@
-//! Where a node goes that reads several nodes of very many readers: all partitions are counted, 64 at once.
-ghost use Rattle.std.specs.Prelude.{◌≡◌, ◌<◌, ◌≤◌, ◌+◌, ◌*◌, ◌⊎◌, ℕ, [], false, length, slice_index_or};
+//! Where a node goes that reads several nodes of very many readers: all partitions are counted, 64 at once, and before them blocks of 64
+//! partitions, 64 at once, so that only blocks are counted where enough of these nodes are near.
+ghost use Rattle.std.specs.Prelude.{◌≡◌, ◌<◌, ◌≤◌, ◌+◌, ◌*◌, ℕ, [], length, slice_index_or};
 ghost use Rattle.table_cover.specs.Words.{word_bit};
-ghost use Rattle.partitioner.specs.Private.Tracking.{Tracks};
 ghost use Rattle.partitioner.specs.Private.Gaining.{IsCounted};
 ghost use Rattle.partitioner.specs.Private.Loss.{loss};
 ghost use Rattle.partitioner.specs.Private.Leading.{IsLead, Leads, LeadsOpen, start_of};
-ghost use Rattle.partitioner.specs.Private.Scanning.{AreCounted, IsNeeded};
+ghost use Rattle.partitioner.specs.Private.Marks.{lane_of};
+ghost use Rattle.partitioner.specs.Private.Scanning.{AreCounted, AreShut, AreTried, IsNeeded};
 
 use crate::costs::gains::Gains;
 use crate::costs::lanes::{Lanes, add, all_lanes};
 use crate::counts::partitioning::Partitioning;
+use crate::counts::rows::Level;
 use crate::refinement::placing::{Lead, Mover, consider, part_of};
 use flat_net::{FlatNet, nodes_of};
 
@@ -32,22 +34,41 @@ pub fn is_scanned(n: &FlatNet, p: &Partitioning, gains: &Gains, i: u32) -> bool
     true
 }
 
-/// `bias`, and how many of the nodes that node i reads and that are not counted yet are near, in each partition of block w.
-fn counted_block(n: &FlatNet, p: &Partitioning, gains: &Gains, i: u32, w: usize, bias: u64) -> Lanes
+/// `bias`, and how many of the nodes that node i reads and that are not counted yet are near, in each lane of word w.
+fn counted_lanes(
+    n: &FlatNet,
+    p: &Partitioning,
+    gains: &Gains,
+    i: u32,
+    level: Level,
+    w: usize,
+    bias: u64,
+) -> Lanes
     requires counted { IsCounted n.now.net p.now i gains.now }
     requires bias { bias < 16 }
-    ensures { AreCounted n.now.net p.now i gains.now w bias result (length (slice_index_or p.now.sources i [])) }
+    ensures { AreCounted n.now.net p.now i gains.now level w bias result (length (slice_index_or p.now.sources i [])) }
 {
     let _nodes = nodes_of(n);
     let row = p.sources.row(i);
     let mut lanes = all_lanes(bias);
     for j in gains.counted as usize..row.len() {
-        lanes = add(lanes, p.marks.word(row[j], w));
+        lanes = add(lanes, p.marks.word(row[j], level, w));
     }
     lanes
 }
 
-/// How many of the nodes that are not counted yet are near, at least, in a partition of block w that takes the lead. 0 tells nothing.
+/// No partition of a lane of word w comes before this one.
+fn first_in(level: Level, w: u32) -> u32
+    ensures { (c q : ℕ) → lane_of level q ≡ w * 64 + c → result ≤ q }
+{
+    match level {
+        Level::Partitions => w.saturating_mul(64),
+        Level::Blocks => w.saturating_mul(4096),
+    }
+}
+
+/// How many of the nodes that are not counted yet are near, at least, in a partition from `first` on that takes the lead. 0
+/// tells nothing.
 fn needed(n: &FlatNet, p: &Partitioning, gains: &Gains, i: u32, lead: Lead, first: u32) -> u64
     requires counted { IsCounted n.now.net p.now i gains.now }
     ensures { IsNeeded (length (slice_index_or p.now.sources i [])) (start_of p.now i) first gains.now.most lead result }
@@ -62,19 +83,26 @@ fn needed(n: &FlatNet, p: &Partitioning, gains: &Gains, i: u32, lead: Lead, firs
     }
 }
 
-/// The partitions of block w that may take the lead, as bits of a word.
-fn candidates(n: &FlatNet, p: &Partitioning, gains: &Gains, i: u32, lead: Lead, w: u32) -> u64
+/// The lanes of word w with partitions that may take the lead, as bits of a word.
+fn candidates(
+    n: &FlatNet,
+    p: &Partitioning,
+    gains: &Gains,
+    i: u32,
+    lead: Lead,
+    level: Level,
+    w: u32,
+) -> u64
     requires counted { IsCounted n.now.net p.now i gains.now }
-    requires block { w * 64 < p.now.count }
     requires lead { lead.loss ≡ loss n.now.net p.now.of.items i lead.place }
-    ensures { (c : ℕ) → c < 64 → w * 64 + c < p.now.count → word_bit c result ≡ false → Leads n.now.net p.now i lead.place (w * 64 + c) }
+    ensures { AreShut n.now.net p.now i level (w * 64) result lead.place }
 {
-    let need = needed(n, p, gains, i, lead, w * 64);
+    let need = needed(n, p, gains, i, lead, first_in(level, w));
     if need == 0 {
         return u64::MAX;
     }
     let bias = 16 - need.min(16);
-    let lanes = counted_block(n, p, gains, i, w as usize, bias);
+    let lanes = counted_lanes(n, p, gains, i, level, w as usize, bias);
     lanes.over
 }
 
@@ -86,15 +114,15 @@ fn is_set(word: u64, c: u32) -> bool
     (word >> c) & 1 == 1
 }
 
-/// The lead after the partitions of block w whose bits are set in `chosen` are tried.
+/// The lead after the 64 partitions from `first` on whose bits are set in `chosen` are tried.
 fn consider_lanes(mover: &Mover, lead: Lead, first: u32, chosen: u64) -> Lead
     requires counted { IsCounted mover.now.net.now.net mover.now.parts.now mover.now.node mover.now.gains.now }
     requires block { first < mover.now.parts.now.count }
     requires lead { IsLead mover.now.net.now.net mover.now.size mover.now.parts.now mover.now.node lead }
-    requires shut { (c : ℕ) → c < 64 → first + c < mover.now.parts.now.count → word_bit c chosen ≡ false → Leads mover.now.net.now.net mover.now.parts.now mover.now.node lead.place (first + c) }
+    requires shut { AreShut mover.now.net.now.net mover.now.parts.now mover.now.node Level.Partitions first chosen lead.place }
     ensures lead { IsLead mover.now.net.now.net mover.now.size mover.now.parts.now mover.now.node result }
     ensures kept { (c : ℕ) → Leads mover.now.net.now.net mover.now.parts.now mover.now.node lead.place c → Leads mover.now.net.now.net mover.now.parts.now mover.now.node result.place c }
-    ensures tried { (c : ℕ) → c < 64 → first + c < mover.now.parts.now.count → LeadsOpen mover.now.net.now.net mover.now.size mover.now.parts.now mover.now.node result.place (first + c) }
+    ensures tried { AreTried mover.now.net.now.net mover.now.size mover.now.parts.now mover.now.node Level.Partitions first 64 result.place }
 {
     let mut lead = lead;
     let within = mover.parts.count - first;
@@ -106,21 +134,61 @@ fn consider_lanes(mover: &Mover, lead: Lead, first: u32, chosen: u64) -> Lead
     lead
 }
 
-/// The lead after the partitions of the block of 64 that begins with `first` are tried.
+/// The lead after the partitions of block w are tried.
 fn consider_block(mover: &Mover, lead: Lead, w: u32) -> Lead
     requires counted { IsCounted mover.now.net.now.net mover.now.parts.now mover.now.node mover.now.gains.now }
     requires block { w * 64 < mover.now.parts.now.count }
     requires lead { IsLead mover.now.net.now.net mover.now.size mover.now.parts.now mover.now.node lead }
     ensures lead { IsLead mover.now.net.now.net mover.now.size mover.now.parts.now mover.now.node result }
     ensures kept { (c : ℕ) → Leads mover.now.net.now.net mover.now.parts.now mover.now.node lead.place c → Leads mover.now.net.now.net mover.now.parts.now mover.now.node result.place c }
-    ensures tried { (c : ℕ) → c < 64 → w * 64 + c < mover.now.parts.now.count → LeadsOpen mover.now.net.now.net mover.now.size mover.now.parts.now mover.now.node result.place (w * 64 + c) }
+    ensures tried { AreTried mover.now.net.now.net mover.now.size mover.now.parts.now mover.now.node Level.Partitions (w * 64) 64 result.place }
 {
     let _count = mover.parts.count;
-    let chosen = candidates(mover.net, mover.parts, mover.gains, mover.node, lead, w);
+    let (n, p) = (mover.net, mover.parts);
+    let chosen = candidates(n, p, mover.gains, mover.node, lead, Level::Partitions, w);
     if chosen == 0 {
         return lead;
     }
     consider_lanes(mover, lead, w * 64, chosen)
+}
+
+/// The lead after the partitions of the 64 blocks from `first` on whose bits are set in `chosen` are tried.
+fn consider_chosen(mover: &Mover, lead: Lead, first: u32, chosen: u64) -> Lead
+    requires counted { IsCounted mover.now.net.now.net mover.now.parts.now mover.now.node mover.now.gains.now }
+    requires block { first * 64 < mover.now.parts.now.count }
+    requires lead { IsLead mover.now.net.now.net mover.now.size mover.now.parts.now mover.now.node lead }
+    requires shut { AreShut mover.now.net.now.net mover.now.parts.now mover.now.node Level.Blocks first chosen lead.place }
+    ensures lead { IsLead mover.now.net.now.net mover.now.size mover.now.parts.now mover.now.node result }
+    ensures kept { (c : ℕ) → Leads mover.now.net.now.net mover.now.parts.now mover.now.node lead.place c → Leads mover.now.net.now.net mover.now.parts.now mover.now.node result.place c }
+    ensures tried { AreTried mover.now.net.now.net mover.now.size mover.now.parts.now mover.now.node Level.Blocks first 64 result.place }
+{
+    let mut lead = lead;
+    let within = mover.parts.count.div_ceil(64) - first;
+    for c in 0..64u32 {
+        if c < within && is_set(chosen, c) {
+            lead = consider_block(mover, lead, first + c);
+        }
+    }
+    lead
+}
+
+/// The lead after the partitions of group g, which has 64 blocks, are tried. Only those blocks are looked at in which enough nodes are near
+/// somewhere.
+fn consider_group(mover: &Mover, lead: Lead, g: u32) -> Lead
+    requires counted { IsCounted mover.now.net.now.net mover.now.parts.now mover.now.node mover.now.gains.now }
+    requires group { g * 4096 < mover.now.parts.now.count }
+    requires lead { IsLead mover.now.net.now.net mover.now.size mover.now.parts.now mover.now.node lead }
+    ensures lead { IsLead mover.now.net.now.net mover.now.size mover.now.parts.now mover.now.node result }
+    ensures kept { (c : ℕ) → Leads mover.now.net.now.net mover.now.parts.now mover.now.node lead.place c → Leads mover.now.net.now.net mover.now.parts.now mover.now.node result.place c }
+    ensures tried { AreTried mover.now.net.now.net mover.now.size mover.now.parts.now mover.now.node Level.Blocks (g * 64) 64 result.place }
+{
+    let _count = mover.parts.count;
+    let (n, p) = (mover.net, mover.parts);
+    let chosen = candidates(n, p, mover.gains, mover.node, lead, Level::Blocks, g);
+    if chosen == 0 {
+        return lead;
+    }
+    consider_chosen(mover, lead, g * 64, chosen)
 }
 
 /// The lead after all partitions are tried.
@@ -131,8 +199,8 @@ pub fn consider_blocks(mover: &Mover, lead: Lead) -> Lead
     ensures tried { (q : ℕ) → q < mover.now.parts.now.count → LeadsOpen mover.now.net.now.net mover.now.size mover.now.parts.now mover.now.node result.place q }
 {
     let mut lead = lead;
-    for w in 0..mover.parts.count.div_ceil(64) {
-        lead = consider_block(mover, lead, w);
+    for g in 0..mover.parts.count.div_ceil(4096) {
+        lead = consider_group(mover, lead, g);
     }
     lead
 }
