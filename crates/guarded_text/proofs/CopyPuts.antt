@@ -1,18 +1,14 @@
 -- The lines of the copies of a node, piece by piece.
-use Rattle.std.proofs.Common.{◌≡◌, ℕ, ◌+◌, ◌<◌, Bool, false, List, [], ◌∷◌, ◌++◌, length, drop, get_or, Option, Some, None, refl, sym, ap, ◌∙◌, append_assoc, arith}
+use Rattle.std.proofs.Common.{◌≡◌, ℕ, ◌+◌, ◌<◌, Bool, false, List, [], ◌∷◌, ◌++◌, length, drop, get_or, Option, Some, None, refl, sym, ap, ◌∙◌, arith}
 use Rattle.std.specs.Prelude.{codes}
-use Rattle.std.specs.List.{flat_map}
 use Rattle.std.proofs.lemmas.List.{append-nil, get_or-map, length-map}
-use Rattle.std.proofs.lemmas.Option.{get_or_from_slice_get}
 use Rattle.flat_net.specs.Net.{Net, Node, Table, Register, node_of, name_of, pins_at, IsTable, IsInitOf}
 use Rattle.blif_writer.specs.Text.{control_words, init_word, start_of, row_lines, line_text}
 use Rattle.blif_writer.specs.Left.{spaced}
 use Rattle.blif_writer.proofs.NodeLines.{name_is}
 use Rattle.blif_writer.proofs.Putting.{word_put, line_put, more_put, one_put, lines_put}
-use Rattle.dwc.proofs.Making.{node_at}
 use Rattle.guarded_text.specs.Private.Spelled.{tailed}
-use Rattle.guarded_text.specs.Private.Lines.{guarded_clock, all_tailed, copy_text, twins_text, AreRowsOf}
-use Rattle.guarded_text.proofs.Rows.{row_put}
+use Rattle.guarded_text.specs.Private.Lines.{guarded_clock, all_tailed, copy_text, AreRowsOf}
 
 -- one pin more
 pub pin_put : (n : Net) (byte : ℕ) (pins : List ℕ) (j x : ℕ) (name out new total : List ℕ) → j < length pins → x ≡ get_or pins j 0 → name ≡ name_of n x → new ≡ out ++ 32 ∷ tailed name byte
@@ -50,13 +46,3 @@ register_put n byte x (Some (Register own start pin)) b name control old o1 o2 o
     let words : o5 ≡ o1 ++ spaced (first ∷ (tailed own byte) ∷ (clocked ++ value ∷ [])) = more_put o1 o3 o5 (first ∷ (tailed own byte) ∷ []) (clocked ++ value ∷ []) ends last in
     let line = line_put old o1 o5 o6 (codes ".latch") (first ∷ (tailed own byte) ∷ (clocked ++ value ∷ [])) e1 words e6 in
     line ∙ ap (λ (t : List ℕ). old ++ t) (sym (append-nil (line_text (codes ".latch" ∷ first ∷ (tailed own byte) ∷ (clocked ++ value ∷ [])))))
-
--- the lines of both copies of one node more
-pub twins_put : (n : Net) (i x : ℕ) (out new total : List ℕ) → i < length n.nodes → x ≡ length n.inputs + i
-    → new ≡ (out ++ copy_text n 48 (node_of n x)) ++ copy_text n 49 (node_of n x)
-    → out ++ flat_map (twins_text n) (drop i n.nodes) ≡ total → new ++ flat_map (twins_text n) (drop (i + 1) n.nodes) ≡ total
-twins_put n i x out new total lt place put e =
-    let p = node_at n i x lt place in
-    row_put (twins_text n) i n.nodes p.node out new total lt (sym (get_or_from_slice_get n.nodes i p.node p.node p.listed))
-    (put ∙ (append_assoc out (copy_text n 48 (node_of n x)) (copy_text n 49 (node_of n x))
-    ∙ ap (λ (o : Option Node). out ++ (copy_text n 48 o ++ copy_text n 49 o)) p.is)) e

@@ -1,3 +1,6 @@
 pub mod Rows
 pub mod CopyPuts
-pub mod GuardedText
+pub mod FlatText
+pub mod Stepping
+pub mod Steps
+pub mod Wholes

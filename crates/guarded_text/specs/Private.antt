@@ -1,3 +1,5 @@
 -- What private functions alone cite.
 pub mod Spelled
 pub mod Lines
+pub mod Steps
+pub mod Inside

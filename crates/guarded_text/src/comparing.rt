@@ -1,8 +1,7 @@
 //! The lines of the comparators and of the alarm.
-ghost use Rattle.std.specs.Prelude.{◌≡◌, ◌++◌, ◌∷◌, length, OnOk};
-ghost use Rattle.std.specs.List.{flat_map};
+ghost use Rattle.std.specs.Prelude.{◌≡◌, ◌<◌, ◌++◌, ◌∷◌, length, slice_index, OnOk};
 ghost use Rattle.flat_net.specs.Net.{name_of};
-ghost use Rattle.guarded_text.specs.Private.Spelled.{tailed, comparator_text, any_rows, alarm_text};
+ghost use Rattle.guarded_text.specs.Private.Spelled.{tailed, comparator_text, any_rows, alarm_end};
 
 use crate::names::{put_tailed, put_two_names};
 use flat_net::FlatNet;
@@ -19,23 +18,21 @@ fn put_comparator(out: &mut Vec<u8>, name: &[u8]) -> Result<(), AllocError>
     Ok(())
 }
 
-/// Puts the lines of the comparators of all outputs.
-pub fn put_comparators(out: &mut Vec<u8>, n: &FlatNet) -> Result<(), AllocError>
-    ensures { OnOk result (out.new.items ≡ out.old.items ++ flat_map (λ y. comparator_text (name_of n.now.net y)) n.now.net.outputs) }
+/// Puts the lines of the comparator of output k.
+pub fn put_comparator_of(out: &mut Vec<u8>, n: &FlatNet, k: u32) -> Result<(), AllocError>
+    requires { k < length n.now.net.outputs }
+    ensures { OnOk result (out.new.items ≡ out.old.items ++ comparator_text (name_of n.now.net (slice_index n.now.net.outputs k))) }
 {
-    for k in 0..n.output_count() {
-        put_comparator(out, n.name(n.output(k)).bytes())?;
-    }
+    put_comparator(out, n.name(n.output(k)).bytes())?;
     Ok(())
 }
 
-/// Puts the names of all comparators.
-fn put_comparator_names(out: &mut Vec<u8>, n: &FlatNet) -> Result<(), AllocError>
-    ensures { OnOk result (out.new.items ≡ out.old.items ++ flat_map (λ y. 32 ∷ tailed (name_of n.now.net y) 101) n.now.net.outputs) }
+/// Puts a blank and the name of the comparator of output k.
+pub fn put_comparator_name_of(out: &mut Vec<u8>, n: &FlatNet, k: u32) -> Result<(), AllocError>
+    requires { k < length n.now.net.outputs }
+    ensures { OnOk result (out.new.items ≡ out.old.items ++ 32 ∷ tailed (name_of n.now.net (slice_index n.now.net.outputs k)) 101) }
 {
-    for k in 0..n.output_count() {
-        put_tailed(out, n.name(n.output(k)).bytes(), b'e')?;
-    }
+    put_tailed(out, n.name(n.output(k)).bytes(), b'e')?;
     Ok(())
 }
 
@@ -51,13 +48,12 @@ fn put_any_rows(alloc: Global, out: &mut Vec<u8>, width: u32) -> Result<(), Allo
     Ok(())
 }
 
-/// Puts the lines of the alarm.
-pub fn put_alarm(alloc: Global, out: &mut Vec<u8>, n: &FlatNet) -> Result<(), AllocError>
-    ensures { OnOk result (out.new.items ≡ out.old.items ++ alarm_text n.now.net) }
+/// Puts what stands behind the names that the alarm reads: its own name, its row, and the end of the text.
+pub fn put_alarm_end(alloc: Global, out: &mut Vec<u8>, n: &FlatNet) -> Result<(), AllocError>
+    ensures { OnOk result (out.new.items ≡ out.old.items ++ alarm_end n.now.net) }
 {
-    out.extend_from_slice(b".names")?;
-    put_comparator_names(out, n)?;
     out.extend_from_slice(b" alarm~z\n")?;
     put_any_rows(alloc, out, n.output_count())?;
+    out.extend_from_slice(b".end\n")?;
     Ok(())
 }

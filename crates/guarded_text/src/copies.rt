@@ -1,16 +1,14 @@
 //! The lines of the two copies of a node.
 ghost use Rattle.std.specs.Prelude.{◌≡◌, ◌<◌, ◌≤◌, ◌++◌, length, OnOk};
-ghost use Rattle.std.specs.List.{flat_map};
 ghost use Rattle.flat_net.specs.Net.{net_count, node_of, pins_at, IsTable, IsRegister};
 ghost use Rattle.blif_writer.specs.Left.{spaced};
 ghost use Rattle.blif_writer.specs.Text.{control_words};
-ghost use Rattle.guarded_text.specs.Private.Lines.{guarded_clock, all_tailed, copy_text, twins_text, AreRowsOf};
+ghost use Rattle.guarded_text.specs.Private.Lines.{guarded_clock, all_tailed, copy_text, AreRowsOf};
 
 use crate::names::put_tailed;
-use crate::ports::put_control;
 use blif_writer::{put_rows, put_start};
 use flat_net::{FlatNet, Kind};
-use std::alloc::{AllocError, Global};
+use std::alloc::AllocError;
 use tmr_base::NetId;
 
 /// Puts what the copy of node x reads whose names end in this byte.
@@ -91,7 +89,7 @@ fn put_two_tables(
 
 /// Puts the lines of both copies of node x. `control` is how a register's clock is told, and `rows` is room.
 #[tactic(auto, using(flat_net::proofs::Bodies::from_kind))]
-fn put_twins(
+pub fn put_twins(
     out: &mut Vec<u8>,
     n: &FlatNet,
     x: NetId,
@@ -111,18 +109,4 @@ fn put_twins(
             put_register(out, n, x, control, b'1')
         }
     }
-}
-
-/// Puts the lines of the copies of all nodes.
-pub fn put_copies(alloc: Global, out: &mut Vec<u8>, n: &FlatNet) -> Result<(), AllocError>
-    ensures { OnOk result (out.new.items ≡ out.old.items ++ flat_map (twins_text n.now.net) n.now.net.nodes) }
-{
-    let mut control = Vec::new(alloc);
-    put_control(&mut control, n)?;
-    let mut rows = Vec::new(alloc);
-    let inputs = n.input_count();
-    for i in 0..n.node_count() {
-        put_twins(out, n, NetId(inputs + i), &control, &mut rows)?;
-    }
-    Ok(())
 }

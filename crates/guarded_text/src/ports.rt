@@ -1,5 +1,5 @@
 //! The lines in front of the nodes', and how a register's clock is told.
-ghost use Rattle.std.specs.Prelude.{◌≡◌, ◌++◌, ◌∷◌, [], codes, OnOk};
+ghost use Rattle.std.specs.Prelude.{◌≡◌, ◌++◌, ◌∷◌, [], codes, IfOk, OnOk};
 ghost use Rattle.std.specs.List.{flat_map};
 ghost use Rattle.flat_net.specs.Net.{name_of};
 ghost use Rattle.blif_writer.specs.Left.{spaced, spaced_line};
@@ -9,7 +9,7 @@ ghost use Rattle.guarded_text.specs.Private.Lines.{guarded_clock};
 
 use crate::names::{put_tailed, put_two_names};
 use flat_net::FlatNet;
-use std::alloc::AllocError;
+use std::alloc::{AllocError, Global};
 use tmr_base::{Edge, NetId};
 
 /// Puts the line of the model's name.
@@ -63,7 +63,7 @@ fn edge_text(edge: Edge) -> &'static [u8]
 }
 
 /// Puts the clock's edge and the guarded clock's name, where there is a clock.
-pub fn put_control(out: &mut Vec<u8>, n: &FlatNet) -> Result<(), AllocError>
+fn put_control(out: &mut Vec<u8>, n: &FlatNet) -> Result<(), AllocError>
     ensures { OnOk result (out.new.items ≡ out.old.items ++ spaced (control_words (guarded_clock n.now.net.clock))) }
 {
     match n.clock() {
@@ -73,6 +73,15 @@ pub fn put_control(out: &mut Vec<u8>, n: &FlatNet) -> Result<(), AllocError>
         }
         None => Ok(()),
     }
+}
+
+/// The clock's edge and the guarded clock's name, as each register of the guarded design tells them.
+pub fn control_text(alloc: Global, n: &FlatNet) -> Result<Vec<u8>, AllocError>
+    ensures { IfOk result (λ control. control.items ≡ spaced (control_words (guarded_clock n.now.net.clock))) }
+{
+    let mut control = Vec::new(alloc);
+    put_control(&mut control, n)?;
+    Ok(control)
 }
 
 /// Puts the lines in front of the nodes'.

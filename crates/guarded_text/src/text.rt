@@ -1,20 +1,51 @@
-//! The flat text of the guarded design.
-ghost use Rattle.std.specs.Prelude.{◌≡◌, ◌≤◌, ◌+◌, ℕ, length, IfOk};
+//! The flat text of the guarded design, given in pieces.
+ghost use Rattle.std.specs.Prelude.{◌≡◌, ◌<◌, ◌≤◌, ◌+◌, ◌++◌, [], true, false, ℕ, length, IfOk, OnOk};
 ghost use Rattle.limits.specs.Most.{widest_nets};
-ghost use Rattle.flat_net.specs.Net.{IsValid, net_count, pin_total};
+ghost use Rattle.flat_net.specs.Net.{net_count, pin_total};
+ghost use Rattle.blif_writer.specs.Left.{spaced};
 ghost use Rattle.blif_writer.specs.Length.{flat_length};
 ghost use Rattle.blif_writer.specs.NetOf.{IsNetOf};
-ghost use Rattle.blif_writer.specs.Text.{flat_text};
+ghost use Rattle.blif_writer.specs.Text.{control_words, flat_text};
 ghost use Rattle.dwc.specs.Guard.{guard_net};
 ghost use Rattle.dwc.specs.Tells.{Guards};
+ghost use Rattle.guarded_text.specs.Private.Lines.{guarded_clock};
+ghost use Rattle.guarded_text.specs.Private.Steps.{alarm_step, compared_step, guarded_step, guarded_steps, guarded_rest};
 
-use crate::comparing::{put_alarm, put_comparators};
-use crate::copies::put_copies;
-use crate::ports::put_ports;
+use crate::comparing::{put_alarm_end, put_comparator_name_of, put_comparator_of};
+use crate::copies::put_twins;
+use crate::piece_length::is_long;
+use crate::ports::{control_text, put_ports};
 use dwc::guarded_designs_tell;
-use flat_net::FlatNet;
+use flat_net::{FlatNet, nodes_of};
 use std::alloc::{AllocError, Global};
-use tmr_base::OutOfMemory;
+use std::marker::Model;
+use tmr_base::{NetId, OutOfMemory};
+
+/// The flat text of a guarded design, given in pieces: each input and node twice, a comparator for each output, and an
+/// alarm, which is on exactly where the two copies of some output differ.
+///
+/// It is made in one pass over the original, and never held whole. What stands for one node is never cut.
+#[derive(Drop)]
+pub struct GuardedText<'a> {
+    alloc: Global,
+    n: &'a FlatNet,
+    control: Vec<u8>,
+    rows: Vec<u8>,
+    piece: Vec<u8>,
+    next: u64,
+}
+
+impl<'a> Model for GuardedText<'a> {
+    ghost use Rattle.guarded_text.specs.InPieces.{TextInPieces};
+
+    ghost Value = { TextInPieces };
+
+    ghost use Rattle.guarded_text.specs.Private.Inside.{guarded_in_pieces, IsGuardedText};
+
+    ghost view = { guarded_in_pieces };
+
+    ghost invariant = { IsGuardedText };
+}
 
 /// How many nodes the guarded design has.
 pub fn guarded_nodes(n: &FlatNet) -> u32
@@ -25,34 +56,142 @@ pub fn guarded_nodes(n: &FlatNet) -> u32
     2 * n.node_count() + n.output_count() + 1
 }
 
-/// All lines, one after the other.
-fn lines_of(alloc: Global, n: &FlatNet) -> Result<Vec<u8>, AllocError>
-    requires { IsValid n.now.net }
-    ensures { IfOk result (λ bytes. bytes.items ≡ flat_text (guard_net n.now.net)) }
+/// Puts what comes at this step of the alarm: its first word, the names of the comparators, and the end of the text.
+fn put_alarm_step(
+    alloc: Global,
+    out: &mut Vec<u8>,
+    n: &FlatNet,
+    step: u64,
+) -> Result<(), AllocError>
+    ensures { OnOk result (out.new.items ≡ out.old.items ++ alarm_step n.now.net step) }
 {
-    let mut out = Vec::new(alloc);
-    put_ports(&mut out, n)?;
-    put_copies(alloc, &mut out, n)?;
-    put_comparators(&mut out, n)?;
-    put_alarm(alloc, &mut out, n)?;
-    out.extend_from_slice(b".end\n")?;
-    Ok(out)
+    if step == 0 {
+        out.extend_from_slice(b".names")?;
+        return Ok(());
+    }
+    let k = step - 1;
+    if k < u64::from(n.output_count()) {
+        put_comparator_name_of(out, n, k as u32)?;
+        return Ok(());
+    }
+    put_alarm_end(alloc, out, n)?;
+    Ok(())
 }
 
-/// The flat text of the guarded design: each input and node twice, a comparator for each output, and an alarm, which is
-/// on exactly where the two copies of some output differ. One pass over the original. The one refusal is want of memory.
-pub fn guard_text(alloc: Global, n: &FlatNet) -> Result<Vec<u8>, OutOfMemory>
-    requires { net_count n.now.net + pin_total n.now.net ≤ widest_nets }
-    ensures text { IfOk result (λ bytes. bytes.items ≡ flat_text (guard_net n.now.net)) }
-    // Its length, node by node and pin by pin.
-    ensures length { IfOk result (λ bytes. length bytes.items ≡ flat_length (guard_net n.now.net)) }
-    // Reading and flattening it gives the guarded design, with no assumed initial value, for every limit that it keeps.
-    ensures again { IfOk result (λ bytes. (limit : ℕ) → length bytes.items ≤ limit → IsNetOf bytes.items limit (guard_net n.now.net) 0) }
-    // The alarm of that design tells.
-    ensures guards { Guards n.now.net (guard_net n.now.net) }
+/// Puts what comes so many steps behind the nodes: the comparator of each output, and the alarm.
+fn put_compared(alloc: Global, out: &mut Vec<u8>, n: &FlatNet, step: u64) -> Result<(), AllocError>
+    ensures { OnOk result (out.new.items ≡ out.old.items ++ compared_step n.now.net step) }
 {
-    let _inputs = n.input_count();
-    guarded_designs_tell();
-    let bytes = lines_of(alloc, n)?;
-    Ok(bytes)
+    let outputs = u64::from(n.output_count());
+    if step < outputs {
+        put_comparator_of(out, n, step as u32)?;
+        return Ok(());
+    }
+    put_alarm_step(alloc, out, n, step - outputs)?;
+    Ok(())
+}
+
+/// Puts what comes at this step: the ports first, then the two copies of each node, and what stands behind these.
+fn put_step(
+    alloc: Global,
+    out: &mut Vec<u8>,
+    n: &FlatNet,
+    control: &[u8],
+    rows: &mut Vec<u8>,
+    step: u64,
+) -> Result<(), AllocError>
+    requires { control.now ≡ spaced (control_words (guarded_clock n.now.net.clock)) }
+    ensures { OnOk result (out.new.items ≡ out.old.items ++ guarded_step n.now.net step) }
+{
+    if step == 0 {
+        put_ports(out, n)?;
+        return Ok(());
+    }
+    let i = step - 1;
+    let nodes = nodes_of(n);
+    if i < u64::from(nodes) {
+        let x = NetId(n.input_count() + i as u32);
+        put_twins(out, n, x, control, rows)?;
+        return Ok(());
+    }
+    put_compared(alloc, out, n, i - u64::from(nodes))?;
+    Ok(())
+}
+
+/// Makes the piece that begins at this step. The answer is the step behind it.
+fn make_piece(
+    alloc: Global,
+    piece: &mut Vec<u8>,
+    n: &FlatNet,
+    control: &[u8],
+    rows: &mut Vec<u8>,
+    from: u64,
+) -> Result<u64, AllocError>
+    requires { control.now ≡ spaced (control_words (guarded_clock n.now.net.clock)) }
+    ensures text { IfOk result (λ next. guarded_rest n.now.net from ≡ piece.new.items ++ guarded_rest n.now.net next) }
+    ensures some { IfOk result (λ next. from < guarded_steps n.now.net → from < next) }
+    ensures within { IfOk result (λ next. next ≤ guarded_steps n.now.net) }
+{
+    piece.clear();
+    let outputs = u64::from(n.output_count());
+    let steps = u64::from(n.node_count()) + outputs + outputs + 3;
+    for step in from..steps {
+        if is_long(piece) {
+            return Ok(step);
+        }
+        put_step(alloc, piece, n, control, rows, step)?;
+    }
+    Ok(steps)
+}
+
+impl<'a> GuardedText<'a> {
+    /// The text of which nothing is given yet.
+    pub fn new(alloc: Global, n: &'a FlatNet) -> Result<GuardedText<'a>, OutOfMemory>
+        requires { net_count n.now.net + pin_total n.now.net ≤ widest_nets }
+        ensures text { IfOk result (λ text. text.rest ≡ flat_text (guard_net n.now.net)) }
+        // Its length, node by node and pin by pin.
+        ensures length { length (flat_text (guard_net n.now.net)) ≡ flat_length (guard_net n.now.net) }
+        // Reading and flattening it gives the guarded design, with no assumed initial value, for every limit that it keeps.
+        ensures again { (limit : ℕ) → length (flat_text (guard_net n.now.net)) ≤ limit → IsNetOf (flat_text (guard_net n.now.net)) limit (guard_net n.now.net) 0 }
+        // The alarm of that design tells.
+        ensures guards { Guards n.now.net (guard_net n.now.net) }
+    {
+        let _inputs = n.input_count();
+        guarded_designs_tell();
+        let control = control_text(alloc, n)?;
+        Ok(GuardedText {
+            alloc,
+            n,
+            control,
+            rows: Vec::new(alloc),
+            piece: Vec::new(alloc),
+            next: 0,
+        })
+    }
+
+    /// Goes on to the next piece, and says whether there is one. After an error nothing is promised of what is given.
+    pub fn advance(&mut self) -> Result<bool, AllocError>
+        ensures next { IfOk result (λ more. more ≡ true → self.old.rest ≡ self.new.piece ++ self.new.rest) }
+        ensures fewer { IfOk result (λ more. more ≡ true → self.new.left < self.old.left) }
+        ensures end { IfOk result (λ more. more ≡ false → self.old.rest ≡ []) }
+    {
+        let next = make_piece(
+            self.alloc,
+            &mut self.piece,
+            self.n,
+            &self.control,
+            &mut self.rows,
+            self.next,
+        )?;
+        let more = self.next < next;
+        self.next = next;
+        Ok(more)
+    }
+
+    /// The piece at hand.
+    pub fn piece(&self) -> &[u8]
+        ensures { result.now ≡ self.now.piece }
+    {
+        &self.piece
+    }
 }

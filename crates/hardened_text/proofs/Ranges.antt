@@ -1,21 +1,9 @@
--- Lists that go over a row or over the first numbers, one entry more.
-use Rattle.std.proofs.Common.{◌≡◌, ℕ, ◌+◌, ◌<◌, ◌≤◌, List, [], ◌∷◌, ◌++◌, length, drop, get_or, slice_get, Some, sym, ap, ◌∙◌, append_assoc, arith}
+-- Lists that go over a row, one entry more; and the numbers of a range.
+use Rattle.std.proofs.Common.{◌≡◌, ℕ, ◌+◌, ◌<◌, ◌≤◌, List, ◌++◌, length, drop, get_or, slice_get, Some, sym, ap, ◌∙◌, append_assoc, arith}
 use Rattle.std.specs.List.{flat_map, range_with_len}
 use Rattle.std.proofs.lemmas.List.{append-nil, drop_all, drop_more}
-use Rattle.std.proofs.lemmas.List.Concat.{flat_map-append}
 use Rattle.std.proofs.lemmas.List.FromFn.{length-range_with_len, get_or-range_with_len}
 use Rattle.std.proofs.lemmas.Option.{get_or_from_slice_get, slice_get_within}
-use Rattle.triplicate.proofs.Lists.{range_cut}
-
--- one number more
-pub ranged_more : {A : Type 0} (f : ℕ → List A) (k : ℕ) → flat_map f (range_with_len 0 (k + 1)) ≡ flat_map f (range_with_len 0 k) ++ f k
-ranged_more f k =
-    ap (flat_map f) (range_cut 0 k 1 ∙ ap (λ a. range_with_len 0 k ++ range_with_len a 1) (omega arith)) ∙ (flat_map-append f (range_with_len 0 k) (k ∷ []) ∙ ap (λ t. flat_map f (range_with_len 0 k) ++ t) (append-nil (f k)))
-
--- one number more of what is put
-pub ranged_put : {A : Type 0} (f : ℕ → List A) (k : ℕ) (start out new : List A) → out ≡ start ++ flat_map f (range_with_len 0 k) → new ≡ out ++ f k → new ≡ start ++ flat_map f (range_with_len 0 (k + 1))
-ranged_put f k start out new before put =
-    put ∙ (ap (λ o. o ++ f k) before ∙ (append_assoc start (flat_map f (range_with_len 0 k)) (f k) ∙ ap (λ t. start ++ t) (sym (ranged_more f k))))
 
 -- one entry more of a row
 pub row_put : {A B : Type 0} (f : B → List A) (i : ℕ) (xs : List B) (x : B) (out new total : List A) → i < length xs → x ≡ get_or xs i x → new ≡ out ++ f x → out ++ flat_map f (drop i xs) ≡ total → new ++ flat_map f (drop (i + 1) xs) ≡ total

@@ -1,5 +1,5 @@
 -- A text that is made step by step.
-use Rattle.std.proofs.Common.{◌≡◌, ℕ, zero, suc, ◌+◌, ◌-◌, ◌<◌, ◌≤◌, List, [], ◌++◌, refl, sym, ap, ◌∙◌, append_assoc, arith}
+use Rattle.std.proofs.Common.{◌≡◌, ℕ, zero, suc, ◌+◌, ◌-◌, ◌<◌, ◌≤◌, List, ◌++◌, refl, sym, ap, ◌∙◌, append_assoc, arith}
 use Rattle.std.specs.List.{flat_map, range_with_len}
 use Rattle.std.proofs.lemmas.List.{append-nil}
 use Rattle.std.proofs.lemmas.List.Concat.{flat_map-append}
@@ -17,12 +17,6 @@ pub step_put : (f : ℕ → List ℕ) (count k : ℕ) (out new total : List ℕ)
 step_put f count k out new total low put e =
     e ∙ (ap (λ (t : List ℕ). out ++ t) (step_first f count k low)
     ∙ (sym (append_assoc out (f k) (from_step f count (k + 1))) ∙ ap (λ (o : List ℕ). o ++ from_step f count (k + 1)) (sym put)))
-
--- behind the last step nothing comes
-pub steps_done : (f : ℕ → List ℕ) (count k : ℕ) → count ≤ k → from_step f count k ≡ []
-steps_done f count k le =
-    let e : count - k ≡ 0 = omega (arith, le) in
-    ap (λ (m : ℕ). flat_map f (range_with_len k m)) e
 
 -- the steps from a on, cut behind the first m
 pub steps_cut : (f : ℕ → List ℕ) (a m k b : ℕ) → a + m ≡ b → flat_map f (range_with_len a (m + k)) ≡ flat_map f (range_with_len a m) ++ flat_map f (range_with_len b k)

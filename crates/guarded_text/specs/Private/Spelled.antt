@@ -24,3 +24,7 @@ any_rows (suc count) = replicate (suc count) 48 ++ codes " 0\n"
 -- the lines of the alarm
 abbrev pub alarm_text : Net → List ℕ
 alarm_text n = codes ".names" ++ (flat_map (λ y. 32 ∷ tailed (name_of n y) 101) n.outputs ++ (codes " alarm~z\n" ++ any_rows (length n.outputs)))
+
+-- what stands behind the names that the alarm reads, and the end of the text
+abbrev pub alarm_end : Net → List ℕ
+alarm_end n = codes " alarm~z\n" ++ (any_rows (length n.outputs) ++ codes ".end\n")

@@ -1,0 +1,38 @@
+-- A text that is made step by step.
+use Rattle.std.proofs.Common.{◌≡◌, ℕ, suc, ◌+◌, ◌-◌, ◌<◌, ◌≤◌, List, [], ◌∷◌, ◌++◌, length, slice_get, Some, refl, sym, ap, ◌∙◌, append_assoc, arith}
+use Rattle.std.specs.List.{flat_map, range_with_len}
+use Rattle.guarded_text.specs.Private.Steps.{from_step}
+
+-- the text from step k on begins with what comes at step k
+pub step_first : (f : ℕ → List ℕ) (count k : ℕ) → k < count → from_step f count k ≡ f k ++ from_step f count (k + 1)
+step_first f count k low =
+    let e : count - k ≡ suc (count - (k + 1)) = omega (arith, low) in
+    ap (λ (m : ℕ). flat_map f (range_with_len k m)) e
+
+-- what comes at step k is put
+pub step_put : (f : ℕ → List ℕ) (count k : ℕ) (out new total : List ℕ) → k < count → new ≡ out ++ f k → total ≡ out ++ from_step f count k → total ≡ new ++ from_step f count (k + 1)
+step_put f count k out new total low put e =
+    e ∙ (ap (λ (t : List ℕ). out ++ t) (step_first f count k low)
+    ∙ (sym (append_assoc out (f k) (from_step f count (k + 1))) ∙ ap (λ (o : List ℕ). o ++ from_step f count (k + 1)) (sym put)))
+
+-- behind the last step nothing comes
+pub steps_done : (f : ℕ → List ℕ) (count k : ℕ) → count ≤ k → from_step f count k ≡ []
+steps_done f count k le =
+    let e : count - k ≡ 0 = omega (arith, le) in
+    ap (λ (m : ℕ). flat_map f (range_with_len k m)) e
+
+-- a step for each entry of a list
+pub steps_over : {A : Type 0} (f : ℕ → List ℕ) (h : A → List ℕ) (xs : List A) (count start behind : ℕ) → start + length xs ≡ behind → behind ≤ count
+    → ((i : ℕ) (x : A) → slice_get xs i ≡ Some x → f (start + i) ≡ h x) → from_step f count start ≡ flat_map h xs ++ from_step f count behind
+steps_over f h [] count start behind e fits each = ap (from_step f count) (omega (arith, e))
+steps_over f h (x ∷ xs) count start behind e fits each =
+    let here : start + 0 ≡ start = omega arith in
+    step_first f count start (omega (arith, e, fits))
+    ∙ (both (sym (ap f here) ∙ each 0 x refl) (steps_over f h xs count (start + 1) behind (omega (arith, e)) fits (λ i y at. ap f (later i) ∙ each (suc i) y at))
+    ∙ sym (append_assoc (h x) (flat_map h xs) (from_step f count behind)))
+  where
+    both : {a b c d : List ℕ} → a ≡ b → c ≡ d → a ++ c ≡ b ++ d
+    both e f = cc
+
+    later : (i : ℕ) → start + 1 + i ≡ start + suc i
+    later i = omega arith

@@ -1,8 +1,0 @@
-use Rattle.std.proofs.Common.{◌≡◌, ◌++◌, drop}
-use Rattle.std.specs.List.{flat_map}
-use Rattle.flat_net.specs.Net.{name_of}
-use Rattle.guarded_text.specs.Private.Spelled.{comparator_text}
-use Rattle.guarded_text.proofs.comparing.put_comparators.Given as goal
-
-abbrev pub invariant-loop-k : goal.invariant-loop-k
-invariant-loop-k l = l.out.items ++ flat_map (λ y. comparator_text (name_of l.n.net y)) (drop l.k l.n.net.outputs) ≡ l.fn.out.items ++ flat_map (λ y. comparator_text (name_of l.n.net y)) l.n.net.outputs
