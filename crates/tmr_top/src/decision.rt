@@ -1,8 +1,9 @@
 //! What a command comes to before its text is put.
 ghost use Rattle.std.specs.Prelude.{◌≡◌, ◌∷◌, [], IfOk};
-ghost use Rattle.tmr_top.specs.Private.Works.{IsDoneWith, IsDeniedWith};
+ghost use Rattle.tmr_top.specs.Private.Works.{IsDoneWith, IsDeniedWith, text_of};
 
 use crate::Status;
+use guarded_text::GuardedText;
 use hardened_text::{CertificateText, DesignText};
 use std::alloc::Global;
 use tmr_base::OutOfMemory;
@@ -21,6 +22,7 @@ pub enum SavedText<'t> {
     Whole(Vec<u8>),
     Design(DesignText<'t>),
     Certificate(CertificateText<'t>),
+    Guarded(GuardedText<'t>),
 }
 
 /// A text to be saved, and the name that it is saved under.
@@ -66,11 +68,20 @@ pub fn saving<'a>(
 ) -> Result<Work<'a, 'a>, OutOfMemory>
     ensures { IfOk result (IsDoneWith (name.now ∷ []) (bytes.items ∷ []) text.items) }
 {
+    saving_made(alloc, name, SavedText::Whole(bytes), text)
+}
+
+/// The work that is done with this text, and saves another one under this name.
+pub fn saving_made<'n, 't>(
+    alloc: Global,
+    name: &'n str,
+    made: SavedText<'t>,
+    text: Vec<u8>,
+) -> Result<Work<'n, 't>, OutOfMemory>
+    ensures { IfOk result (IsDoneWith (name.now ∷ []) (text_of made.entry ∷ []) text.items) }
+{
     let mut saves = Vec::new(alloc);
-    saves.push(Save {
-        name,
-        text: SavedText::Whole(bytes),
-    })?;
+    saves.push(Save { name, text: made })?;
     Ok(Work {
         verdict: Verdict::Done,
         saves,
