@@ -27,3 +27,4 @@ pub mod Swept
 pub mod Explained
 pub mod Campaigned
 pub mod Pictured
+pub mod CertReader
