@@ -209,10 +209,10 @@ opens_read ls K H R a b was is x (Err e) opens gives = record {
     steady_stops stop.Memory is = tt
 
 -- what is read of a file that was loaded, where G holds, is kept: so L holds of what is kept
-pub opens_kept : {A B : Type 0} (ls : List Load) (K : A → Contents → Type 0) (G : Contents → Type 0) (H : B → Contents → Type 0) (R : List ℕ → Contents → Type 0) (L : Result B (Vec ℕ Global) → Contents → Type 0) (a b : FilesSeen) (was is : Type 0) (x : A) (answer : Result B Stop) → Opens {A = A} ls K Never a b was is (Ok x) → Gives G H R answer → ((kept : Result B (Vec ℕ Global)) (held : Contents) → K x held → (G held → Keeps H R kept held) → L kept held) → Opens {A = Result B (Vec ℕ Global)} ls L Never a b was is (keeping answer)
-opens_kept ls K G H R L a b was is x answer opens gives f = go answer gives
+pub opens_kept : {A B : Type 0} (ls : List Load) (K : A → Contents → Type 0) (G : Contents → Type 0) (H : B → Contents → Type 0) (R : List ℕ → Contents → Type 0) (L : Result B (Vec ℕ Global) → Contents → Type 0) (a b : FilesSeen) (was is : Type 0) (x : A) (answer : Result B Stop) (result : Result (Result B (Vec ℕ Global)) Stop) → result ≡ keeping answer → Opens {A = A} ls K Never a b was is (Ok x) → Gives G H R answer → ((kept : Result B (Vec ℕ Global)) (held : Contents) → K x held → (G held → Keeps H R kept held) → L kept held) → Opens {A = Result B (Vec ℕ Global)} ls L Never a b was is result
+opens_kept {A} {B} ls K G H R L a b was is x answer result same opens gives f = subst (λ (r : Result (Result B (Vec ℕ Global)) Stop). Opens {A = Result B (Vec ℕ Global)} ls L Never a b was is r) (sym same) (go answer gives)
   where
-    opened : (kept : Result _ (Vec ℕ Global)) → ((held : Contents) → G held → Keeps H R kept held) → Opens {A = Result _ (Vec ℕ Global)} ls L Never a b was is (Ok kept)
+    opened : (kept : Result B (Vec ℕ Global)) → ((held : Contents) → G held → Keeps H R kept held) → Opens {A = Result B (Vec ℕ Global)} ls L Never a b was is (Ok kept)
     opened kept keeps = record {
       stays = opens.stays;
       changes = opens.changes;
@@ -222,7 +222,7 @@ opens_kept ls K G H R L a b was is x answer opens gives f = go answer gives
       steady_stop = λ s. tt;
     }
 
-    go : (answer : Result _ Stop) → Gives G H R answer → Opens {A = Result _ (Vec ℕ Global)} ls L Never a b was is (keeping answer)
+    go : (answer : Result B Stop) → Gives G H R answer → Opens {A = Result B (Vec ℕ Global)} ls L Never a b was is (keeping answer)
     go (Ok y) gives = opened (Ok y) gives
     go (Err (stop.Failed name)) gives = absurd gives
     go (Err (stop.TooLong name)) gives = absurd gives
@@ -237,35 +237,51 @@ opens_kept ls K G H R L a b was is x answer opens gives f = go answer gives
     }
 
 -- what was kept is told
-pub opens_told : {A : Type 0} (ls : List Load) (H : A → Contents → Type 0) (R : List ℕ → Contents → Type 0) (a b : FilesSeen) (was is : Type 0) (kept : Result A (Vec ℕ Global)) → Opens {A = Result A (Vec ℕ Global)} ls (Keeps H R) Never a b was is (Ok kept) → Opens {A = A} ls H R a b was is (telling kept)
-opens_told ls H R a b was is (Ok x) opens = record {
-  stays = opens.stays;
-  changes = opens.changes;
-  steady = opens.steady;
-  ok = open_weaker ls (Keeps H R (Ok x)) (H x) a b (λ held h. h) opens.ok;
-  stop = tt;
-  steady_stop = λ s. tt;
-}
-opens_told ls H R a b was is (Err line) opens = record {
-  stays = opens.stays;
-  changes = opens.changes;
-  steady = opens.steady;
-  ok = tt;
-  stop = open_weaker ls (Keeps H R (Err line)) (R line.items) a b (λ held h. h) opens.ok;
-  steady_stop = λ s. tt;
-}
+pub opens_told : {A : Type 0} (ls : List Load) (H : A → Contents → Type 0) (R : List ℕ → Contents → Type 0) (a b : FilesSeen) (was is : Type 0) (kept : Result A (Vec ℕ Global)) (result : Result A Stop) → result ≡ telling kept → Opens {A = Result A (Vec ℕ Global)} ls (Keeps H R) Never a b was is (Ok kept) → Opens {A = A} ls H R a b was is result
+opens_told {A} ls H R a b was is kept result same opens = subst (λ (r : Result A Stop). Opens {A = A} ls H R a b was is r) (sym same) (go kept opens)
+  where
+    go : (kept : Result A (Vec ℕ Global)) → Opens {A = Result A (Vec ℕ Global)} ls (Keeps H R) Never a b was is (Ok kept) → Opens {A = A} ls H R a b was is (telling kept)
+    go (Ok x) opens = record {
+      stays = opens.stays;
+      changes = opens.changes;
+      steady = opens.steady;
+      ok = open_weaker ls (Keeps H R (Ok x)) (H x) a b (λ held h. h) opens.ok;
+      stop = tt;
+      steady_stop = λ s. tt;
+    }
+    go (Err line) opens = record {
+      stays = opens.stays;
+      changes = opens.changes;
+      steady = opens.steady;
+      ok = tt;
+      stop = open_weaker ls (Keeps H R (Err line)) (R line.items) a b (λ held h. h) opens.ok;
+      steady_stop = λ s. tt;
+    }
 
--- a fact of what is kept
-pub on_kept : {A : Type 0} (P : A → Type 0) (answer : Result A Stop) → IfOk answer P → IfOk (keeping answer) (λ kept. IfOk kept P)
-on_kept P (Ok x) p = p
-on_kept P (Err (stop.Failed name)) p = tt
-on_kept P (Err (stop.TooLong name)) p = tt
-on_kept P (Err (stop.Refused line)) p = tt
-on_kept P (Err stop.Memory) p = tt
+-- a fact of what is kept, and of what is told
+pub on_kept : {A : Type 0} (P : A → Type 0) (answer : Result A Stop) (result : Result (Result A (Vec ℕ Global)) Stop) → result ≡ keeping answer → IfOk answer P → IfOk result (λ kept. IfOk kept P)
+on_kept {A} P answer result same holds = subst (λ (r : Result (Result A (Vec ℕ Global)) Stop). IfOk r (λ kept. IfOk kept P)) (sym same) (go answer holds)
+  where
+    go : (answer : Result A Stop) → IfOk answer P → IfOk (keeping answer) (λ kept. IfOk kept P)
+    go (Ok x) p = p
+    go (Err (stop.Failed name)) p = tt
+    go (Err (stop.TooLong name)) p = tt
+    go (Err (stop.Refused line)) p = tt
+    go (Err stop.Memory) p = tt
 
-pub on_told : {A : Type 0} (P : A → Type 0) (kept : Result A (Vec ℕ Global)) → IfOk kept P → IfOk (telling kept) P
-on_told P (Ok x) p = p
-on_told P (Err line) p = tt
+pub on_told : {A : Type 0} (P : A → Type 0) (kept : Result A (Vec ℕ Global)) (result : Result A Stop) → result ≡ telling kept → IfOk kept P → IfOk result P
+on_told {A} P kept result same holds = subst (λ (r : Result A Stop). IfOk r P) (sym same) (go kept holds)
+  where
+    go : (kept : Result A (Vec ℕ Global)) → IfOk kept P → IfOk (telling kept) P
+    go (Ok x) p = p
+    go (Err line) p = tt
+
+-- what was kept is what was read, or the refusal
+pub kept_read : {A : Type 0} (H : A → Contents → Type 0) (R : List ℕ → Contents → Type 0) (kept : Result A (Vec ℕ Global)) (x : A) (held : Contents) → kept ≡ Ok x → Keeps H R kept held → H x held
+kept_read {A} H R kept x held is = subst (λ (k : Result A (Vec ℕ Global)). Keeps H R k held) is
+
+pub kept_refused : {A : Type 0} (H : A → Contents → Type 0) (R : List ℕ → Contents → Type 0) (kept : Result A (Vec ℕ Global)) (line : Vec ℕ Global) (held : Contents) → kept ≡ Err line → Keeps H R kept held → R line.items held
+kept_refused {A} H R kept line held is = subst (λ (k : Result A (Vec ℕ Global)). Keeps H R k held) is
 
 -- the first loads came to no end
 pub stops_first : {A B : Type 0} (ls ms : List Load) (H : A → Contents → Type 0) (K : B → Contents → Type 0) (a b : FilesSeen) (was is : Type 0) (e : Stop) → Opens {A = A} ls H Never a b was is (Err e) → Opens {A = B} (ls ++ ms) K Never a b was is (Err e)
@@ -357,6 +373,11 @@ module _ {A B C : Type 0} (ls ms : List Load) (H : A → Contents → Type 0) (K
     stop = tt;
     steady_stop = λ s. tt;
   }
+
+-- the first loads are done; whatever came of the others, L holds of it
+pub opens_then : {A B : Type 0} (ls ms : List Load) (H : A → Contents → Type 0) (K L : B → Contents → Type 0) (a b c : FilesSeen) (was is then : Type 0) (x : A) (answer : Result B Stop) → Opens {A = A} ls H Never a b was is (Ok x) → ((y : B) (held : Contents) → H x held → K y held → L y held) → Opens {A = B} ms K Never b c is then answer → Opens {A = B} (ls ++ ms) L Never a c was then answer
+opens_then ls ms H K L a b c was is then x (Ok y) first f later = opens_both ls ms H K L a b c was is then x first y y (f y) later
+opens_then ls ms H K L a b c was is then x (Err e) first f later = stops_later ls ms H K L a b c was is then x first e later
 
 -- ---- refusals
 

@@ -1,14 +1,13 @@
 -- Pairs that are read, and that files give one pair or none.
 use Rattle.std.proofs.Common.{◌≡◌, ◌≢◌, ℕ, Bool, List, Option, Some, Result, Ok, Err, inl, inr, refl, sym, ap, subst, ◌∙◌, ◌≤◌, ◌+◌, ◌*◌, arith}
 use Rattle.std.specs.FinMap.{get}
-use Rattle.std.specs.Prelude.{IfOk, Vec}
-use Rattle.std.specs.declared.alloc.Global.{Global}
+use Rattle.std.specs.Prelude.{IfOk}
 use Rattle.certificate.specs.Gives.{Fails}
 use Rattle.certificate.specs.declared.fault.CertFault.{CertFault}
 use Rattle.certificate.specs.declared.fault.CertFault.TheVariants as faults
 use Rattle.certificate.specs.Cert.{Fits}
 use Rattle.flat_net.specs.Free.{FreeDesign}
-use Rattle.flat_net.specs.Net.{Net, net_count, pin_total}
+use Rattle.flat_net.specs.Net.{Net, Design, net_count, pin_total}
 use Rattle.certificate.specs.Cert.{PlainCert}
 use Rattle.certificate.specs.Reading.{cert_of_text}
 use Rattle.limits.specs.declared.Limits.{Limits}
@@ -19,13 +18,13 @@ use Rattle.tmr_words.specs.Line.{Pair}
 use Rattle.tmr_top.specs.Loads.{Load, original_file, hardened_file, certificate_file}
 use Rattle.tmr_texts.specs.Reasons.{cert_reason}
 use Rattle.tmr_texts.specs.Texts.{refused_line}
-use Rattle.tmr_top.specs.Private.Opened.{HoldsBytes, Keeps}
+use Rattle.tmr_top.specs.Private.Opened.{HoldsBytes}
 use Rattle.tmr_top.specs.Pairs.{ReadPair, HoldsCertificate, HoldsNoCertificate, HoldsPair, Accepts}
 use Rattle.tmr_top.specs.declared.pair_files.Designs.{Designs}
 use Rattle.tmr_top.specs.declared.pair_files.PairRead.{PairRead}
 use Rattle.tmr_top.specs.Designs.{HoldsDesign}
 use Rattle.tmr_top.specs.Private.PairFiles.{AreDesigns, ReadsCertificate, IsBeforePair, pair_of, IsFit}
-use Rattle.tmr_top.specs.Private.Refused.{AreRefused, KeepsDesign}
+use Rattle.tmr_top.specs.Private.Refused.{AreRefused}
 use Rattle.tmr_top.specs.Validated.{IsNotAccepted, IsPairUnread}
 use Rattle.tmr_top.proofs.DesignLaws.{one_design, design_or_none}
 
@@ -115,6 +114,14 @@ fit_pair l designs k read one two three fits few = record {
   small = subst (λ (n : FreeDesign). 4 * net_count n.design.net ≤ widest_nets) (sym one) (omega (arith, few, original_within l));
 }
 
+pub before_pair : (p : Pair) (designs : Designs) (a b : Design) (read : Result PlainCert CertFault) (held : Contents) → a ≡ designs.original.design → b ≡ designs.hardened.design → AreDesigns p.limits p.original p.hardened designs held → ReadsCertificate held (certificate_file p.limits p.certificate) a.net b.net read → IsBeforePair p designs read held
+before_pair p designs a b read held one two are there = record {
+  designs_read = are;
+  certificate_read =
+      subst (λ (d : Design). ReadsCertificate held (certificate_file p.limits p.certificate) d.net designs.hardened.design.net read) one
+      (subst (λ (d : Design). ReadsCertificate held (certificate_file p.limits p.certificate) a.net d.net read) two there);
+}
+
 -- the certificate was read for the designs
 pub given_pair : (p : Pair) (designs : Designs) (read : Result PlainCert CertFault) (k : PlainCert) (pair : PairRead) → read ≡ Ok k → pair.original ≡ designs.original → pair.hardened ≡ designs.hardened → pair.certificate ≡ k → (held : Contents) → IsBeforePair p designs read held → HoldsPair held p (pair_of pair)
 given_pair p designs read k pair is one two three held before =
@@ -152,7 +159,3 @@ designs_unread p line held (inr second) = inr (inl (record {
   unread = second.refused.unread;
   says = second.refused.says;
 }))
-
--- what is kept of a pair whose designs were kept
-pub kept_unread : (p : Pair) (line : Vec ℕ Global) (held : Contents) → AreRefused (original_file p.limits p.original) (hardened_file p.limits p.hardened) line.items held → Keeps (λ (read : PairRead) held. HoldsPair held p (pair_of read)) (λ line held. IsPairUnread p held line) (Err line) held
-kept_unread p line held refused = designs_unread p line.items held refused
