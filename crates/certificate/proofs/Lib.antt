@@ -1,5 +1,4 @@
 pub mod TripleLaws
-pub mod LineLaws
 pub mod Names
 pub mod Steps
 pub mod Cases
@@ -23,3 +22,6 @@ pub mod Same
 pub mod Growth
 pub mod Unmarked
 pub mod Domains
+pub mod Carries
+pub mod PieceLines
+pub mod Endings

@@ -15,6 +15,7 @@ use Rattle.certificate.specs.declared.fault.CertFault.TheVariants.{Line}
 use Rattle.certificate.specs.Lines.{Rest, next_line, want}
 use Rattle.certificate.specs.Plain.{IsVoted, AreNodes}
 use Rattle.certificate.specs.Cert.{PlainCert, IsCert, Fits, RoleIsInRange, role_of, copy_of, three_or_input}
+use Rattle.certificate.specs.Carrying.{made}
 use Rattle.certificate.specs.Folding.{version_named, Depths, Nodes, Roles, give_copies, read_node, read_voter, read_part, read_parts, parts_line, first_line, last_line, part_step, node_step, role_step, voter_step, repeat, fold_of_text}
 use Rattle.certificate.proofs.Cases.{AreSmall, bind_ok, want_ok, ok_is, repeat_all, version_is, read_node_read, read_voter_read, read_part_read, read_parts_read}
 use Rattle.certificate.proofs.Filling.{Filled, IsCopyOf, copies_fill, nothing_filled, no_three, copy_role}
@@ -166,16 +167,7 @@ roles_ok version n h parts given rest t e = repeat_all (RolesOk version n parts 
 -- ---- all of it
 
 abbrev pub cert_made : ℕ → Net → Net → List ℕ → Nodes → Roles → PlainCert
-cert_made version n h depth nodes roles = record {
-  version = version;
-  original_inputs = length n.inputs;
-  hardened_inputs = length h.inputs;
-  depth = depth;
-  part = nodes.part;
-  copies = nodes.copies;
-  labels = nodes.labels;
-  roles = roles.roles;
-}
+cert_made version n h depth nodes roles = made version n h depth nodes roles.roles
 
 read_within : {A : Type 0} (xs : List (Option A)) (j : ℕ) (r : A) → get_or xs j None ≡ Some r → j < length xs
 read_within [] j r e = absurd cc

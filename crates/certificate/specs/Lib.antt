@@ -16,3 +16,5 @@ pub mod Plain
 pub mod Tables
 pub mod Left
 pub mod Length
+pub mod Carrying
+pub mod Reader

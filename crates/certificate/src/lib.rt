@@ -5,9 +5,10 @@
 //! eight rules, and of allowed and quiet schedules stand here, in specs/.
 //!
 //! A certificate's text is read exactly (`read_cert`: the certificate, or the first line that is not the
-//! expected one, with its fault), and what is written (`write_cert`) is read again. specs/Text says how a
-//! certificate is spelled, specs/Words and specs/Reading what each line of a text must be; specs/Lines and
-//! specs/Folding are the code's own, and no public clause cites them.
+//! expected one, with its fault), whole or in pieces (`CertReader`), and what is written (`write_cert`) is
+//! read again. specs/Text says how a certificate is spelled, specs/Words and specs/Reading what each line of
+//! a text must be, and specs/Reader which bytes a reader stands for; specs/Lines, specs/Folding and
+//! specs/Carrying are the code's own: no clause of a public function has to be believed by these.
 #![tactic(auto)]
 
 mod certificate;
@@ -15,7 +16,10 @@ mod draft;
 mod fault;
 mod forms;
 mod line_kinds;
-mod lines;
+mod numbers;
+mod pieces;
+mod progress;
+mod reader;
 mod reading;
 mod role;
 mod text;
@@ -25,5 +29,6 @@ mod writing;
 pub use certificate::Certificate;
 pub use draft::CertDraft;
 pub use fault::CertFault;
+pub use reader::CertReader;
 pub use role::Role;
 pub use text::{read_cert, write_cert};

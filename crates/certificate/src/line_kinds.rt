@@ -1,18 +1,20 @@
 //! The kinds of lines: their first and last, partitions, nodes and voters.
-ghost use Rattle.std.specs.Prelude.{◌≡◌, ◌+◌, ◌<◌, ◌≤◌, Some, None, length, IfOk, IsTrue};
+ghost use Rattle.std.specs.Prelude.{◌≡◌, ◌+◌, ◌<◌, ◌≤◌, Some, None, length, codes, IfOk, IsTrue};
 ghost use Rattle.flat_net.specs.Net.{net_count, name_of, IsDesign};
 ghost use Rattle.flat_net.specs.Nodes.{number_of};
 ghost use Rattle.certificate.specs.Gives.{Gives};
 ghost use Rattle.certificate.specs.Plain.{texts, plain_line, IsNode, AreNodes, IsVoted};
 ghost use Rattle.certificate.specs.Threes.{three_of, three_ids};
-ghost use Rattle.certificate.specs.Folding.{version_named, first_line, last_line, read_parts, read_part, known, voted, known_three, three_numbers, node_numbers, read_node, copy_named, voter_numbers, read_voter, parts_line};
+ghost use Rattle.certificate.specs.Folding.{version_named, read_parts, read_part, known, voted, known_three, three_numbers, node_numbers, read_node, copy_named, voter_numbers, read_voter};
+ghost use Rattle.certificate.specs.Lines.{want, hold};
+ghost use Rattle.certificate.specs.declared.fault.CertFault.TheVariants.{Line};
+ghost use Rattle.std.specs.Str.{bytes_eq};
 
 use crate::forms::form_words;
-use crate::lines::{next_line, number};
+use crate::numbers::number;
 use crate::{CertFault, Role};
 use flat_net::FlatNet;
 use std::alloc::Global;
-use text_lines::Lines;
 use tmr_base::{CopyNo, Name, NameFault, NetId, PartId};
 
 /// What the lines of nodes and voters are read by: the text's version, the two designs, and how many partitions there are.
@@ -46,36 +48,28 @@ fn version_named(line: &[u8]) -> Option<u8>
 }
 
 /// The line with which each text begins: its version.
-#[tactic(auto, unfolding(crate::specs::Folding::first_line))]
-pub fn first_line(lines: &mut Lines<'_>) -> Result<u8, CertFault>
-    ensures { Gives (λ version. (version, lines.new)) result (first_line lines.old) }
+pub fn read_version(text: &[u8], line: u64) -> Result<u8, CertFault>
+    ensures { Gives (λ version. version) result (want (version_named text.now) (Line line)) }
 {
-    let number = lines.number();
-    let line = next_line(lines)?;
-    match version_named(line) {
+    match version_named(text) {
         Some(version) => Ok(version),
-        None => Err(CertFault::Line(number)),
+        None => Err(CertFault::Line(line)),
     }
 }
 
 /// The line with which each text ends.
-#[tactic(auto, unfolding(crate::specs::Folding::last_line))]
-pub fn last_line(lines: &mut Lines<'_>) -> Result<(), CertFault>
-    ensures { Gives (λ _. lines.new) result (last_line lines.old) }
+pub fn read_end(text: &[u8], line: u64) -> Result<(), CertFault>
+    ensures { Gives (λ _. tt) result (hold (bytes_eq text.now (codes "end")) (Line line)) }
 {
-    let number = lines.number();
-    let line = next_line(lines)?;
-    if line != b"end".as_slice() {
-        return Err(CertFault::Line(number));
-    }
-    if !lines.is_done() {
-        return Err(CertFault::Line(lines.number()));
+    if text != b"end".as_slice() {
+        return Err(CertFault::Line(line));
     }
     Ok(())
 }
 
+/// How many partitions there are.
 #[tactic(auto, unfolding(crate::specs::Folding::read_parts))]
-fn read_parts(alloc: Global, text: &[u8], line: u64) -> Result<u32, CertFault>
+pub fn read_parts(alloc: Global, text: &[u8], line: u64) -> Result<u32, CertFault>
     ensures { Gives (λ n. n) result (read_parts text.now line) }
 {
     let words = form_words(alloc, text, 2, b"parts", line)?;
@@ -240,16 +234,6 @@ fn node_numbers(words: &[&[u8]], line: u64) -> Result<(u32, [u32; 3]), CertFault
     let part = number(words[2], line)?;
     let labels = three_numbers(words[6], words[7], words[8], line)?;
     Ok((part, labels))
-}
-
-/// How many partitions there are.
-#[tactic(auto, unfolding(crate::specs::Folding::parts_line))]
-pub fn parts_line(alloc: Global, lines: &mut Lines<'_>) -> Result<u32, CertFault>
-    ensures { Gives (λ count. (count, lines.new)) result (parts_line lines.old) }
-{
-    let line = lines.number();
-    let text = next_line(lines)?;
-    read_parts(alloc, text, line)
 }
 
 /// The line of original node x. Its first copy is guessed.

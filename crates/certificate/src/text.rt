@@ -6,9 +6,8 @@ ghost use Rattle.certificate.specs.Length.{cert_length};
 ghost use Rattle.certificate.specs.Reading.{cert_of_text};
 ghost use Rattle.certificate.specs.Text.{cert_text};
 
-use crate::reading::draft_of_text;
 use crate::writing::lines_of;
-use crate::{CertFault, Certificate};
+use crate::{CertFault, CertReader, Certificate};
 use flat_net::FlatNet;
 use std::alloc::Global;
 use tmr_base::OutOfMemory;
@@ -36,10 +35,9 @@ pub fn read_cert(
     // The certificate that the lines spell, or the fault of the first line that is not as it must be.
     ensures exact { Gives (λ k. k) result (cert_of_text n.now.net h.now.net bytes.now) }
 {
-    match draft_of_text(alloc, bytes, n, h) {
-        Ok((version, draft)) => Ok(Certificate::of_version(version, draft)),
-        Err(fault) => Err(fault),
-    }
+    let mut reader = CertReader::new(alloc, n, h);
+    reader.feed(bytes);
+    reader.finish()
 }
 
 /// The text of certificate c for the original n and the hardened design h, which it fits.
