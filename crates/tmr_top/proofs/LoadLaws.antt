@@ -9,6 +9,7 @@ use Rattle.blif_text.specs.Reader.{ReaderState as TextState, StandsFor}
 use Rattle.blif_text.specs.declared.fault.TextFault.{TextFault}
 use Rattle.certificate.specs.Cert.{Fits, PlainCert}
 use Rattle.certificate.specs.Gives as certificate
+use Rattle.certificate.specs.Reader.{ReaderState}
 use Rattle.certificate.specs.Reading.{cert_of_text}
 use Rattle.certificate.specs.declared.fault.CertFault.{CertFault}
 use Rattle.flat_net.specs.Net.{Net}
@@ -24,7 +25,6 @@ use Rattle.tmr_top.specs.Files.{Holds, OfOne, OfEach, OfFirst, IsLong, IsMissing
 use Rattle.tmr_top.specs.Changes.{LoadFailed, IsNone, ChangesOnly, NoneFailed}
 use Rattle.tmr_top.specs.Private.Opened.{HoldsText, HoldsBytes, IsOpen, IsStop, IsSteadyStop, Opens, Never, IsRefusal, Gives, Keeps, keeping, telling}
 use Rattle.tmr_top.specs.Private.PairFiles.{IsReading, ReadsCertificate}
-use Rattle.tmr_top.specs.CertReader.{ReaderState}
 use Rattle.tmr_top.specs.Private.Refused.{Refuses, RefusesFor}
 use Rattle.tmr_top.proofs.ChangeLaws.{none_rose, load_change, load_failed_since, none_since, told_as_before, changes_then, changes_more}
 

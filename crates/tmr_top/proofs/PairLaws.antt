@@ -132,7 +132,7 @@ given_pair p designs read k pair is one two three held before =
 pub given_fault : (p : Pair) (designs : Designs) (read : Result PlainCert CertFault) (fault : CertFault) (line : List ℕ) (held : Contents) → read ≡ Err fault → fault ≢ faults.Memory → line ≡ refused_line p.certificate (cert_reason fault) → IsBeforePair p designs read held → IsPairUnread p held line
 given_fault p designs read fault line held is caused says before =
     let there : ReadsCertificate held (certificate_file p.limits p.certificate) designs.original.design.net designs.hardened.design.net (Err fault) =
-        subst (λ (r : Result PlainCert CertFault). ReadsCertificate held (certificate_file p.limits p.certificate) designs.original.design.net designs.hardened.design.net r) is before.certificate_read
+    subst (λ (r : Result PlainCert CertFault). ReadsCertificate held (certificate_file p.limits p.certificate) designs.original.design.net designs.hardened.design.net r) is before.certificate_read
     in
     inr (inr (record {
       original = designs.original.design.net;

@@ -27,4 +27,3 @@ pub mod Swept
 pub mod Explained
 pub mod Campaigned
 pub mod Pictured
-pub mod CertReader

@@ -4,7 +4,6 @@
 //! are opened (`designs`, `pair_files`, `pairs`), and the texts of a work are saved (`saves`, `conclusion`).
 #![tactic(auto)]
 
-mod cert_reader;
 mod commands;
 mod conclusion;
 mod decision;

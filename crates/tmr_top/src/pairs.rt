@@ -18,7 +18,10 @@ ghost use Rattle.tmr_top.specs.Private.Works.{IsDeniedWith};
 
 use crate::decision::{Work, denying};
 use crate::designs::{read_hardened, read_original, refuse_for};
-use crate::loads::{CertRead, Kept, Stop, keep, load_certificate, load_hardened, load_original, pass_certificate, tell};
+use crate::loads::{
+    CertRead, Kept, Stop, keep, load_certificate, load_hardened, load_original, pass_certificate,
+    tell,
+};
 use crate::pair_files::{Designs, PairRead};
 use certificate::Certificate;
 use flat_net::FreeNet;
@@ -213,13 +216,7 @@ pub fn load_pair<'a, F: Files>(
         (F.seen files.old) (F.seen files.new) (F.steady files.old) (F.steady files.new) result }
     ensures fit { IfOk result (λ kept. IfOk kept IsFit) }
 {
-    match load_designs(
-        alloc,
-        words.original,
-        words.hardened,
-        words.limits,
-        files,
-    ) {
+    match load_designs(alloc, words.original, words.hardened, words.limits, files) {
         Ok(Ok(designs)) => kept_pair(alloc, words, designs, files),
         Ok(Err(line)) => kept_refusal(alloc, words, line, files),
         Err(stop) => Err(stop),

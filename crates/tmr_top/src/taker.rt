@@ -1,5 +1,5 @@
 //! What takes files in pieces: netlists and certificates are read meanwhile, and of a file that is passed over nothing is kept.
-ghost use Rattle.std.specs.Prelude.{◌≡◌, ◌≤◌, [], IfOk, List, ℕ, None};
+ghost use Rattle.std.specs.Prelude.{◌≡◌, ◌≤◌, [], IfOk, List, ℕ};
 ghost use Rattle.blif_text.specs.Reading.{reading, Reads};
 ghost use Rattle.blif_text.specs.Reader.{StandsFor, most_bytes};
 ghost use Rattle.certificate.specs.Cert.{Fits};
@@ -9,9 +9,8 @@ ghost use Rattle.flat_net.specs.Net.{Net};
 ghost use Rattle.limits.specs.Most.{widest_text};
 ghost use Rattle.tmr_top.specs.Private.PairFiles.{IsReading};
 
-use crate::cert_reader::CertReader;
 use blif_text::{Library, Reader, TextFault};
-use certificate::{CertFault, Certificate};
+use certificate::{CertFault, CertReader, Certificate};
 use flat_net::FlatNet;
 use std::alloc::Global;
 use std::marker::{Brand, PhantomData};

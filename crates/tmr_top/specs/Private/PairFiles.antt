@@ -1,9 +1,9 @@
 -- The files of a pair as they were read.
 use Rattle.std.specs.Prelude.{◌≡◌, ◌≤◌, ◌*◌, ℕ, List, Result}
 use Rattle.flat_net.specs.Net.{Net, net_count}
-use Rattle.tmr_top.specs.CertReader.{ReaderState, StandsFor}
 use Rattle.certificate.specs.Cert.{Fits, PlainCert}
 use Rattle.certificate.specs.Gives.{Gives}
+use Rattle.certificate.specs.Reader.{ReaderState, StandsFor}
 use Rattle.certificate.specs.Reading.{cert_of_text}
 use Rattle.certificate.specs.declared.fault.CertFault.{CertFault}
 use Rattle.limits.specs.declared.Limits.{Limits}
