@@ -80,7 +80,7 @@ IsRefusal G R stop.Memory = Unit {0}
 abbrev pub Gives : {A : Type 0} → (Contents → Type 0) → (A → Contents → Type 0) → (List ℕ → Contents → Type 0) → Result A Stop → Type 0
 Gives G H R answer = MatchResult answer (λ a. (held : Contents) → G held → H a held) (IsRefusal G R)
 
--- what was read is kept until all files are loaded, H holds of it, or a file is refused in a line of which R holds
+-- what is kept until all files are loaded: what was read of them, of which H holds, or the line that refuses one, of which R holds
 abbrev pub Keeps : {A : Type 0} → (A → Contents → Type 0) → (List ℕ → Contents → Type 0) → Result A (Vec ℕ Global) → Contents → Type 0
 Keeps H R kept held = MatchResult kept (λ a. H a held) (λ line. R line.items held)
 
