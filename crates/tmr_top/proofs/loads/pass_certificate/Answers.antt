@@ -1,5 +1,3 @@
-use Rattle.std.proofs.Common.{List, ℕ, Result, Ok, Err, refl}
-use Rattle.std.specs.Prelude.{OnOk}
 use Rattle.tmr_top.specs.Files.{IsFine}
 use Rattle.tmr_top.specs.Loads.{Load, Bytes}
 use Rattle.tmr_top.specs.Private.Opened.{bytes_file}

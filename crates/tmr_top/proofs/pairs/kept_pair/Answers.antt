@@ -5,7 +5,7 @@ use Rattle.tmr_top.specs.Pairs.{HoldsPair}
 use Rattle.tmr_top.specs.Validated.{IsPairUnread}
 use Rattle.tmr_top.specs.Private.Opened.{Keeps}
 use Rattle.tmr_top.specs.Private.PairFiles.{AreDesigns, ReadsCertificate, IsBeforePair, pair_of}
-use Rattle.tmr_top.proofs.LoadLaws.{opens_kept, still_stops}
+use Rattle.tmr_top.proofs.LoadLaws.{opens_kept}
 use Rattle.tmr_top.proofs.PairLaws.{before_pair}
 use Rattle.tmr_top.proofs.pairs.kept_pair.Goals as goal
 

@@ -1,5 +1,4 @@
-use Rattle.std.proofs.Common.{List, ℕ, [], ◌∷◌}
-use Rattle.tmr_outside.specs.Contents.{Contents}
+use Rattle.std.proofs.Common.{[], ◌∷◌}
 use Rattle.tmr_words.specs.FileWords.{pair_in}
 use Rattle.tmr_top.specs.Loads.{original_file, hardened_file, certificate_file}
 use Rattle.tmr_top.specs.Pairs.{HoldsPair}

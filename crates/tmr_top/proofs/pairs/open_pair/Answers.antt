@@ -1,4 +1,4 @@
-use Rattle.tmr_top.proofs.LoadLaws.{opens_told, on_told, still_stops}
+use Rattle.tmr_top.proofs.LoadLaws.{opens_told, still_stops}
 use Rattle.tmr_top.proofs.pairs.open_pair.Goals as goal
 
 pub returns-in-Ok-clause-opens : goal.returns-in-Ok-clause-opens
