@@ -8,6 +8,7 @@ use Rattle.flat_net.specs.Free.{FreeDesign}
 use Rattle.limits.specs.declared.Limits.{Limits}
 use Rattle.limits.specs.Most.{most_original, widest_nets}
 use Rattle.limits.proofs.MostLaws.{original_within}
+use Rattle.tmr_outside.specs.Contents.{Contents}
 use Rattle.tmr_outside.specs.Seen.{FilesSeen}
 use Rattle.tmr_top.specs.declared.loads.Stop.{Stop}
 use Rattle.tmr_top.specs.Designs.{HoldsDesign}

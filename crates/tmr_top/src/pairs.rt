@@ -270,7 +270,11 @@ pub fn accepted_text(alloc: Global, pair: &PairRead) -> Result<Vec<u8>, OutOfMem
 }
 
 /// The work where a pair is not accepted.
-pub fn deny<'a>(alloc: Global, pair: &PairRead, refusal: Refusal) -> Result<Work<'a, 'a>, OutOfMemory>
+pub fn deny<'a>(
+    alloc: Global,
+    pair: &PairRead,
+    refusal: Refusal,
+) -> Result<Work<'a, 'a>, OutOfMemory>
     requires { IsPlace pair.now.hardened.design.net refusal.rule refusal.at }
     ensures { IfOk result (IsDeniedWith (not_accepted_line pair.now.hardened.design.net refusal.rule refusal.at)) }
 {

@@ -52,10 +52,7 @@ fn save_one<'a, F: Files>(
 }
 
 /// Saves the texts under their names, in this order, up to the first that fails.
-pub fn save_all<'a, F: Files>(
-    files: &mut F,
-    saves: Vec<Save<'a, '_>>,
-) -> Result<(), SaveStop<'a>>
+pub fn save_all<'a, F: Files>(files: &mut F, saves: Vec<Save<'a, '_>>) -> Result<(), SaveStop<'a>>
     ensures saves { OnOk result (Saves (save_names saves.entry.items) (save_texts saves.entry.items)
         (F.seen files.old) (F.seen files.new)) }
     ensures stop { IfErr result (λ stop. IsSaveStop (save_names saves.entry.items) (save_texts saves.entry.items)

@@ -102,11 +102,7 @@ fn tell_form<'n, 't>(
 
 /// A hardened form of a design.
 #[tactic(auto, using(crate::proofs::HardenLaws::versions, crate::proofs::LimitLaws::few))]
-fn make_form(
-    alloc: Global,
-    words: &HardenWords,
-    n: &FreeNet,
-) -> Result<HardenedForm, OutOfMemory>
+fn make_form(alloc: Global, words: &HardenWords, n: &FreeNet) -> Result<HardenedForm, OutOfMemory>
     requires { IsWithin (most_original words.now.limits) n.now }
     ensures { IfOk result (λ form. IsFormOf words.now.form n.now words.now.size words.now.version words.now.most form) }
 {
