@@ -8,9 +8,11 @@ use Rattle.flat_net.specs.Free.{FreeDesign}
 use Rattle.limits.specs.declared.Limits.{Limits}
 use Rattle.limits.specs.Most.{most_original, widest_nets}
 use Rattle.limits.proofs.MostLaws.{original_within}
+use Rattle.tmr_outside.specs.Contents.{Contents}
 use Rattle.tmr_outside.specs.Seen.{FilesSeen}
 use Rattle.tmr_top.specs.declared.loads.Stop.{Stop}
 use Rattle.tmr_top.specs.Designs.{HoldsDesign}
+use Rattle.tmr_top.specs.Loads.{Load}
 use Rattle.tmr_top.specs.Private.Opened.{netlist_file, bytes_file, HoldsText, HoldsBytes, Opens, Never, Gives}
 use Rattle.tmr_top.specs.Private.Refused.{IsRefusedNetlist, IsWithin}
 use Rattle.tmr_top.specs.Private.Shown.{IsShownNetlist}
@@ -26,6 +28,11 @@ pub bytes_opened : (name : List ℕ) (k m : ℕ) (a b : FilesSeen) (was is : Typ
     → Opens (bytes_file name k ∷ []) (λ (v : Vec ℕ Global) held. HoldsBytes held (bytes_file name k) v.items) Never a b was is answer
     → Opens (bytes_file name m ∷ []) (λ (v : Vec ℕ Global) held. HoldsBytes held (bytes_file name m) v.items) Never a b was is answer
 bytes_opened name k m a b was is answer same = subst (λ (x : ℕ). Opens (bytes_file name x ∷ []) (λ (v : Vec ℕ Global) held. HoldsBytes held (bytes_file name x) v.items) Never a b was is answer) same
+
+pub opened_within : {A : Type 0} (name : List ℕ) (k m : ℕ) (H : Load → A → Contents → Type 0) (a b : FilesSeen) (was is : Type 0) (answer : Result A Stop) → k ≡ m
+    → Opens (bytes_file name k ∷ []) (H (bytes_file name k)) Never a b was is answer
+    → Opens (bytes_file name m ∷ []) (H (bytes_file name m)) Never a b was is answer
+opened_within name k m H a b was is answer same = subst (λ (x : ℕ). Opens (bytes_file name x ∷ []) (H (bytes_file name x)) Never a b was is answer) same
 
 -- ---- reads
 

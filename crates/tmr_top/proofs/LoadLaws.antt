@@ -1,12 +1,18 @@
 -- Loads, one after the other, and reads behind them.
 use Rattle.std.proofs.Common.{◌≡◌, ℕ, ◌≤◌, List, [], ◌∷◌, ◌++◌, map, length, Option, Some, None, Result, Ok, Err, inl, inr, refl, sym, subst, ◌∙◌}
-use Rattle.std.specs.Prelude.{IfSome, IfOk, IfErr, OnOk, Vec}
+use Rattle.std.specs.Prelude.{IfSome, IfOk, IfErr, OnOk, IsOk, Vec}
 use Rattle.std.specs.declared.alloc.Global.{Global}
 use Rattle.std.specs.FinMap.{get}
 use Rattle.blif_text.specs.Models.{PlainModel}
 use Rattle.blif_text.specs.Reading.{reading, Reads}
-use Rattle.blif_text.specs.Reader.{ReaderState, StandsFor}
+use Rattle.blif_text.specs.Reader.{ReaderState as TextState, StandsFor}
 use Rattle.blif_text.specs.declared.fault.TextFault.{TextFault}
+use Rattle.certificate.specs.Cert.{Fits, PlainCert}
+use Rattle.certificate.specs.Gives as certificate
+use Rattle.certificate.specs.Reader.{ReaderState}
+use Rattle.certificate.specs.Reading.{cert_of_text}
+use Rattle.certificate.specs.declared.fault.CertFault.{CertFault}
+use Rattle.flat_net.specs.Net.{Net}
 use Rattle.tmr_outside.specs.Contents.{Contents}
 use Rattle.tmr_outside.specs.Counts.{RoseOf, NoneRose, OthersStay}
 use Rattle.tmr_outside.specs.Pieces.{TakesFile}
@@ -17,14 +23,15 @@ use Rattle.tmr_top.specs.declared.loads.Stop.TheVariants as stop
 use Rattle.tmr_top.specs.Loads.{Load, load_name}
 use Rattle.tmr_top.specs.Files.{Holds, OfOne, OfEach, OfFirst, IsLong, IsMissing, IsFine}
 use Rattle.tmr_top.specs.Changes.{LoadFailed, IsNone, ChangesOnly, NoneFailed}
-use Rattle.tmr_top.specs.Private.Opened.{HoldsText, HoldsBytes, IsOpen, IsStop, IsSteadyStop, Opens, Never, IsRefusal, Gives}
+use Rattle.tmr_top.specs.Private.Opened.{HoldsText, HoldsBytes, IsOpen, IsStop, IsSteadyStop, Opens, Never, IsRefusal, Gives, Keeps, keeping, telling}
+use Rattle.tmr_top.specs.Private.PairFiles.{IsReading, ReadsCertificate}
 use Rattle.tmr_top.specs.Private.Refused.{Refuses, RefusesFor}
 use Rattle.tmr_top.proofs.ChangeLaws.{none_rose, load_change, load_failed_since, none_since, told_as_before, changes_then, changes_more}
 
 -- ---- one load
 
 -- what was taken is what the name holds, and it is read
-pub held_text : (contents : Option Contents) (load : Load) (old new : ReaderState) (ok : Type 0) (text : Result (List PlainModel) TextFault) → StandsFor old [] → TakesFile (StandsFor old) (StandsFor new) old.room new.room load.limit contents load.name ok → ok → ((given : List ℕ) → StandsFor new given → Reads text (reading given)) → IfSome contents (λ held. HoldsText held load text)
+pub held_text : (contents : Option Contents) (load : Load) (old new : TextState) (ok : Type 0) (text : Result (List PlainModel) TextFault) → StandsFor old [] → TakesFile (StandsFor old) (StandsFor new) old.room new.room load.limit contents load.name ok → ok → ((given : List ℕ) → StandsFor new given → Reads text (reading given)) → IfSome contents (λ held. HoldsText held load text)
 held_text None load old new ok text stands takes done reads = tt
 held_text (Some held) load old new ok text stands takes done reads = record {
   bytes = takes.taken;
@@ -37,6 +44,20 @@ pub held_bytes : (contents : Option Contents) (load : Load) (bytes : List ℕ) �
 held_bytes None load bytes there short = tt
 held_bytes (Some held) load bytes there short = record { bytes = bytes; there = there; short = short; fact = refl }
 
+-- what was taken of a certificate is what the name holds, and it is read for these designs
+pub held_certificate : (contents : Option Contents) (load : Load) (n h : Net) (old new : ReaderState) (ok : Type 0) (read : Result PlainCert CertFault) → IsReading n h old [] → TakesFile (IsReading n h old) (IsReading n h new) old.room new.room load.limit contents load.name ok → ok → ((given : List ℕ) → IsReading n h new given → certificate.Gives (λ k. k) read (cert_of_text n h given)) → IfSome contents (λ held. ReadsCertificate held load n h read)
+held_certificate None load n h old new ok read stands takes done reads = tt
+held_certificate (Some held) load n h old new ok read stands takes done reads = record {
+  bytes = takes.taken;
+  there = takes.whole done;
+  short = takes.within;
+  fact = reads takes.taken (takes.takes.appended [] stands);
+}
+
+-- it fits them
+pub taken_fits : (contents : Option Contents) (name : List ℕ) (limit : ℕ) (n h : Net) (old new : ReaderState) (ok : Type 0) (read : Result PlainCert CertFault) → IsReading n h old [] → TakesFile (IsReading n h old) (IsReading n h new) old.room new.room limit contents name ok → ((given : List ℕ) → IsReading n h new given → IfOk read (Fits n h)) → IfOk read (Fits n h)
+taken_fits contents name limit n h old new ok read stands takes fits = fits takes.taken (takes.takes.appended [] stands)
+
 pub failed_stop : (load : Load) (old new : FilesSeen) → RoseOf old.contents (old.load_count load.name) (new.load_count load.name) → (IsTold old → OthersStay load.name old.load_count new.load_count) → (IsTold old → NoneRose old.save_count new.save_count) → OfOne (λ (l : Load). LoadFailed old new l × (load.name ≡ l.name)) (load ∷ [])
 failed_stop load old new rose others saves = inl (record { rose = rose; other_loads = others; no_saves = saves }, refl)
 
@@ -48,47 +69,42 @@ pub missing_stop : (contents : Option Contents) (load : Load) → IfSome content
 missing_stop None load missing = tt
 missing_stop (Some held) load missing = inl missing
 
-pub ruleset one_load = (none_rose, held_text, held_bytes, failed_stop, long_stop, missing_stop, load_change)
+pub ruleset one_load = (none_rose, held_text, held_bytes, held_certificate, taken_fits, failed_stop, long_stop, missing_stop, load_change)
 
 -- ---- one load, as files that are opened
 
 fine_of : (held : Contents) (load : Load) (P : List ℕ → Type 0) → Holds held load P → IsFine held load
 fine_of held load P holds = record { bytes = holds.bytes; there = holds.there; short = holds.short; fact = tt }
 
-one_fine : (load : Load) (G : Contents → Type 0) (P : Contents → List ℕ → Type 0) → ((held : Contents) → G held → Holds held load (P held)) → (o : Option Contents) → IfSome o G → IfSome o (λ held. OfEach (IsFine held) (load ∷ []) × G held)
-one_fine load G P fine None holds = tt
-one_fine load G P fine (Some held) holds = ((fine_of held load (P held) (fine held holds), tt), holds)
+one_fine : (load : Load) (P : List ℕ → Type 0) (o : Option Contents) → IfSome o (λ held. Holds held load P) → IfSome o (λ held. OfEach (IsFine held) (load ∷ []) × Holds held load P)
+one_fine load P None holds = tt
+one_fine load P (Some held) holds = ((fine_of held load P holds, tt), holds)
 
-pub opens_text : (load : Load) (a b : FilesSeen) (was is : Type 0) (text : Result (List PlainModel) TextFault) → b.contents ≡ a.contents → ChangesOnly (load.name ∷ []) [] a b → (was → is) → IfSome a.contents (λ held. HoldsText held load text) → (IsTold a → NoneRose a.load_count b.load_count) → Opens (load ∷ []) (λ (t : Result (List PlainModel) TextFault) held. HoldsText held load t) Never a b was is (Ok text)
-opens_text load a b was is text same changes steady holds none = record {
+pub opens_one : {A : Type 0} (load : Load) (P : A → List ℕ → Type 0) (a b : FilesSeen) (was is : Type 0) (answer : Result A Stop) → b.contents ≡ a.contents → ChangesOnly (load.name ∷ []) [] a b → (was → is) → IfOk answer (λ x. IfSome a.contents (λ held. Holds held load (P x))) → OnOk answer (IsTold a → NoneRose a.load_count b.load_count) → IfErr answer (IsStop (load ∷ []) Never a b) → (was → IfErr answer (IsSteadyStop (load ∷ []) a.contents)) → Opens (load ∷ []) (λ x held. Holds held load (P x)) Never a b was is answer
+opens_one load P a b was is (Ok x) same changes steady holds none stops steady_stops = record {
   stays = same;
   changes = changes;
   steady = steady;
-  ok = record { holds = one_fine load (λ held. HoldsText held load text) (λ held bytes. Reads text (reading bytes)) (λ held h. h) a.contents holds; none = none };
+  ok = record { holds = one_fine load (P x) a.contents holds; none = none };
   stop = tt;
   steady_stop = λ s. tt;
 }
-
-pub opens_bytes : (load : Load) (a b : FilesSeen) (was is : Type 0) (bytes : Vec ℕ Global) → b.contents ≡ a.contents → ChangesOnly (load.name ∷ []) [] a b → (was → is) → IfSome a.contents (λ held. HoldsBytes held load bytes.items) → (IsTold a → NoneRose a.load_count b.load_count) → Opens (load ∷ []) (λ (v : Vec ℕ Global) held. HoldsBytes held load v.items) Never a b was is (Ok bytes)
-opens_bytes load a b was is bytes same changes steady holds none = record {
-  stays = same;
-  changes = changes;
-  steady = steady;
-  ok = record { holds = one_fine load (λ held. HoldsBytes held load bytes.items) (λ held b. b ≡ bytes.items) (λ held h. h) a.contents holds; none = none };
-  stop = tt;
-  steady_stop = λ s. tt;
-}
-
-pub opens_none : {A : Type 0} (load : Load) (H : A → Contents → Type 0) (a b : FilesSeen) (was is : Type 0) (e : Stop) → b.contents ≡ a.contents → ChangesOnly (load.name ∷ []) [] a b → (was → is) → IsStop (load ∷ []) Never a b e → (was → IsSteadyStop (load ∷ []) a.contents e) → Opens {A = A} (load ∷ []) H Never a b was is (Err e)
-opens_none load H a b was is e same changes steady stops steady_stops = record { stays = same; changes = changes; steady = steady; ok = tt; stop = stops; steady_stop = steady_stops }
+opens_one load P a b was is (Err e) same changes steady holds none stops steady_stops = record { stays = same; changes = changes; steady = steady; ok = tt; stop = stops; steady_stop = steady_stops }
 
 pub opens_netlist : (load : Load) (a b : FilesSeen) (was is : Type 0) (answer : Result (Result (List PlainModel) TextFault) Stop) → b.contents ≡ a.contents → ChangesOnly (load.name ∷ []) [] a b → (was → is) → IfOk answer (λ t. IfSome a.contents (λ held. HoldsText held load t)) → OnOk answer (IsTold a → NoneRose a.load_count b.load_count) → IfErr answer (IsStop (load ∷ []) Never a b) → (was → IfErr answer (IsSteadyStop (load ∷ []) a.contents)) → Opens (load ∷ []) (λ (t : Result (List PlainModel) TextFault) held. HoldsText held load t) Never a b was is answer
-opens_netlist load a b was is (Ok t) same changes steady holds none stops steady_stops = opens_text load a b was is t same changes steady holds none
-opens_netlist load a b was is (Err e) same changes steady holds none stops steady_stops = opens_none load (λ (t : Result (List PlainModel) TextFault) held. HoldsText held load t) a b was is e same changes steady stops steady_stops
+opens_netlist load = opens_one load (λ t bytes. Reads t (reading bytes))
 
 pub opens_taken : (load : Load) (a b : FilesSeen) (was is : Type 0) (answer : Result (Vec ℕ Global) Stop) → b.contents ≡ a.contents → ChangesOnly (load.name ∷ []) [] a b → (was → is) → IfOk answer (λ v. IfSome a.contents (λ held. HoldsBytes held load v.items)) → OnOk answer (IsTold a → NoneRose a.load_count b.load_count) → IfErr answer (IsStop (load ∷ []) Never a b) → (was → IfErr answer (IsSteadyStop (load ∷ []) a.contents)) → Opens (load ∷ []) (λ (v : Vec ℕ Global) held. HoldsBytes held load v.items) Never a b was is answer
-opens_taken load a b was is (Ok v) same changes steady holds none stops steady_stops = opens_bytes load a b was is v same changes steady holds none
-opens_taken load a b was is (Err e) same changes steady holds none stops steady_stops = opens_none load (λ (v : Vec ℕ Global) held. HoldsBytes held load v.items) a b was is e same changes steady stops steady_stops
+opens_taken load = opens_one load (λ v bytes. bytes ≡ v.items)
+
+-- what was passed over is there, and not too long
+pub opens_passed : (load : Load) (a b : FilesSeen) (was is : Type 0) (stood stands : List ℕ → Type 0) (room left : ℕ) (answer : Result (Unit {0}) Stop) → b.contents ≡ a.contents → ChangesOnly (load.name ∷ []) [] a b → (was → is) → TakesFile stood stands room left load.limit a.contents load.name (IsOk answer) → OnOk answer (IsTold a → NoneRose a.load_count b.load_count) → IfErr answer (IsStop (load ∷ []) Never a b) → (was → IfErr answer (IsSteadyStop (load ∷ []) a.contents)) → Opens (load ∷ []) (λ (x : Unit {0}) held. IsFine held load) Never a b was is answer
+opens_passed load a b was is stood stands room left answer same changes steady takes = opens_one load (λ (x : Unit {0}) bytes. Unit {0}) a b was is answer same changes steady (there a.contents answer takes)
+  where
+    there : (contents : Option Contents) (answer : Result (Unit {0}) Stop) → TakesFile stood stands room left load.limit contents load.name (IsOk answer) → IfOk answer (λ x. IfSome contents (λ held. IsFine held load))
+    there None (Ok x) takes = tt
+    there (Some held) (Ok x) takes = record { bytes = takes.taken; there = takes.whole refl; short = takes.within; fact = tt }
+    there contents (Err e) takes = tt
 
 -- ---- lists of files, one behind the other
 
@@ -192,6 +208,81 @@ opens_read ls K H R a b was is x (Err e) opens gives = record {
     steady_stops (stop.Refused line) is = tt
     steady_stops stop.Memory is = tt
 
+-- what is read of a file that was loaded, where G holds, is kept: so L holds of what is kept
+pub opens_kept : {A B : Type 0} (ls : List Load) (K : A → Contents → Type 0) (G : Contents → Type 0) (H : B → Contents → Type 0) (R : List ℕ → Contents → Type 0) (L : Result B (Vec ℕ Global) → Contents → Type 0) (a b : FilesSeen) (was is : Type 0) (x : A) (answer : Result B Stop) (result : Result (Result B (Vec ℕ Global)) Stop) → result ≡ keeping answer → Opens {A = A} ls K Never a b was is (Ok x) → Gives G H R answer → ((kept : Result B (Vec ℕ Global)) (held : Contents) → K x held → (G held → Keeps H R kept held) → L kept held) → Opens {A = Result B (Vec ℕ Global)} ls L Never a b was is result
+opens_kept {A} {B} ls K G H R L a b was is x answer result same opens gives f = subst (λ (r : Result (Result B (Vec ℕ Global)) Stop). Opens {A = Result B (Vec ℕ Global)} ls L Never a b was is r) (sym same) (go answer gives)
+  where
+    opened : (kept : Result B (Vec ℕ Global)) → ((held : Contents) → G held → Keeps H R kept held) → Opens {A = Result B (Vec ℕ Global)} ls L Never a b was is (Ok kept)
+    opened kept keeps = record {
+      stays = opens.stays;
+      changes = opens.changes;
+      steady = opens.steady;
+      ok = open_weaker ls (K x) (L kept) a b (λ held k. f kept held k (keeps held)) opens.ok;
+      stop = tt;
+      steady_stop = λ s. tt;
+    }
+
+    go : (answer : Result B Stop) → Gives G H R answer → Opens {A = Result B (Vec ℕ Global)} ls L Never a b was is (keeping answer)
+    go (Ok y) gives = opened (Ok y) gives
+    go (Err (stop.Failed name)) gives = absurd gives
+    go (Err (stop.TooLong name)) gives = absurd gives
+    go (Err (stop.Refused line)) gives = opened (Err line) gives
+    go (Err stop.Memory) gives = record {
+      stays = opens.stays;
+      changes = opens.changes;
+      steady = opens.steady;
+      ok = tt;
+      stop = opens.ok.none;
+      steady_stop = λ s. tt;
+    }
+
+-- what was kept is told
+pub opens_told : {A : Type 0} (ls : List Load) (H : A → Contents → Type 0) (R : List ℕ → Contents → Type 0) (a b : FilesSeen) (was is : Type 0) (kept : Result A (Vec ℕ Global)) (result : Result A Stop) → result ≡ telling kept → Opens {A = Result A (Vec ℕ Global)} ls (Keeps H R) Never a b was is (Ok kept) → Opens {A = A} ls H R a b was is result
+opens_told {A} ls H R a b was is kept result same opens = subst (λ (r : Result A Stop). Opens {A = A} ls H R a b was is r) (sym same) (go kept opens)
+  where
+    go : (kept : Result A (Vec ℕ Global)) → Opens {A = Result A (Vec ℕ Global)} ls (Keeps H R) Never a b was is (Ok kept) → Opens {A = A} ls H R a b was is (telling kept)
+    go (Ok x) opens = record {
+      stays = opens.stays;
+      changes = opens.changes;
+      steady = opens.steady;
+      ok = open_weaker ls (Keeps H R (Ok x)) (H x) a b (λ held h. h) opens.ok;
+      stop = tt;
+      steady_stop = λ s. tt;
+    }
+    go (Err line) opens = record {
+      stays = opens.stays;
+      changes = opens.changes;
+      steady = opens.steady;
+      ok = tt;
+      stop = open_weaker ls (Keeps H R (Err line)) (R line.items) a b (λ held h. h) opens.ok;
+      steady_stop = λ s. tt;
+    }
+
+-- a fact of what is kept, and of what is told
+pub on_kept : {A : Type 0} (P : A → Type 0) (answer : Result A Stop) (result : Result (Result A (Vec ℕ Global)) Stop) → result ≡ keeping answer → IfOk answer P → IfOk result (λ kept. IfOk kept P)
+on_kept {A} P answer result same holds = subst (λ (r : Result (Result A (Vec ℕ Global)) Stop). IfOk r (λ kept. IfOk kept P)) (sym same) (go answer holds)
+  where
+    go : (answer : Result A Stop) → IfOk answer P → IfOk (keeping answer) (λ kept. IfOk kept P)
+    go (Ok x) p = p
+    go (Err (stop.Failed name)) p = tt
+    go (Err (stop.TooLong name)) p = tt
+    go (Err (stop.Refused line)) p = tt
+    go (Err stop.Memory) p = tt
+
+pub on_told : {A : Type 0} (P : A → Type 0) (kept : Result A (Vec ℕ Global)) (result : Result A Stop) → result ≡ telling kept → IfOk kept P → IfOk result P
+on_told {A} P kept result same holds = subst (λ (r : Result A Stop). IfOk r P) (sym same) (go kept holds)
+  where
+    go : (kept : Result A (Vec ℕ Global)) → IfOk kept P → IfOk (telling kept) P
+    go (Ok x) p = p
+    go (Err line) p = tt
+
+-- what was kept is what was read, or the refusal
+pub kept_read : {A : Type 0} (H : A → Contents → Type 0) (R : List ℕ → Contents → Type 0) (kept : Result A (Vec ℕ Global)) (x : A) (held : Contents) → kept ≡ Ok x → Keeps H R kept held → H x held
+kept_read {A} H R kept x held is = subst (λ (k : Result A (Vec ℕ Global)). Keeps H R k held) is
+
+pub kept_refused : {A : Type 0} (H : A → Contents → Type 0) (R : List ℕ → Contents → Type 0) (kept : Result A (Vec ℕ Global)) (line : Vec ℕ Global) (held : Contents) → kept ≡ Err line → Keeps H R kept held → R line.items held
+kept_refused {A} H R kept line held is = subst (λ (k : Result A (Vec ℕ Global)). Keeps H R k held) is
+
 -- the first loads came to no end
 pub stops_first : {A B : Type 0} (ls ms : List Load) (H : A → Contents → Type 0) (K : B → Contents → Type 0) (a b : FilesSeen) (was is : Type 0) (e : Stop) → Opens {A = A} ls H Never a b was is (Err e) → Opens {A = B} (ls ++ ms) K Never a b was is (Err e)
 stops_first ls ms H K a b was is e opens = record {
@@ -282,6 +373,11 @@ module _ {A B C : Type 0} (ls ms : List Load) (H : A → Contents → Type 0) (K
     stop = tt;
     steady_stop = λ s. tt;
   }
+
+-- the first loads are done; whatever came of the others, L holds of it
+pub opens_then : {A B : Type 0} (ls ms : List Load) (H : A → Contents → Type 0) (K L : B → Contents → Type 0) (a b c : FilesSeen) (was is then : Type 0) (x : A) (answer : Result B Stop) → Opens {A = A} ls H Never a b was is (Ok x) → ((y : B) (held : Contents) → H x held → K y held → L y held) → Opens {A = B} ms K Never b c is then answer → Opens {A = B} (ls ++ ms) L Never a c was then answer
+opens_then ls ms H K L a b c was is then x (Ok y) first f later = opens_both ls ms H K L a b c was is then x first y y (f y) later
+opens_then ls ms H K L a b c was is then x (Err e) first f later = stops_later ls ms H K L a b c was is then x first e later
 
 -- ---- refusals
 

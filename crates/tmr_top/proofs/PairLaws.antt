@@ -1,12 +1,13 @@
 -- Pairs that are read, and that files give one pair or none.
 use Rattle.std.proofs.Common.{◌≡◌, ◌≢◌, ℕ, Bool, List, Option, Some, Result, Ok, Err, inl, inr, refl, sym, ap, subst, ◌∙◌, ◌≤◌, ◌+◌, ◌*◌, arith}
 use Rattle.std.specs.FinMap.{get}
+use Rattle.std.specs.Prelude.{IfOk}
 use Rattle.certificate.specs.Gives.{Fails}
 use Rattle.certificate.specs.declared.fault.CertFault.{CertFault}
 use Rattle.certificate.specs.declared.fault.CertFault.TheVariants as faults
 use Rattle.certificate.specs.Cert.{Fits}
 use Rattle.flat_net.specs.Free.{FreeDesign}
-use Rattle.flat_net.specs.Net.{Net, net_count, pin_total}
+use Rattle.flat_net.specs.Net.{Net, Design, net_count, pin_total}
 use Rattle.certificate.specs.Cert.{PlainCert}
 use Rattle.certificate.specs.Reading.{cert_of_text}
 use Rattle.limits.specs.declared.Limits.{Limits}
@@ -15,13 +16,15 @@ use Rattle.limits.proofs.MostLaws.{original_within}
 use Rattle.tmr_outside.specs.Contents.{Contents}
 use Rattle.tmr_words.specs.Line.{Pair}
 use Rattle.tmr_top.specs.Loads.{Load, original_file, hardened_file, certificate_file}
+use Rattle.tmr_texts.specs.Reasons.{cert_reason}
+use Rattle.tmr_texts.specs.Texts.{refused_line}
 use Rattle.tmr_top.specs.Private.Opened.{HoldsBytes}
 use Rattle.tmr_top.specs.Pairs.{ReadPair, HoldsCertificate, HoldsNoCertificate, HoldsPair, Accepts}
 use Rattle.tmr_top.specs.declared.pair_files.Designs.{Designs}
 use Rattle.tmr_top.specs.declared.pair_files.PairRead.{PairRead}
 use Rattle.tmr_top.specs.Designs.{HoldsDesign}
-use Rattle.tmr_top.specs.Private.PairFiles.{AreDesigns, pair_of, IsFit}
-use Rattle.tmr_top.specs.Private.Refused.{AreRefused, IsRefusedCertificate}
+use Rattle.tmr_top.specs.Private.PairFiles.{AreDesigns, ReadsCertificate, IsBeforePair, pair_of, IsFit}
+use Rattle.tmr_top.specs.Private.Refused.{AreRefused}
 use Rattle.tmr_top.specs.Validated.{IsNotAccepted, IsPairUnread}
 use Rattle.tmr_top.proofs.DesignLaws.{one_design, design_or_none}
 
@@ -111,6 +114,41 @@ fit_pair l designs k read one two three fits few = record {
   small = subst (λ (n : FreeDesign). 4 * net_count n.design.net ≤ widest_nets) (sym one) (omega (arith, few, original_within l));
 }
 
+pub before_pair : (p : Pair) (designs : Designs) (a b : Design) (read : Result PlainCert CertFault) (held : Contents) → a ≡ designs.original.design → b ≡ designs.hardened.design → AreDesigns p.limits p.original p.hardened designs held → ReadsCertificate held (certificate_file p.limits p.certificate) a.net b.net read → IsBeforePair p designs read held
+before_pair p designs a b read held one two are there = record {
+  designs_read = are;
+  certificate_read =
+      subst (λ (d : Design). ReadsCertificate held (certificate_file p.limits p.certificate) d.net designs.hardened.design.net read) one
+      (subst (λ (d : Design). ReadsCertificate held (certificate_file p.limits p.certificate) a.net d.net read) two there);
+}
+
+-- the certificate was read for the designs
+pub given_pair : (p : Pair) (designs : Designs) (read : Result PlainCert CertFault) (k : PlainCert) (pair : PairRead) → read ≡ Ok k → pair.original ≡ designs.original → pair.hardened ≡ designs.hardened → pair.certificate ≡ k → (held : Contents) → IsBeforePair p designs read held → HoldsPair held p (pair_of pair)
+given_pair p designs read k pair is one two three held before =
+    pair_read p held designs k pair one two three before.designs_read
+    (subst (λ (r : Result PlainCert CertFault). ReadsCertificate held (certificate_file p.limits p.certificate) designs.original.design.net designs.hardened.design.net r) is before.certificate_read)
+
+-- or it was refused
+pub given_fault : (p : Pair) (designs : Designs) (read : Result PlainCert CertFault) (fault : CertFault) (line : List ℕ) (held : Contents) → read ≡ Err fault → fault ≢ faults.Memory → line ≡ refused_line p.certificate (cert_reason fault) → IsBeforePair p designs read held → IsPairUnread p held line
+given_fault p designs read fault line held is caused says before =
+    let there : ReadsCertificate held (certificate_file p.limits p.certificate) designs.original.design.net designs.hardened.design.net (Err fault) =
+    subst (λ (r : Result PlainCert CertFault). ReadsCertificate held (certificate_file p.limits p.certificate) designs.original.design.net designs.hardened.design.net r) is before.certificate_read
+    in
+    inr (inr (record {
+      original = designs.original.design.net;
+      free = designs.original.free;
+      original_read = before.designs_read.original_read;
+      hardened = designs.hardened.design.net;
+      hardened_free = designs.hardened.free;
+      hardened_read = before.designs_read.hardened_read;
+      fault = fault;
+      unread = record { bytes = there.bytes; there = there.there; short = there.short; fact = read_fault fault (cert_of_text designs.original.design.net designs.hardened.design.net there.bytes) there.fact caused };
+      says = says;
+    }))
+
+pub given_fit : (l : Limits) (designs : Designs) (read : Result PlainCert CertFault) (k : PlainCert) (pair : PairRead) → read ≡ Ok k → pair.original ≡ designs.original → pair.hardened ≡ designs.hardened → pair.certificate ≡ k → IfOk read (Fits designs.original.design.net designs.hardened.design.net) → 2 * (net_count designs.original.design.net + pin_total designs.original.design.net) ≤ most_original l → IsFit pair
+given_fit l designs read k pair is one two three fits few = fit_pair l designs k pair one two three (subst (λ (r : Result PlainCert CertFault). IfOk r (Fits designs.original.design.net designs.hardened.design.net)) is fits) few
+
 pub designs_unread : (p : Pair) (line : List ℕ) (held : Contents) → AreRefused (original_file p.limits p.original) (hardened_file p.limits p.hardened) line held → IsPairUnread p held line
 designs_unread p line held (inl first) = inl (record { reason = first.reason; unread = first.unread; says = first.says })
 designs_unread p line held (inr second) = inr (inl (record {
@@ -120,17 +158,4 @@ designs_unread p line held (inr second) = inr (inl (record {
   reason = second.refused.reason;
   unread = second.refused.unread;
   says = second.refused.says;
-}))
-
-pub certificate_unread : (p : Pair) (line : List ℕ) (held : Contents) (designs : Designs) → AreDesigns p.limits p.original p.hardened designs held → IsRefusedCertificate p.limits p.certificate designs.original.design.net designs.hardened.design.net line held → IsPairUnread p held line
-certificate_unread p line held designs are refused = inr (inr (record {
-  original = designs.original.design.net;
-  free = designs.original.free;
-  original_read = are.original_read;
-  hardened = designs.hardened.design.net;
-  hardened_free = designs.hardened.free;
-  hardened_read = are.hardened_read;
-  fault = refused.fault;
-  unread = refused.unread;
-  says = refused.says;
 }))

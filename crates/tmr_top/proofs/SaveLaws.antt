@@ -12,7 +12,7 @@ use Rattle.tmr_top.specs.declared.saves.SaveStop.TheVariants as stop
 use Rattle.tmr_top.specs.Changes.{IsNone, HeldElsewhere, ChangesOnly}
 use Rattle.tmr_top.specs.Saves.{with_texts}
 use Rattle.tmr_top.specs.declared.decision.Save.{Save}
-use Rattle.tmr_top.specs.Private.Works.{save_names, save_texts}
+use Rattle.tmr_top.specs.Private.Works.{save_names, save_texts, text_of}
 use Rattle.tmr_top.specs.Private.Saved.{after_saves, Saves, StopsAt, IsSaveStop}
 use Rattle.tmr_top.proofs.ChangeLaws.{none_rose, save_change, held_elsewhere, rose_since, save_failed_since, none_since, changes_then, changes_more, none_at, held_told}
 
@@ -132,23 +132,23 @@ name_at [] i d = refl
 name_at (s ∷ saves) zero d = refl
 name_at (s ∷ saves) (suc i) d = name_at saves i d
 
-text_at : (saves : List Save) (i : ℕ) (d : Save) → (get_or saves i d).text.items ≡ get_or (save_texts saves) i d.text.items
+text_at : (saves : List Save) (i : ℕ) (d : Save) → text_of (get_or saves i d).text ≡ get_or (save_texts saves) i (text_of d.text)
 text_at [] i d = refl
 text_at (s ∷ saves) zero d = refl
 text_at (s ∷ saves) (suc i) d = text_at saves i d
 
-module _ (saves : List Save) (i : ℕ) (d : Save) (text : List ℕ) (a b c : FilesSeen) (within : i < length saves) (is : d ≡ get_or saves i d) (same : text ≡ d.text.items) (held : b.contents ≡ after_saves a.contents (take i (save_names saves)) (save_texts saves)) (none : IsTold a → NoneRose a.save_count b.save_count) (before : ChangesOnly [] (save_names saves) a b) where
+module _ (saves : List Save) (i : ℕ) (d : Save) (text : List ℕ) (a b c : FilesSeen) (within : i < length saves) (is : d ≡ get_or saves i d) (same : text ≡ text_of d.text) (held : b.contents ≡ after_saves a.contents (take i (save_names saves)) (save_texts saves)) (none : IsTold a → NoneRose a.save_count b.save_count) (before : ChangesOnly [] (save_names saves) a b) where
   in_names : i < length (save_names saves)
   in_names = let e = length-map saves (λ (save : Save). save.name.now) in omega (arith, e, within)
 
   in_texts : i < length (save_texts saves)
-  in_texts = let e = length-map saves (λ (save : Save). save.text.items) in omega (arith, e, within)
+  in_texts = let e = length-map saves (λ (save : Save). text_of save.text) in omega (arith, e, within)
 
   this_name : d.name.now ≡ get_or (save_names saves) i d.name.now
   this_name = ap (λ (s : Save). s.name.now) is ∙ name_at saves i d
 
-  this_text : text ≡ get_or (save_texts saves) i d.text.items
-  this_text = same ∙ (ap (λ (s : Save). s.text.items) is ∙ text_at saves i d)
+  this_text : text ≡ get_or (save_texts saves) i (text_of d.text)
+  this_text = same ∙ (ap (λ (s : Save). text_of s.text) is ∙ text_at saves i d)
 
   still : IsTold a → NoneRose a.load_count b.load_count
   still is name = before.loads_only is name tt
@@ -157,17 +157,17 @@ module _ (saves : List Save) (i : ℕ) (d : Save) (text : List ℕ) (a b c : Fil
   told = held_told (save_names saves) a.contents b.contents before.elsewhere
 
   pub stop_in : (why : SaveStop) → IsSaveStop (d.name.now ∷ []) (text ∷ []) b c why → IsSaveStop (save_names saves) (save_texts saves) a c why
-  stop_in why at = stop_later (save_names saves) (save_texts saves) i d.name.now d.text.items a b c in_names in_texts held none before.saves still told why
-      (subst (λ (n : List ℕ). IsSaveStop (n ∷ []) (get_or (save_texts saves) i d.text.items ∷ []) b c why) this_name (subst (λ (t : List ℕ). IsSaveStop (d.name.now ∷ []) (t ∷ []) b c why) this_text at))
+  stop_in why at = stop_later (save_names saves) (save_texts saves) i d.name.now (text_of d.text) a b c in_names in_texts held none before.saves still told why
+      (subst (λ (n : List ℕ). IsSaveStop (n ∷ []) (get_or (save_texts saves) i (text_of d.text) ∷ []) b c why) this_name (subst (λ (t : List ℕ). IsSaveStop (d.name.now ∷ []) (t ∷ []) b c why) this_text at))
 
   pub change_in : ChangesOnly [] (d.name.now ∷ []) b c → ChangesOnly [] (save_names saves) a c
   change_in at = one_change (save_names saves) i d.name.now a b c in_names before (subst (λ (n : List ℕ). ChangesOnly [] (n ∷ []) b c) this_name at)
 
-  saves_here : Saves (d.name.now ∷ []) (text ∷ []) b c → Saves (get_or (save_names saves) i d.name.now ∷ []) (get_or (save_texts saves) i d.text.items ∷ []) b c
-  saves_here at = subst (λ (n : List ℕ). Saves (n ∷ []) (get_or (save_texts saves) i d.text.items ∷ []) b c) this_name (subst (λ (t : List ℕ). Saves (d.name.now ∷ []) (t ∷ []) b c) this_text at)
+  saves_here : Saves (d.name.now ∷ []) (text ∷ []) b c → Saves (get_or (save_names saves) i d.name.now ∷ []) (get_or (save_texts saves) i (text_of d.text) ∷ []) b c
+  saves_here at = subst (λ (n : List ℕ). Saves (n ∷ []) (get_or (save_texts saves) i (text_of d.text) ∷ []) b c) this_name (subst (λ (t : List ℕ). Saves (d.name.now ∷ []) (t ∷ []) b c) this_text at)
 
   pub held_in : Saves (d.name.now ∷ []) (text ∷ []) b c → c.contents ≡ after_saves a.contents (take (i + 1) (save_names saves)) (save_texts saves)
-  held_in at = holds_more (save_names saves) (save_texts saves) i d.name.now d.text.items a b c in_names in_texts held none before.saves still told (saves_here at)
+  held_in at = holds_more (save_names saves) (save_texts saves) i d.name.now (text_of d.text) a b c in_names in_texts held none before.saves still told (saves_here at)
 
   pub none_in : Saves (d.name.now ∷ []) (text ∷ []) b c → IsTold a → NoneRose a.save_count c.save_count
-  none_in at = none_more (save_names saves) (save_texts saves) i d.name.now d.text.items a b c in_names in_texts held none before.saves still told (saves_here at)
+  none_in at = none_more (save_names saves) (save_texts saves) i d.name.now (text_of d.text) a b c in_names in_texts held none before.saves still told (saves_here at)

@@ -10,7 +10,8 @@ pub data FileKind : Type 0 where
   Netlist : FileKind
   Bytes : FileKind
 
--- a file to be loaded, and the most bytes that it may have; a netlist is read while it is loaded, and of other files the bytes are kept
+-- a file to be loaded, and the most bytes that it may have; a netlist is read while it is loaded, and so is the certificate of two designs
+-- that are read, whose bytes are not kept; of other files, and of the three that `explain` loads, the bytes are kept
 pub record Load : Type 0 where
   pub name : List ℕ
   pub limit : ℕ

@@ -12,17 +12,19 @@ use tmr_base::OutOfMemory;
 use tmr_outside::Files;
 use tmr_texts::save_fault;
 
-/// Saves the texts of a work that is done, and decides. All texts are made before the first save.
+/// Saves the texts of a work that is done, and decides. What is printed is made before the first save; a text that is saved may be made
+/// while it is saved.
 #[tactic(auto, using(crate::proofs::PerformLaws::conclusions))]
 fn save_work<F: Files>(alloc: Global, work: Work, files: &mut F) -> Result<Decision, OutOfMemory>
     requires { work.verdict ≡ Verdict.Done }
     ensures { (c : Command) → SavesFor c work.entry → Concludes c (Ok work.entry)
         (F.seen files.old) (F.seen files.new) (F.steady files.old) (F.steady files.new) result }
 {
-    match save_all(files, &work.saves) {
+    let Work { saves, text, .. } = work;
+    match save_all(files, saves) {
         Ok(()) => Ok(Decision {
             status: Status::Done,
-            text: work.text,
+            text,
         }),
         Err(SaveStop::Failed(name)) => match save_fault(alloc, name) {
             Ok(text) => Ok(Decision {

@@ -1,8 +1,10 @@
 //! What a command comes to before its text is put.
 ghost use Rattle.std.specs.Prelude.{◌≡◌, ◌∷◌, [], IfOk};
-ghost use Rattle.tmr_top.specs.Private.Works.{IsDoneWith, IsDeniedWith};
+ghost use Rattle.tmr_top.specs.Private.Works.{IsDoneWith, IsDeniedWith, text_of};
 
 use crate::Status;
+use guarded_text::GuardedText;
+use hardened_text::{CertificateText, DesignText};
 use std::alloc::Global;
 use tmr_base::OutOfMemory;
 
@@ -14,19 +16,28 @@ pub enum Verdict {
     Refused,
 }
 
+/// A text to be saved: one that is held whole, or one that is made piece by piece while it is saved.
+#[derive(Drop)]
+pub enum SavedText<'t> {
+    Whole(Vec<u8>),
+    Design(DesignText<'t>),
+    Certificate(CertificateText<'t>),
+    Guarded(GuardedText<'t>),
+}
+
 /// A text to be saved, and the name that it is saved under.
 #[derive(Drop)]
-pub struct Save<'a> {
-    pub name: &'a str,
-    pub text: Vec<u8>,
+pub struct Save<'n, 't> {
+    pub name: &'n str,
+    pub text: SavedText<'t>,
 }
 
 /// What the work of a command gives, where its files are read: the verdict, the texts to be saved
 /// where it is Done, in this order, and the text to be printed.
 #[derive(Drop)]
-pub struct Work<'a> {
+pub struct Work<'n, 't> {
     pub verdict: Verdict,
-    pub saves: Vec<Save<'a>>,
+    pub saves: Vec<Save<'n, 't>>,
     pub text: Vec<u8>,
 }
 
@@ -38,7 +49,7 @@ pub struct Decision {
 }
 
 /// The work that is done with this text, and saves nothing.
-pub fn telling<'a>(alloc: Global, text: Vec<u8>) -> Work<'a>
+pub fn telling<'a>(alloc: Global, text: Vec<u8>) -> Work<'a, 'a>
     ensures { IsDoneWith [] [] text.items result }
 {
     Work {
@@ -54,11 +65,23 @@ pub fn saving<'a>(
     name: &'a str,
     bytes: Vec<u8>,
     text: Vec<u8>,
-) -> Result<Work<'a>, OutOfMemory>
+) -> Result<Work<'a, 'a>, OutOfMemory>
     ensures { IfOk result (IsDoneWith (name.now ∷ []) (bytes.items ∷ []) text.items) }
 {
+    saving_made(alloc, name, SavedText::Whole(bytes), text)
+}
+
+/// The work that is done with this text, and saves another one under this name.
+pub fn saving_made<'n, 't>(
+    alloc: Global,
+    name: &'n str,
+    made: SavedText<'t>,
+    text: Vec<u8>,
+) -> Result<Work<'n, 't>, OutOfMemory>
+    ensures { IfOk result (IsDoneWith (name.now ∷ []) (text_of made.entry ∷ []) text.items) }
+{
     let mut saves = Vec::new(alloc);
-    saves.push(Save { name, text: bytes })?;
+    saves.push(Save { name, text: made })?;
     Ok(Work {
         verdict: Verdict::Done,
         saves,
@@ -67,7 +90,7 @@ pub fn saving<'a>(
 }
 
 /// The work where the files do not agree, with this text.
-pub fn denying<'a>(alloc: Global, text: Vec<u8>) -> Work<'a>
+pub fn denying<'a>(alloc: Global, text: Vec<u8>) -> Work<'a, 'a>
     ensures { IsDeniedWith text.items result }
 {
     Work {

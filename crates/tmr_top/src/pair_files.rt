@@ -1,22 +1,7 @@
 //! The files of a pair, as they are loaded and as they are read.
 
-use crate::loads::Netlist;
 use certificate::Certificate;
 use flat_net::FreeNet;
-
-/// What was loaded of an original design and of one that was made of it.
-#[derive(Drop)]
-pub struct DesignFiles {
-    pub original: Netlist,
-    pub hardened: Netlist,
-}
-
-/// What was loaded of a pair and its certificate.
-#[derive(Drop)]
-pub struct PairFiles {
-    pub designs: DesignFiles,
-    pub certificate: Vec<u8>,
-}
 
 /// The bytes of an original design and of one that was made of it.
 #[derive(Drop)]

@@ -1,5 +1,6 @@
 -- Files that were loaded and read, and loads and reads that came to no end.
-use Rattle.std.specs.Prelude.{◌≡◌, ℕ, List, [], map, codes, Option, IfSome, Result, IfOk, IfErr, MatchResult}
+use Rattle.std.specs.Prelude.{◌≡◌, ℕ, List, [], map, codes, Option, IfSome, Vec, Result, Ok, Err, IfOk, IfErr, MatchResult}
+use Rattle.std.specs.declared.alloc.Global.{Global}
 use Rattle.blif_text.specs.Models.{PlainModel}
 use Rattle.blif_text.specs.Reading.{reading, Reads}
 use Rattle.blif_text.specs.declared.fault.TextFault.{TextFault}
@@ -78,6 +79,23 @@ IsRefusal G R stop.Memory = Unit {0}
 -- where G holds of what the files hold, they were read as something of which H holds, or one was refused
 abbrev pub Gives : {A : Type 0} → (Contents → Type 0) → (A → Contents → Type 0) → (List ℕ → Contents → Type 0) → Result A Stop → Type 0
 Gives G H R answer = MatchResult answer (λ a. (held : Contents) → G held → H a held) (IsRefusal G R)
+
+-- what is kept until all files are loaded: what was read of them, of which H holds, or the line that refuses one, of which R holds
+abbrev pub Keeps : {A : Type 0} → (A → Contents → Type 0) → (List ℕ → Contents → Type 0) → Result A (Vec ℕ Global) → Contents → Type 0
+Keeps H R kept held = MatchResult kept (λ a. H a held) (λ line. R line.items held)
+
+-- a refusal is kept, and any other stop is told
+abbrev pub keeping : {A : Type 0} → Result A Stop → Result (Result A (Vec ℕ Global)) Stop
+keeping (Ok a) = Ok (Ok a)
+keeping (Err (stop.Failed name)) = Err (stop.Failed name)
+keeping (Err (stop.TooLong name)) = Err (stop.TooLong name)
+keeping (Err (stop.Refused line)) = Ok (Err line)
+keeping (Err stop.Memory) = Err stop.Memory
+
+-- what was kept is told
+abbrev pub telling : {A : Type 0} → Result A (Vec ℕ Global) → Result A Stop
+telling (Ok a) = Ok a
+telling (Err line) = Err (stop.Refused line)
 
 -- the status and the text where files were not all loaded and read
 abbrev pub IsStopped : Stop → Status → List ℕ → Type 0

@@ -14,6 +14,7 @@ use Rattle.tmr_top.specs.Designs.{HoldsDesign, HoldsNoDesign}
 use Rattle.tmr_top.specs.declared.loads.Stop.{Stop}
 use Rattle.tmr_top.specs.declared.loads.Stop.TheVariants as stop
 use Rattle.tmr_top.specs.Private.FlatWithin.{IsFlatWithin}
+use Rattle.tmr_top.specs.Private.Opened.{Keeps}
 use Rattle.tmr_texts.specs.Texts.{refused_line}
 
 -- the file is no design
@@ -21,6 +22,10 @@ pub record IsRefusedNetlist (load : Load) (line : List ℕ) (held : Contents) : 
   pub reason : List ℕ
   pub unread : HoldsNoDesign held load reason
   pub says : line ≡ refused_line load.name reason
+
+-- the file was read as a design, or is refused; this is kept
+abbrev pub KeepsDesign : Load → Result FreeDesign (Vec ℕ Global) → Contents → Type 0
+KeepsDesign load = Keeps (λ n held. HoldsDesign held load n.design.net n.free) (IsRefusedNetlist load)
 
 -- the first file is a design, and the second one is none
 pub record IsSecondRefused (first second : Load) (line : List ℕ) (held : Contents) : Type 0 where

@@ -18,9 +18,10 @@ use Rattle.tmr_top.specs.Loads.{Load, schedule_file, wave_names}
 use Rattle.tmr_top.specs.Pairs.{ReadPair, HoldsPair}
 use Rattle.tmr_texts.specs.ReplayText.{replay_lines}
 use Rattle.tmr_texts.specs.Texts.{refused_line}
+use Rattle.tmr_top.specs.Validated.{IsPairUnread}
 use Rattle.tmr_top.specs.Replayed.{HoldsSchedule, SavesWaves, is_too_large}
-use Rattle.tmr_top.specs.Private.Opened.{HoldsBytes}
-use Rattle.tmr_top.specs.Private.PairFiles.{ArePairFiles, pair_of}
+use Rattle.tmr_top.specs.Private.Opened.{HoldsBytes, Keeps}
+use Rattle.tmr_top.specs.Private.PairFiles.{pair_of}
 use Rattle.tmr_top.specs.Private.Refused.{Refuses}
 use Rattle.tmr_top.specs.Private.Works.{save_names, save_texts}
 
@@ -30,9 +31,9 @@ pub record ReadsSchedule (held : Contents) (load : Load) (r : ReadPair) (s : Pla
   pub read : HoldsSchedule held load r listed
   pub is_listed : HasWhatIsListed (length r.original.inputs) listed s
 
--- what was loaded of the four files is what these names hold
+-- what is kept of the pair is what its files hold, and the schedule is what its name holds
 pub record AreReplayFiles (w : Replaying) (loaded : ReplayFiles) (held : Contents) : Type 0 where
-  pub pair : ArePairFiles w.pair loaded.pair held
+  pub pair_kept : Keeps (λ read held. HoldsPair held w.pair (pair_of read)) (λ line held. IsPairUnread w.pair held line) loaded.pair held
   pub schedule_loaded : HoldsBytes held (schedule_file w.schedule) loaded.schedule.items
 
 -- the pair is read, and these are the bytes of the schedule's file

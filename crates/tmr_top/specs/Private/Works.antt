@@ -3,6 +3,8 @@ use Rattle.std.specs.Prelude.{◌≡◌, ◌≢◌, ℕ, ◌⊎◌, false, List,
 use Rattle.tmr_outside.specs.Contents.{Contents}
 use Rattle.tmr_outside.specs.Seen.{FilesSeen}
 use Rattle.tmr_top.specs.declared.decision.Save.{Save}
+use Rattle.tmr_top.specs.declared.decision.SavedText.{SavedText}
+use Rattle.tmr_top.specs.declared.decision.SavedText.TheVariants.{Whole, Design, Certificate, Guarded}
 use Rattle.tmr_top.specs.declared.decision.Work.{Work}
 use Rattle.tmr_top.specs.declared.decision.Verdict.TheVariants.{Done, NotAccepted}
 use Rattle.tmr_words.specs.Line.{Command, Pair, Validate, TryOut}
@@ -16,13 +18,20 @@ use Rattle.tmr_top.specs.Outcomes.{Outcome}
 use Rattle.tmr_top.specs.Runs.{Untouched}
 use Rattle.tmr_top.specs.Saves.{IsBroken}
 
+-- the bytes of a text to be saved
+abbrev pub text_of : SavedText → List ℕ
+text_of (Whole bytes) = bytes.items
+text_of (Design text) = text.rest
+text_of (Certificate text) = text.rest
+text_of (Guarded text) = text.rest
+
 -- the names that are saved under
 abbrev pub save_names : List Save → List (List ℕ)
 save_names saves = map (λ save. save.name.now) saves
 
 -- and the texts
 abbrev pub save_texts : List Save → List (List ℕ)
-save_texts saves = map (λ save. save.text.items) saves
+save_texts saves = map (λ save. text_of save.text) saves
 
 -- a work that is done: it saves these texts under these names, and prints this text
 pub record IsDoneWith (names texts : List (List ℕ)) (text : List ℕ) (work : Work) : Type 0 where

@@ -41,7 +41,7 @@ fn tell<'a>(
     alloc: Global,
     words: &CampaignWords<'a>,
     pair: &PairRead,
-) -> Result<Work<'a>, OutOfMemory>
+) -> Result<Work<'a, 'a>, OutOfMemory>
     requires { IsFit pair.now }
     ensures { IfOk result (IsWorkOver (Campaign (campaigning_in words.now))
         (λ held. HoldsPair held (pair_in words.now.pair) (pair_of pair.now))) }

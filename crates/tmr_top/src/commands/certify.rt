@@ -27,7 +27,7 @@ fn tell_found<'a>(
     words: &CertifyWords<'a>,
     designs: &Designs,
     found: &Certificate,
-) -> Result<Work<'a>, OutOfMemory>
+) -> Result<Work<'a, 'a>, OutOfMemory>
     requires { IsFound words.now.version designs.now found.now }
     ensures { IfOk result (IsWorkOver (Certify (certifying_in words.now))
         (AreDesigns words.now.limits words.now.original.now words.now.hardened.now designs.now)) }
@@ -52,7 +52,7 @@ fn tell_none<'a>(
     words: &CertifyWords<'a>,
     designs: &Designs,
     why: &NoCertificate,
-) -> Result<Work<'a>, OutOfMemory>
+) -> Result<Work<'a, 'a>, OutOfMemory>
     requires { IsPlaced designs.now.original.design.net designs.now.hardened.design.net why.now }
     ensures { IfOk result (IsWorkOver (Certify (certifying_in words.now))
         (AreDesigns words.now.limits words.now.original.now words.now.hardened.now designs.now)) }
@@ -76,7 +76,7 @@ fn tell<'a>(
     alloc: Global,
     words: &CertifyWords<'a>,
     designs: &Designs,
-) -> Result<Work<'a>, OutOfMemory>
+) -> Result<Work<'a, 'a>, OutOfMemory>
     ensures { IfOk result (IsWorkOver (Certify (certifying_in words.now))
         (AreDesigns words.now.limits words.now.original.now words.now.hardened.now designs.now)) }
 {

@@ -20,7 +20,11 @@ use tmr_outside::Files;
 use tmr_words::PairWords;
 
 /// What is told of a pair: that it is accepted, or every place at which a rule fails.
-fn tell<'a>(alloc: Global, words: &PairWords<'a>, pair: &PairRead) -> Result<Work<'a>, OutOfMemory>
+fn tell<'a>(
+    alloc: Global,
+    words: &PairWords<'a>,
+    pair: &PairRead,
+) -> Result<Work<'a, 'a>, OutOfMemory>
     requires { IsFit pair.now }
     ensures { IfOk result (IsWorkOver (Explain (pair_in words.now))
         (λ held. HoldsPair held (pair_in words.now) (pair_of pair.now))) }

@@ -20,7 +20,11 @@ use tmr_texts::flattened;
 use tmr_words::FlatWords;
 
 /// The flat text of a design, and what is told of it.
-fn tell<'a>(alloc: Global, words: &FlatWords<'a>, design: &FreeNet) -> Result<Work<'a>, OutOfMemory>
+fn tell<'a>(
+    alloc: Global,
+    words: &FlatWords<'a>,
+    design: &FreeNet,
+) -> Result<Work<'a, 'a>, OutOfMemory>
     ensures { IfOk result (IsWorkOver (Flatten (flattening_in words.now))
         (λ held. HoldsDesign held (original_file words.now.limits words.now.original.now) design.now.design.net design.now.free)) }
 {

@@ -70,7 +70,7 @@ fn tell<'a>(
     alloc: Global,
     words: &GraphReadWords<'a>,
     read: &CountedDesign,
-) -> Result<Work<'a>, OutOfMemory>
+) -> Result<Work<'a, 'a>, OutOfMemory>
     ensures { IfOk result (IsWorkOver (ReadGraph (graph_reading_in words.now))
         (λ held. HoldsCounted held (graph_file words.now.limits words.now.graph.now) read.now)) }
 {

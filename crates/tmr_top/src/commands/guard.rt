@@ -1,4 +1,4 @@
-//! `guard ORIG GUARDED`: the guarded design of a design is saved.
+//! `guard ORIG GUARDED`: the guarded design of a design is saved. Its text is made while it is saved.
 ghost use Rattle.std.specs.Prelude.{◌≤◌, IfOk};
 ghost use Rattle.blif_writer.specs.Length.{flat_length};
 ghost use Rattle.dwc.specs.Guard.{guard_net};
@@ -13,11 +13,11 @@ ghost use Rattle.tmr_top.specs.Private.Rooms.{Performed};
 ghost use Rattle.tmr_top.specs.Private.Works.{IsWorkOver};
 
 use crate::conclusion::conclude;
-use crate::decision::{Decision, Work, saving};
+use crate::decision::{Decision, SavedText, Work, saving_made};
 use crate::designs::{checked_nodes, open_original};
 use crate::loads::stopped;
 use flat_net::FreeNet;
-use guarded_text::{guard_text, guarded_nodes};
+use guarded_text::{GuardedText, guarded_nodes};
 use std::alloc::Global;
 use tmr_base::OutOfMemory;
 use tmr_outside::Files;
@@ -32,22 +32,22 @@ fn text_keeps_limit(words: &GuardWords, n: &FreeNet)
     let _original = checked_nodes(n);
 }
 
-/// The text of the guarded design, and what is told of it.
+/// The text of the guarded design, of which nothing is made yet, and what is told of it.
 #[tactic(auto, using(crate::proofs::LimitLaws::few))]
-fn tell<'a>(
+fn tell<'n, 't>(
     alloc: Global,
-    words: &GuardWords<'a>,
-    design: &FreeNet,
-) -> Result<Work<'a>, OutOfMemory>
+    words: &GuardWords<'n>,
+    design: &'t FreeNet,
+) -> Result<Work<'n, 't>, OutOfMemory>
     requires { IsWithin (most_original words.now.limits) design.now }
     ensures { IfOk result (IsWorkOver (Guard (guarding_in words.now))
         (λ held. HoldsDesign held (original_file words.now.limits words.now.original.now) design.now.design.net design.now.free)) }
 {
     text_keeps_limit(words, design);
     let net = design.net();
-    let bytes = guard_text(alloc, net)?;
+    let guarded = GuardedText::new(alloc, net)?;
     let text = guard_made(alloc, net, guarded_nodes(net), design.free_count())?;
-    saving(alloc, words.guarded, bytes, text)
+    saving_made(alloc, words.guarded, SavedText::Guarded(guarded), text)
 }
 
 /// The room of `guard`.

@@ -26,7 +26,7 @@ fn tell<'a>(
     alloc: Global,
     words: &GuardWords<'a>,
     designs: &Designs,
-) -> Result<Work<'a>, OutOfMemory>
+) -> Result<Work<'a, 'a>, OutOfMemory>
     requires { IsWithin (most_original words.now.limits) designs.now.original }
     ensures { IfOk result (IsWorkOver (CheckGuard (guarding_in words.now))
         (AreDesigns words.now.limits words.now.original.now words.now.guarded.now designs.now)) }

@@ -22,7 +22,7 @@ fn help_bytes(alloc: Global, topic: Option<Topic>) -> Result<Vec<u8>, OutOfMemor
 }
 
 /// What is told of one command, or of all.
-fn tell_help<'a>(alloc: Global, topic: Option<Topic>) -> Result<Work<'a>, OutOfMemory>
+fn tell_help<'a>(alloc: Global, topic: Option<Topic>) -> Result<Work<'a, 'a>, OutOfMemory>
     ensures { IfOk result (IsWorkOver (Help topic) (λ held. Unit {0})) }
 {
     let text = help_bytes(alloc, topic)?;
@@ -30,7 +30,7 @@ fn tell_help<'a>(alloc: Global, topic: Option<Topic>) -> Result<Work<'a>, OutOfM
 }
 
 /// The version of these sources.
-fn tell_version<'a>(alloc: Global) -> Result<Work<'a>, OutOfMemory>
+fn tell_version<'a>(alloc: Global) -> Result<Work<'a, 'a>, OutOfMemory>
     ensures { IfOk result (IsWorkOver Version (λ held. Unit {0})) }
 {
     let text = version_text(alloc)?;

@@ -23,7 +23,7 @@ fn tell<'a>(
     alloc: Global,
     words: &PictureWords<'a>,
     pair: &PairRead,
-) -> Result<Work<'a>, OutOfMemory>
+) -> Result<Work<'a, 'a>, OutOfMemory>
     requires { IsFit pair.now }
     ensures { IfOk result (IsWorkOver (Picture (picturing_in words.now))
         (λ held. HoldsPair held (pair_in words.now.pair) (pair_of pair.now))) }

@@ -11,7 +11,7 @@ ghost use Rattle.schedule_replay.specs.Outcome.{IsFreeReplay};
 ghost use Rattle.schedule_replay.specs.OutcomeView.{plain_outcome};
 ghost use Rattle.schedules.specs.Reading.{IsNodeOf, IsReadAs};
 ghost use Rattle.validator.specs.Masking.{Masks, FreeMasks};
-ghost use Rattle.limits.specs.Most.{widest_nets, widest_text};
+ghost use Rattle.limits.specs.Most.{widest_nets};
 ghost use Rattle.tmr_words.specs.Line.{Replay};
 ghost use Rattle.tmr_words.specs.FileWords.{pair_in, replaying_in, word_in};
 ghost use Rattle.tmr_top.specs.Loads.{schedule_file, replay_files};
@@ -27,9 +27,9 @@ use crate::commands::wave::save_waves;
 use crate::conclusion::conclude;
 use crate::decision::{Decision, Verdict, Work};
 use crate::designs::{refuse, refuse_for};
-use crate::loads::{SCHEDULE_LIMIT, Stop, load_bytes, stopped};
-use crate::pair_files::{PairFiles, PairRead};
-use crate::pairs::{check_pair, deny, load_pair, read_pair};
+use crate::loads::{Kept, SCHEDULE_LIMIT, Stop, load_bytes, stopped};
+use crate::pair_files::PairRead;
+use crate::pairs::{check_pair, deny, load_pair};
 use certificate::Certificate;
 use flat_net::FreeNet;
 use schedule_replay::{Outcome, replay, replay_free};
@@ -43,10 +43,10 @@ use tmr_words::ReplayWords;
 /// The most that outputs times cycles may be where waves are saved.
 const WAVE_LIMIT: u64 = 4_194_304;
 
-/// What was loaded of a pair, its certificate and a schedule.
+/// What was read of a pair while its files were loaded, and the bytes of a schedule.
 #[derive(Drop)]
 pub struct ReplayFiles {
-    pub pair: PairFiles,
+    pub pair: Kept<PairRead>,
     pub schedule: Vec<u8>,
 }
 
@@ -177,7 +177,7 @@ fn load_replay<'a, F: Files>(
 ) -> Result<ReplayFiles, Stop<'a>>
     ensures opens { Opens (replay_files (replaying_in words.now)) (AreReplayFiles (replaying_in words.now)) Never
         (F.seen files.old) (F.seen files.new) (F.steady files.old) (F.steady files.new) result }
-    ensures short { IfOk result (λ loaded. length loaded.pair.certificate.items ≤ widest_text) }
+    ensures fit { IfOk result (λ loaded. IfOk loaded.pair IsFit) }
     ensures schedule_short { IfOk result (λ loaded. length loaded.schedule.items ≤ 16777216) }
 {
     match load_pair(alloc, &words.pair, files) {
@@ -189,25 +189,26 @@ fn load_replay<'a, F: Files>(
     }
 }
 
-/// Reads a pair, and then a schedule for it.
+/// A pair that was read, and then a schedule for it.
 fn read_replay<'a>(
     alloc: Global,
     words: &ReplayWords,
     loaded: ReplayFiles,
 ) -> Result<ReplayRead, Stop<'a>>
-    requires short { length loaded.pair.certificate.items ≤ widest_text }
+    requires fit { IfOk loaded.pair IsFit }
     requires schedule_short { length loaded.schedule.items ≤ 16777216 }
     ensures gives { Gives (AreReplayFiles (replaying_in words.now) loaded) (IsReplayRead (replaying_in words.now))
         (λ line held. IsReplayRefused (replaying_in words.now) held line) result }
     ensures fit { IfOk result (λ read. IsFit read.pair) }
     ensures replayable { IfOk result (λ read. IsReplayable (word_in words.now.waves) read.pair read.schedule) }
 {
-    match read_pair(alloc, &words.pair, loaded.pair) {
-        Ok(pair) => match schedule_for(alloc, words, &pair, &loaded.schedule) {
+    let ReplayFiles { pair, schedule } = loaded;
+    match pair {
+        Ok(pair) => match schedule_for(alloc, words, &pair, &schedule) {
             Ok(schedule) => Ok(ReplayRead { pair, schedule }),
             Err(stop) => Err(stop),
         },
-        Err(stop) => Err(stop),
+        Err(line) => Err(Stop::Refused(line)),
     }
 }
 
@@ -238,7 +239,7 @@ fn replay_accepted<'a>(
     h: &FreeNet,
     c: &Certificate,
     s: &Schedule,
-) -> Result<Work<'a>, OutOfMemory>
+) -> Result<Work<'a, 'a>, OutOfMemory>
     requires fits { Fits n.now.design.net h.now.design.net c.now }
     requires accepted { FreeCorresponds n.now.design.net n.now.free h.now.design.net h.now.free c.now }
     requires rows { s.now.inputs ≡ length n.now.design.net.inputs }
@@ -271,7 +272,7 @@ fn tell<'a>(
     alloc: Global,
     words: &ReplayWords<'a>,
     read: &ReplayRead,
-) -> Result<Work<'a>, OutOfMemory>
+) -> Result<Work<'a, 'a>, OutOfMemory>
     requires fit { IsFit read.now.pair }
     requires replayable { IsReplayable (word_in words.now.waves) read.now.pair read.now.schedule }
     ensures { IfOk result (IsWorkOver (Replay (replaying_in words.now))

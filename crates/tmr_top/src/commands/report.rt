@@ -19,7 +19,11 @@ use tmr_outside::Files;
 use tmr_words::PairWords;
 
 /// The report on a pair, where it is accepted.
-fn tell<'a>(alloc: Global, words: &PairWords<'a>, pair: &PairRead) -> Result<Work<'a>, OutOfMemory>
+fn tell<'a>(
+    alloc: Global,
+    words: &PairWords<'a>,
+    pair: &PairRead,
+) -> Result<Work<'a, 'a>, OutOfMemory>
     requires { IsFit pair.now }
     ensures { IfOk result (IsWorkOver (Report (pair_in words.now))
         (λ held. HoldsPair held (pair_in words.now) (pair_of pair.now))) }

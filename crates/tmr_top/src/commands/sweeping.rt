@@ -26,7 +26,7 @@ fn tell<'a>(
     alloc: Global,
     words: &SweepWords<'a>,
     design: &FreeNet,
-) -> Result<Work<'a>, OutOfMemory>
+) -> Result<Work<'a, 'a>, OutOfMemory>
     requires { IsWithin (most_original words.now.limits) design.now }
     ensures { IfOk result (IsWorkOver (Sweep (sweeping_in words.now))
         (λ held. HoldsDesign held (original_file words.now.limits words.now.original.now) design.now.design.net design.now.free)) }

@@ -27,7 +27,7 @@ fn tell<'a>(
     alloc: Global,
     words: &GraphWords<'a>,
     design: &FreeNet,
-) -> Result<Work<'a>, OutOfMemory>
+) -> Result<Work<'a, 'a>, OutOfMemory>
     requires { IsWithin (most_original words.now.limits) design.now }
     ensures { IfOk result (IsWorkOver (WriteGraph (graphing_in words.now))
         (λ held. HoldsDesign held (original_file words.now.limits words.now.original.now) design.now.design.net design.now.free)) }

@@ -111,7 +111,7 @@ fn trial_lines(alloc: Global, f: &FormNumbers, sums: &CampaignSums) -> Result<Ve
 }
 
 /// What is told of a trial.
-fn tell<'a>(alloc: Global, words: &TrialWords) -> Result<Work<'a>, OutOfMemory>
+fn tell<'a>(alloc: Global, words: &TrialWords) -> Result<Work<'a, 'a>, OutOfMemory>
     ensures { IfOk result (IsWorkOver (TryOut (trial_in words.now)) (λ held. Unit {0})) }
 {
     let n = draw_design(alloc, words)?;

@@ -19,7 +19,11 @@ use tmr_texts::accepted;
 use tmr_words::PairWords;
 
 /// What is told of a pair: that it is accepted, or the first rule that fails.
-fn tell<'a>(alloc: Global, words: &PairWords<'a>, pair: &PairRead) -> Result<Work<'a>, OutOfMemory>
+fn tell<'a>(
+    alloc: Global,
+    words: &PairWords<'a>,
+    pair: &PairRead,
+) -> Result<Work<'a, 'a>, OutOfMemory>
     requires { IsFit pair.now }
     ensures { IfOk result (IsWorkOver (Validate (pair_in words.now))
         (λ held. HoldsPair held (pair_in words.now) (pair_of pair.now))) }

@@ -11,7 +11,7 @@ ghost use Rattle.tmr_top.specs.Loads.{wave_names};
 ghost use Rattle.tmr_top.specs.Replayed.{AreSaved, SavesWaves, is_too_large};
 ghost use Rattle.tmr_top.specs.Private.Works.{save_names, save_texts};
 
-use crate::decision::Save;
+use crate::decision::{Save, SavedText};
 use crate::designs::checked_nodes;
 use certificate::Certificate;
 use flat_net::{FlatNet, FreeNet};
@@ -100,7 +100,7 @@ pub fn save_waves<'a>(
     h: &FreeNet,
     c: &Certificate,
     s: &Schedule,
-) -> Result<Vec<Save<'a>>, OutOfMemory>
+) -> Result<Vec<Save<'a, 'a>>, OutOfMemory>
     requires fits { Fits n.now.design.net h.now.design.net c.now }
     requires inputs { length h.now.design.net.inputs ≡ 3 * length n.now.design.net.inputs }
     requires outputs { length h.now.design.net.outputs ≡ 3 * length n.now.design.net.outputs }
@@ -122,7 +122,10 @@ pub fn save_waves<'a>(
         None => Ok(saves),
         Some(name) => {
             let text = wave_text(alloc, n, h, c, s)?;
-            saves.push(Save { name, text })?;
+            saves.push(Save {
+                name,
+                text: SavedText::Whole(text),
+            })?;
             Ok(saves)
         }
     }
