@@ -1,6 +1,8 @@
 //! The guarded design: two copies, comparators and an alarm.
 use crate::design::{Net, NodeKind};
-use crate::words::{put, put_rows};
+use crate::words::{put, put_rows, turn};
+use std::fs::File;
+use std::io::{self, Write};
 
 const COPIES: [&[u8]; 2] = [b"~0", b"~1"];
 
@@ -25,7 +27,7 @@ fn put_copy(out: &mut Vec<u8>, n: &Net, y: usize, copy: &[u8]) {
     }
 }
 
-pub fn guard_text(n: &Net) -> Vec<u8> {
+pub fn write_guarded(n: &Net, file: &mut File) -> io::Result<()> {
     let mut out = Vec::new();
     put(&mut out, &[b".model ", n.model, b"\n.inputs"]);
     for name in &n.names[..n.inputs] {
@@ -42,9 +44,11 @@ pub fn guard_text(n: &Net) -> Vec<u8> {
     out.extend_from_slice(b" alarm~z\n");
     for y in 0..n.nodes.len() {
         COPIES.iter().for_each(|copy| put_copy(&mut out, n, y, copy));
+        turn(&mut out, file)?;
     }
     for name in &outputs {
         put(&mut out, &[b".names ", name, b"~0 ", name, b"~1 ", name, b"~e\n10 1\n01 1\n"]);
+        turn(&mut out, file)?;
     }
     out.extend_from_slice(b".names");
     outputs.iter().for_each(|name| put(&mut out, &[b" ", name, b"~e"]));
@@ -54,5 +58,5 @@ pub fn guard_text(n: &Net) -> Vec<u8> {
         out.extend_from_slice(b" 0\n");
     }
     out.extend_from_slice(b".end\n");
-    out
+    file.write_all(&out)
 }

@@ -1,12 +1,9 @@
 //! The hardened form, plain, with version 1 and without a bound on depth.
 use crate::design::{Net, NodeKind};
 use crate::partitions::{partitions, Partitions};
-use crate::words::{put, put_number, put_rows};
+use crate::words::{put, put_number, put_rows, turn};
 use std::fs::File;
 use std::io::{self, Write};
-
-/// The most bytes that are kept before they are written.
-const PIECE: usize = 65_536;
 
 /// What is voted, and the labels.
 pub struct Form {
@@ -115,15 +112,6 @@ fn form(n: &Net, size: u32) -> Form {
 
 const COPIES: [&[u8]; 3] = [b"~0", b"~1", b"~2"];
 const LETTERS: [&[u8]; 3] = [b"~a", b"~b", b"~c"];
-
-/// Writes what is kept, where that is much.
-fn turn(kept: &mut Vec<u8>, out: &mut File) -> io::Result<()> {
-    if kept.len() >= PIECE {
-        out.write_all(kept)?;
-        kept.clear();
-    }
-    Ok(())
-}
 
 impl Form {
     fn needs_of(&self, x: usize) -> &[u32] {

@@ -112,7 +112,7 @@ fn harden(original: &str, hardened: &str, certificate: &str, size: u32) {
 
 fn guard(original: &str, guarded: &str) {
     with_design(original, |n| {
-        save(guarded, &guard::guard_text(n));
+        save_pieces(guarded, |out| guard::write_guarded(n, out));
         let (nodes, outputs) = (n.nodes.len(), n.outputs.len());
         println!("guard nodes {nodes} to {} outputs {outputs} assumed {}", 2 * nodes + outputs + 1, n.open_count());
     })

@@ -1,4 +1,6 @@
 //! What the writers of texts put.
+use std::fs::File;
+use std::io::{self, Write};
 
 /// Puts a number in decimal.
 pub fn put_number(out: &mut Vec<u8>, number: u64) {
@@ -41,4 +43,16 @@ pub fn put_rows(out: &mut Vec<u8>, rows: &[u8], count: usize, width: usize, on: 
         }
         out.extend_from_slice(if on { b"1\n" } else { b"0\n" });
     }
+}
+
+/// The most bytes that are kept before they are written.
+const PIECE: usize = 65_536;
+
+/// Writes what is kept, where that is much.
+pub fn turn(kept: &mut Vec<u8>, out: &mut File) -> io::Result<()> {
+    if kept.len() >= PIECE {
+        out.write_all(kept)?;
+        kept.clear();
+    }
+    Ok(())
 }
