@@ -1,13 +1,14 @@
 -- Tests of rows by the counts of readers.
 use Rattle.std.proofs.Common.{◌≡◌, ℕ, zero, suc, ◌+◌, ◌*◌, ◌<◌, ◌≤◌, ◌⊎◌, inl, inr, Bool, true, false, cond, eqb, ltb, not, ◌&&◌, ◌||◌, List, [], ◌∷◌, length, refl, sym, ◌∙◌, ap, arith, get_or}
 use Rattle.std.specs.List.{list_any, count_by}
-use Rattle.std.proofs.lemmas.Bool.{cases_eq, eq-eqb, ne_eqb, lt-ltb}
+use Rattle.std.proofs.lemmas.Bool.{cases_eq, cases_lt, eq-eqb, ne_eqb, lt-ltb}
 use Rattle.std.proofs.lemmas.List.Sums.{sum_by-cons}
 use Rattle.flat_net.specs.Net.{Net}
 use Rattle.partitioner.specs.Below.{one_if, count_below}
-use Rattle.node_reads.specs.Sources.{reads_other, other_readers}
+use Rattle.node_reads.specs.Sources.{reads_other, other_readers, is_wide}
 use Rattle.partitioner.specs.Private.Loss.{is_fresh}
-use Rattle.partitioner.specs.Private.Tracking.{reader_count}
+use Rattle.partitioner.specs.Private.Marks.{is_marked}
+use Rattle.partitioner.specs.Private.Tracking.{AreMarks, reader_count}
 use Rattle.partitioner.proofs.PutLaws.{count_passing}
 
 pub any_by_count : (f : ℕ → Bool) (ys : List ℕ) → list_any f ys ≡ ltb 0 (count_by f ys)
@@ -108,3 +109,11 @@ fresh_by_count n of i x q mine l reads own =
         either : (a b m : ℕ) → b ≡ a + m → not (ltb 0 a) ≡ eqb b m
         either zero b m e = sym (eq-eqb b m (omega (arith, e)))
         either (suc a) b m e = ap not (lt-ltb 0 (suc a) (omega arith)) ∙ sym (ne_eqb b m (λ h. omega (arith, e, h)))
+
+-- a wide node is read by no other where it is not marked
+pub unread_where_unmarked : (n : Net) (of : List ℕ) (count : ℕ) (marks : List (List ℕ)) (x q : ℕ) → AreMarks n of count marks → x < length n.nodes → q < count → is_wide n x ≡ true → is_marked marks x q ≡ false → reader_count n of x q ≡ 0
+unread_where_unmarked n of count marks x q are l k wide clear = go (cases_lt 0 (reader_count n of x q))
+  where
+    go : (0 < reader_count n of x q) ⊎ (reader_count n of x q ≤ 0) → reader_count n of x q ≡ 0
+    go (inl some) = let marked = are.marked x q l k wide (inr some) in absurd cc
+    go (inr none) = omega (arith, none)

@@ -3,7 +3,7 @@ ghost use Rattle.std.specs.Prelude.{◌≡◌, ◌<◌, ◌≤◌, ◌==◌, ℕ
 ghost use Rattle.flat_net.specs.Net.{Net};
 ghost use Rattle.partitioner.specs.Below.{one_if};
 ghost use Rattle.partitioner.specs.Private.Gaining.{IsCounted};
-ghost use Rattle.node_reads.specs.Sources.{reads_other};
+ghost use Rattle.node_reads.specs.Sources.{reads_other, is_wide};
 ghost use Rattle.partitioner.specs.Private.Loss.{is_fresh, loss};
 ghost use Rattle.partitioner.specs.Private.Tracking.{Tracks, reader_count};
 
@@ -26,6 +26,23 @@ fn count_in(of: &[u32], row: &[u32], q: u32) -> u32
     count
 }
 
+/// How many other nodes read wide node x from partition q. Where x has very many readers its row of marks tells first whether any does,
+/// since a look-up among all counts takes longer.
+#[tactic(auto, using(crate::proofs::CountLaws::unread_where_unmarked))]
+fn wide_readers_in(n: &FlatNet, p: &Partitioning, x: u32, q: u32) -> u32
+    requires tracks { Tracks n.now.net p.now }
+    requires node { x < length n.now.net.nodes }
+    requires wide { is_wide n.now.net x ≡ true }
+    requires partition { q < p.now.count }
+    ensures { result ≡ reader_count n.now.net p.now.of.items x q }
+{
+    if p.marks.is_marked(x, q) {
+        count_at(&p.counts, x, q)
+    } else {
+        0
+    }
+}
+
 /// How many other nodes read node x from partition q.
 fn readers_in(n: &FlatNet, p: &Partitioning, x: u32, q: u32) -> u32
     requires tracks { Tracks n.now.net p.now }
@@ -35,7 +52,7 @@ fn readers_in(n: &FlatNet, p: &Partitioning, x: u32, q: u32) -> u32
 {
     let row = p.readers.row(x);
     if is_long(row) {
-        count_at(&p.counts, x, q)
+        wide_readers_in(n, p, x, q)
     } else {
         count_in(p.of.as_slice(), row, q)
     }

@@ -71,6 +71,14 @@ impl Marks {
         self.rows[x as usize].word(level, w)
     }
 
+    /// Node x is marked in partition q.
+    pub fn is_marked(&self, x: u32, q: u32) -> bool
+        requires { x < length self.now }
+        ensures { result ≡ is_marked self.now x q }
+    {
+        self.rows[x as usize].has(q)
+    }
+
     /// Marks node x in partition q.
     pub fn mark(&mut self, x: u32, q: u32)
         requires { x < length self.old }

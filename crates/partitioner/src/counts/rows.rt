@@ -40,6 +40,14 @@ fn word_of(words: &[u64], w: usize) -> u64
     if w < words.len() { words[w] } else { u64::MAX }
 }
 
+/// Bit c of a word is set.
+pub fn is_set(word: u64, c: u32) -> bool
+    requires { c < 64 }
+    ensures { result ≡ word_bit c word }
+{
+    (word >> c) & 1 == 1
+}
+
 /// Sets bit q of a row.
 fn set_bit(row: &mut Vec<u64>, q: u32)
     ensures long { length row.new.items ≡ length row.old.items }
@@ -117,6 +125,13 @@ impl Row {
             Level::Partitions => word_of(self.words.as_slice(), w),
             Level::Blocks => word_of(self.blocks.as_slice(), w),
         }
+    }
+
+    /// Bit q is set.
+    pub fn has(&self, q: u32) -> bool
+        ensures { result ≡ has_bit self.now q }
+    {
+        is_set(word_of(self.words.as_slice(), (q / 64) as usize), q % 64)
     }
 
     /// Sets bit q.

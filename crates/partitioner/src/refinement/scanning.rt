@@ -11,7 +11,7 @@ ghost use Rattle.partitioner.specs.Private.Scanning.{AreCounted, AreShut, AreTri
 use crate::costs::gains::Gains;
 use crate::costs::lanes::{Lanes, add, all_lanes};
 use crate::counts::partitioning::Partitioning;
-use crate::counts::rows::Level;
+use crate::counts::rows::{Level, is_set};
 use crate::refinement::placing::{Lead, Mover, consider, part_of};
 use flat_net::{FlatNet, nodes_of};
 
@@ -104,14 +104,6 @@ fn candidates(
     let bias = 16 - need.min(16);
     let lanes = counted_lanes(n, p, gains, i, level, w as usize, bias);
     lanes.over
-}
-
-/// Bit c of a word is set.
-fn is_set(word: u64, c: u32) -> bool
-    requires { c < 64 }
-    ensures { result ≡ word_bit c word }
-{
-    (word >> c) & 1 == 1
 }
 
 /// The lead after the 64 partitions from `first` on whose bits are set in `chosen` are tried.
