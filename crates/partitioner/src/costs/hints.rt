@@ -154,6 +154,21 @@ fn steps_to_hint(mover: &Mover, most: usize) -> usize
     steps
 }
 
+/// How many words of marks have a bit set, of all that is not counted yet.
+fn words_to_scan(mover: &Mover) -> usize
+    requires counted { IsCounted mover.now.net.now.net mover.now.parts.now mover.now.node mover.now.gains.now }
+{
+    let p = mover.parts;
+    let _nodes = nodes_of(mover.net);
+    let row = p.sources.row(mover.node);
+    let all = p.count.div_ceil(64) as usize;
+    let mut words: usize = 0;
+    for j in mover.gains.counted as usize..row.len() {
+        words = words.saturating_add(p.marks.word_count(row[j], all));
+    }
+    words
+}
+
 /// Counts hints for all that is not counted yet, where that takes less time than to count all partitions, 64 at once: where two nodes or
 /// more are not counted, and few partitions with room read them.
 pub fn hint_early(mover: &Mover, hints: &mut Gains)
@@ -164,8 +179,11 @@ pub fn hint_early(mover: &Mover, hints: &mut Gains)
 {
     let _nodes = nodes_of(mover.net);
     let left = mover.parts.sources.row(mover.node).len() - mover.gains.counted as usize;
-    let most = ((mover.parts.count / 128) as usize).saturating_mul(left);
-    if left > 1 && steps_to_hint(mover, most) <= most {
+    if left < 2 {
+        return;
+    }
+    let most = words_to_scan(mover) / 2;
+    if steps_to_hint(mover, most) <= most {
         count_hints(mover, hints, usize::MAX);
     }
 }

@@ -63,6 +63,18 @@ impl Marks {
         self.rows[x as usize].has_words()
     }
 
+    /// How many words of node x have a bit set, of so many, or all of them where it has no row. It may be some more.
+    pub fn word_count(&self, x: u32, all: usize) -> usize
+        requires { x < length self.now }
+    {
+        let row = &self.rows[x as usize];
+        if row.has_words() {
+            row.word_count()
+        } else {
+            all
+        }
+    }
+
     /// Word w of node x: bit c of it is set if the node is marked in what lane 64 w + c stands for.
     pub fn word(&self, x: u32, level: Level, w: usize) -> u64
         requires { x < length self.now }

@@ -127,6 +127,15 @@ impl Row {
         }
     }
 
+    /// How many words have a bit set. It may be some more.
+    pub fn word_count(&self) -> usize {
+        let mut count: usize = 0;
+        for block in &self.blocks {
+            count = count.saturating_add(block.count_ones() as usize);
+        }
+        count
+    }
+
     /// Bit q is set.
     pub fn has(&self, q: u32) -> bool
         ensures { result ≡ has_bit self.now q }
