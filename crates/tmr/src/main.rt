@@ -11,7 +11,7 @@ use std::io::{ErrorKind, IsTerminal};
 use std::process::ExitCode;
 use std::rt::Env;
 use std::{env, io};
-use tmr_outside::{DiskFiles, StdSink};
+use tmr_outside::{DiskFiles, StdSink, WipingSink};
 use tmr_top::{Status, run};
 
 /// The words of the command line behind the program's own name.
@@ -42,26 +42,40 @@ fn exit_code(status: Status) -> ExitCode
     ExitCode::from(status.code())
 }
 
-/// Whether long loads and saves are told of: standard error is a terminal, and the variable `TMR_QUIET` is not set.
+/// Whether a run tells how far it is: standard error is a terminal, and the variable `TMR_QUIET` is not set.
 fn tells_progress(rt: &HostRuntime) -> bool {
     let mut value = [0u8; 1];
     let is_quiet = !matches!(rt.var("TMR_QUIET", &mut value), Err(FillError::NotPresent));
     !is_quiet && rt.stderr().is_terminal()
 }
 
-/// Real files. Long loads and saves are told of where a person sees it.
-fn real_files(rt: &HostRuntime) -> DiskFiles<'_, HostRuntime> {
-    if tells_progress(rt) {
+/// Real files. Long loads and saves are told of where a person sees it, and the work behind them.
+fn real_files(rt: &HostRuntime, tells: bool) -> DiskFiles<'_, HostRuntime> {
+    if tells {
         DiskFiles::telling(rt.alloc(), rt)
     } else {
         DiskFiles::new(rt.alloc(), rt)
     }
 }
 
+/// Standard output. What a run told of itself is wiped away before its text is put.
+fn real_sink(
+    rt: &HostRuntime,
+    tells: bool,
+) -> WipingSink<'_, StdSink<'_, HostRuntime>, HostRuntime> {
+    if tells {
+        WipingSink::telling(StdSink::new(rt), rt)
+    } else {
+        WipingSink::silent(StdSink::new(rt), rt)
+    }
+}
+
 /// Runs the program over real files and standard output, and hands on nothing of what it promises.
 fn run_words(rt: &HostRuntime, words: &[String]) -> Status {
-    let mut files = real_files(rt);
-    let mut out = StdSink::new(rt);
+    let tells = tells_progress(rt);
+    // The sink is made first: what the files told is told no earlier than the sink knows that it has to be wiped away.
+    let mut out = real_sink(rt, tells);
+    let mut files = real_files(rt, tells);
     run(rt.alloc(), words, &mut files, &mut out)
 }
 

@@ -12,6 +12,7 @@ use crate::saving::save_file;
 use crate::source::{Counted, load_fault};
 use crate::watched::Watched;
 use crate::whole::Whole;
+use crate::working::Working;
 use crate::{Files, Giver, LoadFault, SaveFault, Taker};
 use std::alloc::Global;
 use std::fs::OpenFile;
@@ -27,13 +28,15 @@ use std::{fs, rt};
 /// A save replaces the whole file at once, where that can be done: what is saved is written beside it, synced and renamed. Elsewhere
 /// the file is written where it stands. No clause says so.
 ///
-/// A load or a save that takes over a second is told of on standard error, where that was asked for: no clause speaks of it.
+/// A load or a save that takes over a second is told of on standard error, where that was asked for, and so is the work that comes behind
+/// it, once a tenth of a second has passed since the files were made: no clause speaks of it.
 #[derive(Drop)]
 pub struct DiskFiles<'a, R: rt::Files + Clock + Eprint> {
     rt: &'a R,
     alloc: Global,
     faults: FaultCount,
     tells: bool,
+    working: Working<'a, R>,
 }
 
 impl<'a, R: rt::Files + Clock + Eprint> Model for DiskFiles<'a, R> {
@@ -45,7 +48,7 @@ impl<'a, R: rt::Files + Clock + Eprint> Model for DiskFiles<'a, R> {
 }
 
 impl<'a, R: rt::Files + Clock + Eprint> DiskFiles<'a, R> {
-    /// The files of this runtime, without faults. No load and no save is told of.
+    /// The files of this runtime, without faults. Nothing is told of them.
     pub fn new(alloc: Global, rt: &'a R) -> Self
         ensures { result ≡ 0 }
     {
@@ -54,10 +57,11 @@ impl<'a, R: rt::Files + Clock + Eprint> DiskFiles<'a, R> {
             alloc,
             faults: FaultCount::new(),
             tells: false,
+            working: Working::silent(rt),
         }
     }
 
-    /// The same, but long loads and saves are told of on standard error.
+    /// The same, but long loads and saves are told of on standard error, and that a run is at work behind them.
     pub fn telling(alloc: Global, rt: &'a R) -> Self
         ensures { result ≡ 0 }
     {
@@ -66,6 +70,7 @@ impl<'a, R: rt::Files + Clock + Eprint> DiskFiles<'a, R> {
             alloc,
             faults: FaultCount::new(),
             tells: true,
+            working: Working::of_run(rt),
         }
     }
 }
@@ -83,6 +88,7 @@ impl<R: rt::Files + Clock + Eprint> DiskFiles<'_, R> {
             tells: self.tells,
         };
         let outcome = save_file(&save, from);
+        self.working.tell();
         self.faults.raise_if(outcome.is_err());
         outcome
     }
@@ -174,6 +180,7 @@ impl<R: rt::Files + Clock + Eprint> Files for DiskFiles<'_, R> {
 
     fn load(&mut self, alloc: Global, name: &str, limit: u64) -> Result<Vec<u8>, LoadFault> {
         let outcome = gather_file(self.rt, alloc, name, limit, self.tells);
+        self.working.tell();
         self.faults.raise_if(outcome.is_err());
         outcome
     }
@@ -186,6 +193,7 @@ impl<R: rt::Files + Clock + Eprint> Files for DiskFiles<'_, R> {
         to: &mut T,
     ) -> Result<(), LoadFault> {
         let outcome = read_file(self.rt, name, limit, self.tells, to);
+        self.working.tell();
         self.faults.raise_if(outcome.is_err());
         outcome
     }

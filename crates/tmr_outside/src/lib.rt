@@ -33,6 +33,8 @@ mod taker;
 mod watched;
 mod watched_writer;
 mod whole;
+mod wiping_sink;
+mod working;
 mod writing;
 
 pub use disk_files::DiskFiles;
@@ -46,3 +48,4 @@ pub use sink::Sink;
 pub use source::{Counted, Source};
 pub use standard_sink::StdSink;
 pub use taker::{LONGEST_PIECE, Taker};
+pub use wiping_sink::WipingSink;
