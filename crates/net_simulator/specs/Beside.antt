@@ -84,7 +84,8 @@ AreTablesOwn h t own now = (y : ℕ) → IsTable (node_of h y) → slice_index n
 -- where the words depart from `own`, those of the other design, it is noted; what is not to be evaluated is like its origin and not forced
 pub record IsBeside (h : Net) (t : Twins) (m : Marks) (own now : List ℕ) (c : Changes) : Type 0 where
   pub same : (y : ℕ) → y < length now → bit c.differing.items (origin_of t y) ≡ false → slice_index now y ≡ slice_index own (origin_of t y)
-  pub pins : (y i : ℕ) → y < length now → bit c.due.items y ≡ false → i < length (table_pins (node_of h y)) → slice_index (table_pins (node_of h y)) i < length now
+  pub pins : (y i : ℕ) → y < length now → bit c.due.items y ≡ false → i < length (table_pins (node_of h y))
+      → slice_index (table_pins (node_of h y)) i < length now
       → slice_index now (slice_index (table_pins (node_of h y)) i) ≡ slice_index own (origin_of t (slice_index (table_pins (node_of h y)) i))
   pub alike : (y : ℕ) → y < length now → bit c.due.items y ≡ false → bit t.unlike.items y ≡ false
   pub free : (j y : ℕ) → j < 64 → y < length now → bit c.due.items y ≡ false → marked m j y ≡ None
