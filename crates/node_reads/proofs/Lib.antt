@@ -4,3 +4,4 @@ pub mod PinLaws
 pub mod SourceLaws
 pub mod WideRows
 pub mod LoggedLaws
+pub mod DealtLaws

@@ -5,6 +5,7 @@
 //! `Notes` are rows that grow in any order, for these and for the layers above.
 #![tactic(auto)]
 
+mod dealing;
 mod notes;
 mod reading;
 mod sorting;

@@ -1,8 +1,10 @@
 //! Rows that grow in any order, kept as one list of all that is noted in them.
-ghost use Rattle.std.specs.Prelude.{◌≡◌, ◌<◌, ◌≤◌, ◌+◌, ◌++◌, ◌∷◌, [], length, replicate, slice_index, slice_index_or, slice_set, slice_range, IfOk, OnOk, OnErr};
+ghost use Rattle.std.specs.Prelude.{◌≡◌, ◌<◌, ◌≤◌, ◌+◌, ◌/◌, ◌++◌, ◌∷◌, [], length, replicate, slice_index, slice_index_or, slice_set, slice_range, IfOk, OnOk, OnErr};
 ghost use Rattle.node_reads.specs.Noting.{noted};
+ghost use Rattle.node_reads.specs.Private.Dealt.{logs_of, AreDealt};
 ghost use Rattle.node_reads.specs.Private.Logged.{row_of, rows_of, tally_at, is_last, tallied, AreIn, AreTallies, AreStarts, AreEnds, AreLaid};
 
+use crate::dealing::{block_tallies, dealt, is_one_block};
 use graph::Graph;
 use std::alloc::Global;
 use std::marker::Model;
@@ -143,20 +145,64 @@ fn part(flat: &[u32], from: usize, to: usize) -> &[u32]
     &flat[from..to]
 }
 
-/// The rows, each in a place of its own. `log` is read by the clauses alone.
-fn cut_rows(alloc: Global, log: &[Note], ends: &[usize], flat: &[u32]) -> Result<Graph, OutOfMemory>
+/// Puts the rows behind others, each in a place of its own. `log` is read by the clauses alone.
+fn cut_rows(rows: &mut Graph, log: &[Note], ends: &[usize], flat: &[u32]) -> Result<(), OutOfMemory>
     requires rows { AreIn (length ends.now) log.now }
     requires ends { AreEnds (length ends.now) log.now ends.now }
     requires laid { AreLaid (length ends.now) log.now flat.now }
-    ensures { IfOk result (λ g. g ≡ rows_of (length ends.now) log.now) }
+    ensures { OnOk result (rows.new ≡ rows.old ++ rows_of (length ends.now) log.now) }
 {
-    let mut rows = Graph::with_room(alloc, ends.len(), flat.len())?;
     let mut from: usize = 0;
     for x in 0..ends.len() {
         let to = ends[x];
         rows.push(part(flat, from, to))?;
         from = to;
     }
+    Ok(())
+}
+
+/// Puts the rows of all that was noted behind others.
+fn push_rows(
+    alloc: Global,
+    rows: &mut Graph,
+    tallies: &[Tally],
+    log: &[Note],
+) -> Result<(), OutOfMemory>
+    requires { AreTallies tallies.now log.now }
+    ensures { OnOk result (rows.new ≡ rows.old ++ rows_of (length tallies.now) log.now) }
+{
+    let mut places = starts(alloc, tallies, log)?;
+    let mut flat = vec![in alloc; 0u32; log.len()]?;
+    put_notes(log, &mut places, &mut flat);
+    cut_rows(rows, log, places.as_slice(), flat.as_slice())?;
+    Ok(())
+}
+
+/// The rows of all that was noted, one block of them behind the other. `log` is read by the clauses alone.
+fn packed_blocks(
+    alloc: Global,
+    tallies: &[Tally],
+    log: &[Note],
+    blocks: &[Vec<Note>],
+) -> Result<Graph, OutOfMemory>
+    requires tallies { AreTallies tallies.now log.now }
+    requires blocks { AreDealt 16384 (length tallies.now / 16384 + 1) log.now (logs_of blocks.now) }
+    ensures { IfOk result (λ g. g ≡ rows_of (length tallies.now) log.now) }
+{
+    let mut rows = Graph::with_room(alloc, tallies.len(), log.len())?;
+    for b in 0..blocks.len() {
+        push_rows(alloc, &mut rows, block_tallies(tallies, b), &blocks[b])?;
+    }
+    Ok(rows)
+}
+
+/// The rows of all that was noted, put all at once.
+fn packed_at_once(alloc: Global, tallies: &[Tally], log: &[Note]) -> Result<Graph, OutOfMemory>
+    requires { AreTallies tallies.now log.now }
+    ensures { IfOk result (λ g. g ≡ rows_of (length tallies.now) log.now) }
+{
+    let mut rows = Graph::with_room(alloc, tallies.len(), log.len())?;
+    push_rows(alloc, &mut rows, tallies, log)?;
     Ok(rows)
 }
 
@@ -165,10 +211,11 @@ fn packed(alloc: Global, tallies: &[Tally], log: &[Note]) -> Result<Graph, OutOf
     requires { AreTallies tallies.now log.now }
     ensures { IfOk result (λ g. g ≡ rows_of (length tallies.now) log.now) }
 {
-    let mut places = starts(alloc, tallies, log)?;
-    let mut flat = vec![in alloc; 0u32; log.len()]?;
-    put_notes(log, &mut places, &mut flat);
-    cut_rows(alloc, log, places.as_slice(), flat.as_slice())
+    if is_one_block(tallies.len()) {
+        return packed_at_once(alloc, tallies, log);
+    }
+    let blocks = dealt(alloc, tallies, log)?;
+    packed_blocks(alloc, tallies, log, &blocks)
 }
 
 /// How many numbers row x has. `log` is read by the clauses alone.
