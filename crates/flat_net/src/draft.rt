@@ -1,5 +1,5 @@
 //! A draft of a design: ports and elements by name, as a reader finds them.
-ghost use Rattle.std.specs.Prelude.{◌≡◌, ◌++◌, [], ◌∷◌, length, OnOk, OnErr};
+ghost use Rattle.std.specs.Prelude.{◌≡◌, ◌++◌, [], ◌∷◌, length, IfOk, OnOk, OnErr};
 ghost use Rattle.flat_net.specs.Draft.{PlainDraft, TableOf, LatchOf, IsControl};
 ghost use Rattle.std.specs.Option.{option_copied, option_map};
 
@@ -72,6 +72,28 @@ impl Draft {
             outputs: Vec::new(alloc),
             elements: Vec::new(alloc),
         }
+    }
+
+    /// The same, with room for so many inputs, outputs and elements.
+    pub fn with_room(
+        alloc: Global,
+        model: Name,
+        inputs: usize,
+        outputs: usize,
+        elements: usize,
+    ) -> Result<Draft, OutOfMemory>
+        ensures { IfOk result (λ draft. draft ≡ record { model = model; inputs = []; outputs = []; elements = [] }) }
+    {
+        let _model = model.bytes();
+        let inputs = Vec::with_capacity(alloc, inputs)?;
+        let outputs = Vec::with_capacity(alloc, outputs)?;
+        let elements = Vec::with_capacity(alloc, elements)?;
+        Ok(Draft {
+            model,
+            inputs,
+            outputs,
+            elements,
+        })
     }
 
     /// Adds an input behind the others. After want of memory the draft is unchanged.

@@ -21,12 +21,12 @@ pub fn out_name(element: &DraftElement) -> &Name
     }
 }
 
-/// The names of the inputs.
-fn input_names(alloc: Global, inputs: &[Name]) -> Result<IndexSet<Name>, OutOfMemory>
+/// The names of the inputs, with room for so many names.
+fn input_names(alloc: Global, inputs: &[Name], room: usize) -> Result<IndexSet<Name>, OutOfMemory>
     requires { AreDistinct inputs.now }
     ensures { IfOk result (λ names. names.keys ≡ inputs.now) }
 {
-    let mut names = IndexSet::new(alloc);
+    let mut names = IndexSet::with_capacity(alloc, room)?;
     for input in inputs {
         names.insert(input.copy(alloc)?)?;
     }
@@ -70,7 +70,9 @@ pub fn driven_names(alloc: Global, draft: &Draft) -> Result<IndexSet<Name>, NetF
     ensures once { OnOk result (IsDrivenOnce draft.now) }
     ensures fault { IfErr result (λ fault. IsFaultOf draft.now fault) }
 {
-    let mut names = input_names(alloc, &draft.inputs)?;
+    // A table that grows is made anew each time. No draft names more nets than these.
+    let room = draft.inputs.len().saturating_add(draft.elements.len());
+    let mut names = input_names(alloc, &draft.inputs, room)?;
     push_outs(alloc, &mut names, &draft.elements)?;
     Ok(names)
 }

@@ -57,7 +57,7 @@ fn put_row(wiring: &Wiring, y: u32, row: &mut Vec<u32>) -> Result<(), OutOfMemor
 fn table_reads(alloc: Global, wiring: &Wiring) -> Result<Graph, OutOfMemory>
     ensures { IfOk result (λ graph. graph ≡ table_rows wiring.now) }
 {
-    let mut graph = Graph::new(alloc);
+    let mut graph = Graph::with_room(alloc, wiring.node_count() as usize, wiring.all_pins().len())?;
     let mut row = Vec::new(alloc);
     for y in 0..wiring.node_count() {
         put_row(wiring, y, &mut row)?;

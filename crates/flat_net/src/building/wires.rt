@@ -15,7 +15,7 @@ use crate::fault::NetFault;
 use crate::nodes::Body;
 use indexmap::IndexSet;
 use std::alloc::{AllocError, Global};
-use tmr_base::{Name, NetId};
+use tmr_base::{Name, NetId, OutOfMemory};
 
 /// The pins of all elements, where those of each end, and how many elements are latches.
 #[derive(Drop)]
@@ -139,6 +139,21 @@ pub fn bodies_from(alloc: Global, elements: Vec<DraftElement>) -> Result<Vec<Bod
         .collect(alloc)
 }
 
+/// No pins, with room for so many elements of one pin each.
+fn no_wires(alloc: Global, room: usize) -> Result<Wires, OutOfMemory>
+    ensures pins { IfOk result (λ wires. wires.pins.items ≡ []) }
+    ensures ends { IfOk result (λ wires. wires.ends.items ≡ []) }
+    ensures registers { IfOk result (λ wires. wires.registers ≡ 0) }
+{
+    let pins = Vec::with_capacity(alloc, room)?;
+    let ends = Vec::with_capacity(alloc, room)?;
+    Ok(Wires {
+        pins,
+        ends,
+        registers: 0,
+    })
+}
+
 /// The pins of all elements by number. `Undriven` names the first that is no net.
 pub fn wire(
     alloc: Global,
@@ -151,11 +166,7 @@ pub fn wire(
     ensures wires { IfOk result (λ wires. AreWires names.now.keys (map plain_element elements.now) (map number_of wires.pins.items) wires.ends.items wires.registers) }
     ensures fault { IfErr result (λ fault. fault ≢ NetFault.Memory → (name : List ℕ) × IsFirst (is_no_net names.now.keys) (flat_map reads_of (map plain_element elements.now)) name × (fault ≡ NetFault.Undriven name)) }
 {
-    let mut wires = Wires {
-        pins: Vec::new(alloc),
-        ends: Vec::new(alloc),
-        registers: 0,
-    };
+    let mut wires = no_wires(alloc, elements.len())?;
     for element in elements {
         push_element(alloc, names, element, &mut wires)?;
     }

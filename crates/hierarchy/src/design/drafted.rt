@@ -86,7 +86,7 @@ pub(crate) fn into_draft(alloc: Global, model: BlifModel) -> Result<Draft, OutOf
         outputs,
         elements,
     } = model;
-    let mut draft = Draft::new(alloc, name);
+    let mut draft = Draft::with_room(alloc, name, inputs.len(), outputs.len(), elements.len())?;
     push_inputs(&mut draft, inputs)?;
     push_outputs(&mut draft, outputs)?;
     push_elements(&mut draft, elements)?;

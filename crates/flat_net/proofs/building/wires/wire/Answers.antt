@@ -13,7 +13,7 @@ use Rattle.flat_net.proofs.Causes.{told_fault}
 use Rattle.flat_net.proofs.building.wires.wire.Goals as goal
 
 pub loop-element-init : goal.loop-element-init
-loop-element-init c = rw (c.new.ensures.items, c.new-2.ensures.items) (wires_none c.args.names.now.keys)
+loop-element-init c = rw (c.in_ok-wires.ensures.pins, c.in_ok-wires.ensures.ends, c.in_ok-wires.ensures.registers) (wires_none c.args.names.now.keys)
 
 pub push_element-requires-clause-pins : goal.push_element-requires-clause-pins
 push_element-requires-clause-pins c =
@@ -37,4 +37,4 @@ returns-in_err-push_element-clause-fault c =
     let told : c.in_err-push_element.field-0.0 ≢ Memory → (name : List ℕ) × IsFirst (is_no_net c.args.names.now.keys) (flat_map reads_of (map plain_element c.args.elements.now)) name × (c.in_err-push_element.field-0.0 ≡ Undriven name) = λ other.
     let (name, first, is) = c.in_err-push_element.ensures.fault other in
     (name, first_of_all c.args.names.now.keys (map plain_element (take c.loop-element.element-index c.args.elements.now)) (map plain_element (drop (c.loop-element.element-index + 1) c.args.elements.now)) (map plain_element c.args.elements.now) (plain_element c.element-item.result) name all c.loop-element.invariant.nets first, is) in
-    told_fault c.from_residual.result c.in_err-push_element.field-0.0 _ c.from_residual.ensures.1 told
+    told_fault c.from_residual-in_err-push_element.result c.in_err-push_element.field-0.0 _ c.from_residual-in_err-push_element.ensures.1 told
