@@ -25,3 +25,4 @@ pub mod Domains
 pub mod Carries
 pub mod PieceLines
 pub mod Endings
+pub mod Stepping

@@ -18,3 +18,4 @@ pub mod Left
 pub mod Length
 pub mod Carrying
 pub mod Reader
+pub mod Private

@@ -5,12 +5,13 @@
 //! eight rules, and of allowed and quiet schedules stand here, in specs/.
 //!
 //! A certificate's text is read exactly (`read_cert`: the certificate, or the first line that is not the
-//! expected one, with its fault), whole or in pieces (`CertReader`), and what is written (`write_cert`) is
-//! read again. specs/Text says how a certificate is spelled, specs/Words and specs/Reading what each line of
+//! expected one, with its fault), whole or in pieces (`CertReader`), and what is written, whole (`write_cert`)
+//! or in pieces (`CertText`), is read again. specs/Text says how a certificate is spelled, specs/Words and specs/Reading what each line of
 //! a text must be, and specs/Reader which bytes a reader stands for; specs/Lines, specs/Folding and
 //! specs/Carrying are the code's own: no clause of a public function has to be believed by these.
 #![tactic(auto)]
 
+mod cert_text;
 mod certificate;
 mod draft;
 mod fault;
@@ -26,9 +27,10 @@ mod text;
 mod triples;
 mod writing;
 
+pub use cert_text::CertText;
 pub use certificate::Certificate;
 pub use draft::CertDraft;
 pub use fault::CertFault;
 pub use reader::CertReader;
 pub use role::Role;
-pub use text::{read_cert, write_cert};
+pub use text::{cert_is_within, read_cert, write_cert};

@@ -1,13 +1,12 @@
 //! A certificate's text: `cert_text` says how it is spelled, `cert_of_text` what a text must be, and its first fault.
-ghost use Rattle.std.specs.Prelude.{◌≡◌, length, IfOk, Ok};
+ghost use Rattle.std.specs.Prelude.{◌≡◌, ◌↔◌, ◌≤◌, length, IfOk, IsTrue, Ok};
 ghost use Rattle.certificate.specs.Cert.{PlainCert, IsCert, Fits};
 ghost use Rattle.certificate.specs.Gives.{Gives};
 ghost use Rattle.certificate.specs.Length.{cert_length};
 ghost use Rattle.certificate.specs.Reading.{cert_of_text};
 ghost use Rattle.certificate.specs.Text.{cert_text};
 
-use crate::writing::lines_of;
-use crate::{CertFault, CertReader, Certificate};
+use crate::{CertFault, CertReader, CertText, Certificate};
 use flat_net::FlatNet;
 use std::alloc::Global;
 use tmr_base::OutOfMemory;
@@ -40,7 +39,7 @@ pub fn read_cert(
     reader.finish()
 }
 
-/// The text of certificate c for the original n and the hardened design h, which it fits.
+/// The text of certificate c for the original n and the hardened design h, which it fits. `CertText` gives it in pieces.
 pub fn write_cert(
     alloc: Global,
     n: &FlatNet,
@@ -54,9 +53,35 @@ pub fn write_cert(
     // Its length, line by line.
     ensures length { IfOk result (λ bytes. length bytes.items ≡ cert_length n.now.net h.now.net c.now) }
 {
-    // Each says that its design is valid: its names can be read back.
-    n.input_count();
-    h.input_count();
-    let bytes = lines_of(alloc, n, h, c)?;
+    let mut text = CertText::new(alloc, n, h, c);
+    let mut bytes = Vec::new(alloc);
+    while text.advance()? {
+        bytes.extend_from_slice(text.piece())?;
+    }
     Ok(bytes)
+}
+
+/// Whether the text of certificate c for the original n and the hardened design h, which it fits, has at most so many bytes.
+///
+/// It is made in pieces up to the first that is too much, and never held whole.
+pub fn cert_is_within(
+    alloc: Global,
+    n: &FlatNet,
+    h: &FlatNet,
+    c: &Certificate,
+    most: u64,
+) -> Result<bool, OutOfMemory>
+    requires { Fits n.now.net h.now.net c.now }
+    ensures { IfOk result (λ within. IsTrue within ↔ length (cert_text n.now.net h.now.net c.now) ≤ most) }
+{
+    let mut text = CertText::new(alloc, n, h, c);
+    let mut room = most;
+    while text.advance()? {
+        let bytes = text.piece().len() as u64;
+        if bytes > room {
+            return Ok(false);
+        }
+        room -= bytes;
+    }
+    Ok(true)
 }

@@ -1,5 +1,5 @@
-//! Writing a certificate's text.
-ghost use Rattle.std.specs.Prelude.{◌≡◌, ◌<◌, ◌≤◌, ◌+◌, [], ◌∷◌, ◌++◌, length, codes, IfOk, OnOk};
+//! The lines of a certificate's text.
+ghost use Rattle.std.specs.Prelude.{◌≡◌, ◌<◌, ◌+◌, [], ◌∷◌, ◌++◌, length, codes, OnOk};
 ghost use Rattle.std.specs.Fmt.{decimal};
 ghost use Rattle.flat_net.specs.Net.{net_count};
 ghost use Rattle.tmr_base.specs.Copies.{copy_number};
@@ -7,18 +7,18 @@ ghost use Rattle.certificate.specs.Plain.{texts};
 ghost use Rattle.certificate.specs.Cert.{Fits, IsCert};
 ghost use Rattle.certificate.specs.Left.{parts_left, nodes_left, voters_left};
 ghost use Rattle.certificate.specs.Threes.{three_of, three_ids};
-ghost use Rattle.certificate.specs.Text.{line_text, part_line, node_line, voter_line, cert_text};
+ghost use Rattle.certificate.specs.Text.{line_text, part_line, node_line, voter_line};
 ghost use Rattle.std.specs.List.{flat_map};
 ghost use Rattle.certificate.specs.declared.role.Role.TheVariants.{Voter};
 
 use crate::{Certificate, Role};
 use flat_net::FlatNet;
 use itoa::Buffer;
-use std::alloc::{AllocError, Global};
+use std::alloc::AllocError;
 use tmr_base::{CopyNo, NetId, PartId};
 
 /// Puts a line: its words, with a blank between each two, and a line feed.
-fn put_line(out: &mut Vec<u8>, first: &[u8], rest: &[&[u8]]) -> Result<(), AllocError>
+pub fn put_line(out: &mut Vec<u8>, first: &[u8], rest: &[&[u8]]) -> Result<(), AllocError>
     ensures { OnOk result (out.new.items ≡ out.old.items ++ line_text (first.now ∷ texts rest.now)) }
 {
     out.extend_from_slice(first)?;
@@ -115,18 +115,17 @@ fn put_voter(
     )
 }
 
-/// Puts the lines of all partitions.
-fn put_parts(out: &mut Vec<u8>, k: &Certificate) -> Result<(), AllocError>
-    ensures { OnOk result (out.new.items ≡ out.old.items ++ parts_left k.now 0) }
+/// Puts the line of partition p, counted from 0.
+pub fn put_part_at(out: &mut Vec<u8>, k: &Certificate, p: u32) -> Result<(), AllocError>
+    requires { p < length k.now.depth }
+    ensures { OnOk result (out.new.items ++ parts_left k.now (p + 1) ≡ out.old.items ++ parts_left k.now p) }
 {
-    for p in 0..k.parts() {
-        put_part(out, p, k.depth(PartId(p)))?;
-    }
+    put_part(out, p, k.depth(PartId(p)))?;
     Ok(())
 }
 
 /// Puts the line of original node i, counted from 0.
-fn put_node_at(
+pub fn put_node_at(
     out: &mut Vec<u8>,
     n: &FlatNet,
     h: &FlatNet,
@@ -153,20 +152,8 @@ fn put_node_at(
     Ok(())
 }
 
-/// Puts the lines of all original nodes.
-fn put_nodes(out: &mut Vec<u8>, n: &FlatNet, h: &FlatNet, k: &Certificate) -> Result<(), AllocError>
-    requires fits { Fits n.now.net h.now.net k.now }
-    requires cert { IsCert k.now }
-    ensures { OnOk result (out.new.items ≡ out.old.items ++ nodes_left n.now.net h.now.net k.now 0) }
-{
-    for i in 0..n.node_count() {
-        put_node_at(out, n, h, k, i)?;
-    }
-    Ok(())
-}
-
 /// Puts the line of hardened node j, counted from 0, where it is a voter.
-fn put_role_at(
+pub fn put_role_at(
     out: &mut Vec<u8>,
     n: &FlatNet,
     h: &FlatNet,
@@ -175,7 +162,8 @@ fn put_role_at(
 ) -> Result<(), AllocError>
     requires fits { Fits n.now.net h.now.net k.now }
     requires place { j < length k.now.roles }
-    ensures { OnOk result (out.new.items ++ voters_left n.now.net h.now.net k.now (j + 1) ≡ out.old.items ++ voters_left n.now.net h.now.net k.now j) }
+    ensures { OnOk result (out.new.items ++ voters_left n.now.net h.now.net k.now (j + 1)
+        ≡ out.old.items ++ voters_left n.now.net h.now.net k.now j) }
 {
     let g = NetId(h.input_count() + j);
     match k.role(g) {
@@ -187,50 +175,16 @@ fn put_role_at(
     }
 }
 
-/// Puts the lines of all voters.
-fn put_voters(
-    out: &mut Vec<u8>,
-    n: &FlatNet,
-    h: &FlatNet,
-    k: &Certificate,
-) -> Result<(), AllocError>
-    requires { Fits n.now.net h.now.net k.now }
-    ensures { OnOk result (out.new.items ≡ out.old.items ++ voters_left n.now.net h.now.net k.now 0) }
-{
-    for j in 0..h.node_count() {
-        put_role_at(out, n, h, k, j)?;
-    }
-    Ok(())
-}
-
 /// Puts the first two lines.
-fn put_head(alloc: Global, out: &mut Vec<u8>, version: u8, parts: u32) -> Result<(), AllocError>
-    ensures { OnOk result (out.new.items ≡ (out.old.items ++ line_text (codes "tmr-cert" ∷ decimal version ∷ [])) ++ line_text (codes "parts" ∷ decimal parts ∷ [])) }
+pub fn put_head(out: &mut Vec<u8>, version: u8, parts: u32) -> Result<(), AllocError>
+    ensures { OnOk result (out.new.items ≡ (out.old.items ++ line_text (codes "tmr-cert" ∷ decimal version ∷ []))
+        ++ line_text (codes "parts" ∷ decimal parts ∷ [])) }
 {
-    let version = version.to_string(alloc)?;
-    let parts = parts.to_string(alloc)?;
+    let mut version_digits = Buffer::new();
+    let mut parts_digits = Buffer::new();
+    let version = version_digits.format(version);
+    let parts = parts_digits.format(parts);
     put_line(out, b"tmr-cert", &[version.as_bytes()])?;
     put_line(out, b"parts", &[parts.as_bytes()])?;
     Ok(())
-}
-
-/// All lines, one after the other.
-pub fn lines_of(
-    alloc: Global,
-    n: &FlatNet,
-    h: &FlatNet,
-    k: &Certificate,
-) -> Result<Vec<u8>, AllocError>
-    requires { Fits n.now.net h.now.net k.now }
-    ensures text { IfOk result (λ bytes. bytes.items ≡ cert_text n.now.net h.now.net k.now) }
-    ensures cert { IsCert k.now }
-{
-    let parts = k.parts();
-    let mut out = Vec::new(alloc);
-    put_head(alloc, &mut out, k.version(), parts)?;
-    put_parts(&mut out, k)?;
-    put_nodes(&mut out, n, h, k)?;
-    put_voters(&mut out, n, h, k)?;
-    put_line(&mut out, b"end", &[])?;
-    Ok(out)
 }

@@ -1,0 +1,7 @@
+-- A text that is made step by step.
+use Rattle.std.specs.Prelude.{ℕ, ◌-◌, List}
+use Rattle.std.specs.List.{flat_map, range_with_len}
+
+-- what comes at the steps from k on, of so many
+abbrev pub from_step : (ℕ → List ℕ) → ℕ → ℕ → List ℕ
+from_step text count k = flat_map text (range_with_len k (count - k))
