@@ -1,19 +1,8 @@
 -- A text that is made step by step.
-use Rattle.std.proofs.Common.{◌≡◌, ℕ, suc, ◌+◌, ◌-◌, ◌<◌, ◌≤◌, List, [], ◌∷◌, ◌++◌, length, slice_get, Some, refl, sym, ap, ◌∙◌, append_assoc, arith}
+use Rattle.std.proofs.Common.{◌≡◌, ℕ, suc, ◌+◌, ◌-◌, ◌≤◌, List, [], ◌∷◌, ◌++◌, length, slice_get, Some, refl, sym, ap, ◌∙◌, append_assoc, arith}
 use Rattle.std.specs.List.{flat_map, range_with_len}
-use Rattle.guarded_text.specs.Private.Steps.{from_step}
-
--- the text from step k on begins with what comes at step k
-pub step_first : (f : ℕ → List ℕ) (count k : ℕ) → k < count → from_step f count k ≡ f k ++ from_step f count (k + 1)
-step_first f count k low =
-    let e : count - k ≡ suc (count - (k + 1)) = omega (arith, low) in
-    ap (λ (m : ℕ). flat_map f (range_with_len k m)) e
-
--- what comes at step k is put
-pub step_put : (f : ℕ → List ℕ) (count k : ℕ) (out new total : List ℕ) → k < count → new ≡ out ++ f k → total ≡ out ++ from_step f count k → total ≡ new ++ from_step f count (k + 1)
-step_put f count k out new total low put e =
-    e ∙ (ap (λ (t : List ℕ). out ++ t) (step_first f count k low)
-    ∙ (sym (append_assoc out (f k) (from_step f count (k + 1))) ∙ ap (λ (o : List ℕ). o ++ from_step f count (k + 1)) (sym put)))
+use Rattle.text_pieces.specs.Steps.{from_step}
+use Rattle.text_pieces.proofs.Stepping.{step_first}
 
 -- behind the last step nothing comes
 pub steps_done : (f : ℕ → List ℕ) (count k : ℕ) → count ≤ k → from_step f count k ≡ []

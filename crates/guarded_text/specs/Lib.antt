@@ -1,2 +1,1 @@
-pub mod InPieces
 pub mod Private

@@ -8,7 +8,6 @@
 mod comparing;
 mod copies;
 mod names;
-mod piece_length;
 mod ports;
 mod text;
 

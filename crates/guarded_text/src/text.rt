@@ -13,12 +13,12 @@ ghost use Rattle.guarded_text.specs.Private.Steps.{alarm_step, compared_step, gu
 
 use crate::comparing::{put_alarm_end, put_comparator_name_of, put_comparator_of};
 use crate::copies::put_twins;
-use crate::piece_length::is_long;
 use crate::ports::{control_text, put_ports};
 use dwc::guarded_designs_tell;
 use flat_net::{FlatNet, nodes_of};
 use std::alloc::{AllocError, Global};
 use std::marker::Model;
+use text_pieces::is_long;
 use tmr_base::{NetId, OutOfMemory};
 
 /// The flat text of a guarded design, given in pieces: each input and node twice, a comparator for each output, and an
@@ -36,7 +36,7 @@ pub struct GuardedText<'a> {
 }
 
 impl<'a> Model for GuardedText<'a> {
-    ghost use Rattle.guarded_text.specs.InPieces.{TextInPieces};
+    ghost use Rattle.text_pieces.specs.InPieces.{TextInPieces};
 
     ghost Value = { TextInPieces };
 

@@ -1,22 +1,10 @@
 -- A text that is made step by step.
-use Rattle.std.proofs.Common.{◌≡◌, ℕ, zero, suc, ◌+◌, ◌-◌, ◌<◌, ◌≤◌, List, ◌++◌, refl, sym, ap, ◌∙◌, append_assoc, arith}
+use Rattle.std.proofs.Common.{◌≡◌, ℕ, zero, suc, ◌+◌, ◌-◌, ◌<◌, ◌≤◌, List, ◌++◌, refl, ap, ◌∙◌, append_assoc, arith}
 use Rattle.std.specs.List.{flat_map, range_with_len}
 use Rattle.std.proofs.lemmas.List.{append-nil}
 use Rattle.std.proofs.lemmas.List.Concat.{flat_map-append}
 use Rattle.triplicate.proofs.Lists.{range_cut}
-use Rattle.hardened_text.specs.Private.Steps.{from_step}
-
--- the text from step k on begins with what comes at step k
-step_first : (f : ℕ → List ℕ) (count k : ℕ) → k < count → from_step f count k ≡ f k ++ from_step f count (k + 1)
-step_first f count k low =
-    let e : count - k ≡ suc (count - (k + 1)) = omega (arith, low) in
-    ap (λ (m : ℕ). flat_map f (range_with_len k m)) e
-
--- what comes at step k is put
-pub step_put : (f : ℕ → List ℕ) (count k : ℕ) (out new total : List ℕ) → k < count → new ≡ out ++ f k → total ≡ out ++ from_step f count k → total ≡ new ++ from_step f count (k + 1)
-step_put f count k out new total low put e =
-    e ∙ (ap (λ (t : List ℕ). out ++ t) (step_first f count k low)
-    ∙ (sym (append_assoc out (f k) (from_step f count (k + 1))) ∙ ap (λ (o : List ℕ). o ++ from_step f count (k + 1)) (sym put)))
+use Rattle.text_pieces.specs.Steps.{from_step}
 
 -- the steps from a on, cut behind the first m
 pub steps_cut : (f : ℕ → List ℕ) (a m k b : ℕ) → a + m ≡ b → flat_map f (range_with_len a (m + k)) ≡ flat_map f (range_with_len a m) ++ flat_map f (range_with_len b k)

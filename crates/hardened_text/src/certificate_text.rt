@@ -5,10 +5,10 @@ ghost use Rattle.hardened_text.specs.Private.Steps.{step_behind, certificate_ste
 
 use crate::certificate_lines::{put_front, put_node_of, put_part, put_voters_of};
 use crate::form::HardenedForm;
-use crate::piece_length::is_long;
 use flat_net::{FreeNet, nodes_of};
 use std::alloc::{AllocError, Global};
 use std::marker::Model;
+use text_pieces::is_long;
 use tmr_base::PartId;
 
 /// The text of a hardened design's certificate, given in pieces.
@@ -24,7 +24,7 @@ pub struct CertificateText<'a> {
 }
 
 impl<'a> Model for CertificateText<'a> {
-    ghost use Rattle.hardened_text.specs.InPieces.{TextInPieces};
+    ghost use Rattle.text_pieces.specs.InPieces.{TextInPieces};
 
     ghost Value = { TextInPieces };
 

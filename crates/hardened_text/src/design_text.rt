@@ -9,10 +9,10 @@ ghost use Rattle.hardened_text.specs.Private.Steps.{design_step, design_steps, d
 use crate::copies::Room;
 use crate::design::{control_text, is_free, put_block, put_ports};
 use crate::form::HardenedForm;
-use crate::piece_length::is_long;
 use flat_net::{FreeNet, nodes_of};
 use std::alloc::{AllocError, Global};
 use std::marker::Model;
+use text_pieces::is_long;
 use tmr_base::OutOfMemory;
 
 /// The flat text of a hardened design, given in pieces.
@@ -29,7 +29,7 @@ pub struct DesignText<'a> {
 }
 
 impl<'a> Model for DesignText<'a> {
-    ghost use Rattle.hardened_text.specs.InPieces.{TextInPieces};
+    ghost use Rattle.text_pieces.specs.InPieces.{TextInPieces};
 
     ghost Value = { TextInPieces };
 

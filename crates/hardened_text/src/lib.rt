@@ -12,7 +12,6 @@ mod design;
 mod design_text;
 mod form;
 mod names;
-mod piece_length;
 mod voters;
 
 pub use certificate_text::CertificateText;

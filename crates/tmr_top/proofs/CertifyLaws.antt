@@ -1,7 +1,8 @@
 -- What `certify` finds, and what it leaves.
-use Rattle.std.proofs.Common.{◌≡◌, ℕ, ◌≤◌, ◌⊎◌, Bool, List, [], ◌∷◌, length, Ok, inl, inr, ap, subst}
-use Rattle.std.specs.Prelude.{count_by}
-use Rattle.flat_net.specs.Net.{Net}
+use Rattle.std.proofs.Common.{◌≡◌, ℕ, ◌<◌, ◌≤◌, ◌⊎◌, Bool, true, false, List, [], ◌∷◌, length, Ok, inl, inr, ap, subst, arith}
+use Rattle.std.specs.Prelude.{◌↔◌, IsTrue, count_by}
+use Rattle.std.proofs.Math.Nat.{lt_of_not-le}
+use Rattle.flat_net.specs.Net.{Net, Design}
 use Rattle.certificate.specs.Cert.{PlainCert}
 use Rattle.certificate.specs.Reading.{cert_of_text}
 use Rattle.certificate.specs.Text.{cert_text}
@@ -43,3 +44,21 @@ found_is w held n h f g k bytes text one other accepted finest least written rea
   read = subst (λ (b : List ℕ). cert_of_text n h b ≡ Ok k) written read;
   says = says;
 }
+
+-- the text of a certificate for the same two designs
+same_length : (d e x y : Design) (k : PlainCert) → x ≡ d → y ≡ e → length (cert_text x.net y.net k) ≡ length (cert_text d.net e.net k)
+same_length d e x y k one other = cc
+
+-- its bytes were counted, and are not too many
+pub is_short : (d e x y : Design) (k : PlainCert) (within : Bool) (m most : ℕ) → x ≡ d → y ≡ e → m ≡ most
+    → IsTrue within ↔ length (cert_text x.net y.net k) ≤ m → within ≡ true → length (cert_text d.net e.net k) ≤ most
+is_short d e x y k true m most one other limit counted yes = omega (arith, counted.0 tt, limit, same_length d e x y k one other)
+is_short d e x y k false m most one other limit counted yes = absurd cc
+
+-- its bytes were counted, and are too many
+pub is_long : (d e x y : Design) (k : PlainCert) (within : Bool) (m most : ℕ) → x ≡ d → y ≡ e → m ≡ most
+    → IsTrue within ↔ length (cert_text x.net y.net k) ≤ m → within ≡ false → most < length (cert_text d.net e.net k)
+is_long d e x y k true m most one other limit counted no = absurd cc
+is_long d e x y k false m most one other limit counted no =
+    let long : m < length (cert_text x.net y.net k) = lt_of_not-le (λ le. counted.1 le) in
+    omega (arith, long, limit, same_length d e x y k one other)

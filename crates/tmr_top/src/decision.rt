@@ -3,6 +3,7 @@ ghost use Rattle.std.specs.Prelude.{◌≡◌, ◌∷◌, [], IfOk};
 ghost use Rattle.tmr_top.specs.Private.Works.{IsDoneWith, IsDeniedWith, text_of};
 
 use crate::Status;
+use certificate::CertText;
 use guarded_text::GuardedText;
 use hardened_text::{CertificateText, DesignText};
 use std::alloc::Global;
@@ -22,6 +23,7 @@ pub enum SavedText<'t> {
     Whole(Vec<u8>),
     Design(DesignText<'t>),
     Certificate(CertificateText<'t>),
+    Found(CertText<'t>),
     Guarded(GuardedText<'t>),
 }
 
@@ -90,7 +92,7 @@ pub fn saving_made<'n, 't>(
 }
 
 /// The work where the files do not agree, with this text.
-pub fn denying<'a>(alloc: Global, text: Vec<u8>) -> Work<'a, 'a>
+pub fn denying<'n, 't>(alloc: Global, text: Vec<u8>) -> Work<'n, 't>
     ensures { IsDeniedWith text.items result }
 {
     Work {

@@ -1,6 +1,7 @@
 //! Texts that are made while their files are saved.
 ghost use Rattle.std.specs.Prelude.{◌≡◌, ◌<◌, ◌++◌, [], true, false, IfOk};
 
+use certificate::CertText;
 use guarded_text::GuardedText;
 use hardened_text::{CertificateText, DesignText};
 use std::alloc::AllocError;
@@ -16,6 +17,12 @@ pub struct DesignGiver<'a> {
 #[derive(Drop)]
 pub struct CertificateGiver<'a> {
     pub text: CertificateText<'a>,
+}
+
+/// Gives the text of a certificate that was found.
+#[derive(Drop)]
+pub struct FoundGiver<'a> {
+    pub text: CertText<'a>,
 }
 
 /// Gives the flat text of a guarded design.
@@ -41,6 +48,22 @@ impl Giver for DesignGiver<'_> {
 }
 
 impl Giver for CertificateGiver<'_> {
+    ghost rest = { λ giver. giver.text.rest };
+
+    ghost piece = { λ giver. giver.text.piece };
+
+    ghost left = { λ giver. giver.text.left };
+
+    fn advance(&mut self) -> Result<bool, AllocError> {
+        self.text.advance()
+    }
+
+    fn piece(&self) -> &[u8] {
+        self.text.piece()
+    }
+}
+
+impl Giver for FoundGiver<'_> {
     ghost rest = { λ giver. giver.text.rest };
 
     ghost piece = { λ giver. giver.text.piece };

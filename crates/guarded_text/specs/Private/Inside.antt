@@ -1,8 +1,8 @@
 -- Only private functions cite this: what the fields of the text in pieces hold.
 use Rattle.std.specs.Prelude.{◌≡◌, ◌-◌}
+use Rattle.text_pieces.specs.InPieces.{TextInPieces}
 use Rattle.blif_writer.specs.Left.{spaced}
 use Rattle.blif_writer.specs.Text.{control_words}
-use Rattle.guarded_text.specs.InPieces.{TextInPieces}
 use Rattle.guarded_text.specs.Private.Lines.{guarded_clock}
 use Rattle.guarded_text.specs.Private.Steps.{guarded_steps, guarded_rest}
 use Rattle.guarded_text.specs.declared.text.GuardedText.TheInside.{Inside}

@@ -1,15 +1,12 @@
 -- Only private functions cite this: the text, as it is made step by step.
 use Rattle.std.specs.Prelude.{ℕ, ◌+◌, ◌-◌, List, [], ◌∷◌, ◌++◌, length, codes, nat_eq, nat_lt, slice_get, slice_index, if◌then◌else◌}
-use Rattle.std.specs.List.{flat_map, range_with_len}
+use Rattle.std.specs.List.{flat_map}
+use Rattle.text_pieces.specs.Steps.{from_step}
 use Rattle.flat_net.specs.Net.{Net, name_of}
 use Rattle.blif_writer.specs.Left.{spaced, spaced_line}
 use Rattle.blif_writer.specs.Text.{clock_words}
 use Rattle.guarded_text.specs.Private.Spelled.{tailed, two_spelled, comparator_text, alarm_end}
 use Rattle.guarded_text.specs.Private.Lines.{guarded_clock, copy_text}
-
--- what comes at the steps from k on, of so many
-abbrev pub from_step : (ℕ → List ℕ) → ℕ → ℕ → List ℕ
-from_step text count k = flat_map text (range_with_len k (count - k))
 
 -- the lines in front of the nodes'
 abbrev pub ports_text : Net → List ℕ

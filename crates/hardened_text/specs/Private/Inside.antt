@@ -1,10 +1,10 @@
 -- Only private functions cite this: what the fields of the texts in pieces hold.
 use Rattle.std.specs.Prelude.{◌≡◌, ◌-◌}
+use Rattle.text_pieces.specs.InPieces.{TextInPieces}
 use Rattle.blif_writer.specs.Left.{spaced}
 use Rattle.blif_writer.specs.Text.{control_words}
 use Rattle.triplicate.specs.Blocks.{hardened_clock}
 use Rattle.hardened_text.specs.Texts.{IsFormed}
-use Rattle.hardened_text.specs.InPieces.{TextInPieces}
 use Rattle.hardened_text.specs.Private.Steps.{design_steps, design_rest, certificate_steps, certificate_rest}
 use Rattle.hardened_text.specs.declared.design_text.DesignText.TheInside as design
 use Rattle.hardened_text.specs.declared.certificate_text.CertificateText.TheInside as certificate

@@ -1,7 +1,8 @@
 -- Only private functions cite this: both texts, as they are made step by step.
 use Rattle.std.specs.Prelude.{ℕ, ◌+◌, ◌-◌, List, [], ◌∷◌, ◌++◌, length, codes, nat_eq, nat_lt, slice_index, if◌then◌else◌}
-use Rattle.std.specs.List.{flat_map, range_with_len}
+use Rattle.std.specs.List.{flat_map}
 use Rattle.std.specs.Fmt.{decimal}
+use Rattle.text_pieces.specs.Steps.{from_step}
 use Rattle.flat_net.specs.Net.{Net, net_count, name_of}
 use Rattle.flat_net.specs.Free.{FreeDesign, node_bit}
 use Rattle.blif_writer.specs.Left.{spaced, spaced_line}
@@ -14,10 +15,6 @@ use Rattle.triplicate.specs.Planned.{plan_votes}
 use Rattle.hardened_text.specs.declared.form.HardenedForm.{HardenedForm}
 use Rattle.hardened_text.specs.Private.Spelled.{three_spelled}
 use Rattle.hardened_text.specs.Private.Lines.{block_text, marks_of, node_text, voters_text}
-
--- what comes at the steps from k on, of so many
-abbrev pub from_step : (ℕ → List ℕ) → ℕ → ℕ → List ℕ
-from_step text count k = flat_map text (range_with_len k (count - k))
 
 -- the lines in front of the nodes'
 abbrev pub ports_text : Net → List ℕ

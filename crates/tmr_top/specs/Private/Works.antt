@@ -4,7 +4,7 @@ use Rattle.tmr_outside.specs.Contents.{Contents}
 use Rattle.tmr_outside.specs.Seen.{FilesSeen}
 use Rattle.tmr_top.specs.declared.decision.Save.{Save}
 use Rattle.tmr_top.specs.declared.decision.SavedText.{SavedText}
-use Rattle.tmr_top.specs.declared.decision.SavedText.TheVariants.{Whole, Design, Certificate, Guarded}
+use Rattle.tmr_top.specs.declared.decision.SavedText.TheVariants.{Whole, Design, Certificate, Found, Guarded}
 use Rattle.tmr_top.specs.declared.decision.Work.{Work}
 use Rattle.tmr_top.specs.declared.decision.Verdict.TheVariants.{Done, NotAccepted}
 use Rattle.tmr_words.specs.Line.{Command, Pair, Validate, TryOut}
@@ -23,6 +23,7 @@ abbrev pub text_of : SavedText → List ℕ
 text_of (Whole bytes) = bytes.items
 text_of (Design text) = text.rest
 text_of (Certificate text) = text.rest
+text_of (Found text) = text.rest
 text_of (Guarded text) = text.rest
 
 -- the names that are saved under

@@ -1,6 +1,6 @@
 use Rattle.std.proofs.Common.{◌<◌, arith}
 use Rattle.guarded_text.specs.Private.Steps.{guarded_step, guarded_steps, guarded_rest}
-use Rattle.guarded_text.proofs.Stepping.{step_put}
+use Rattle.text_pieces.proofs.Stepping.{step_put}
 use Rattle.guarded_text.proofs.text.make_piece.Goals as goal
 
 pub loop-step-preserved : goal.loop-step-preserved

@@ -1,7 +1,7 @@
 use Rattle.std.proofs.Common.{◌<◌, length, ap, arith}
 use Rattle.flat_net.specs.Net.{Design}
 use Rattle.hardened_text.specs.Private.Steps.{design_step, design_steps, design_rest}
-use Rattle.hardened_text.proofs.Stepping.{step_put}
+use Rattle.text_pieces.proofs.Stepping.{step_put}
 use Rattle.hardened_text.proofs.design_text.make_piece.Goals as goal
 
 pub loop-step-preserved : goal.loop-step-preserved
