@@ -10,6 +10,7 @@ pub mod GainLaws
 pub mod PlaceLaws
 pub mod HeldLaws
 pub mod TrackLaws
+pub mod AheadLaws
 pub mod MinimalLaws
 pub mod ShiftLaws
 pub mod RefineLaws

@@ -20,11 +20,12 @@ use std::alloc::Global;
 use tmr_base::OutOfMemory;
 
 /// What is counted for one node: in `gains` exactly, for the nodes that it reads and few others read; in `hints` no fewer than are near in
-/// partitions with room, for those that come next.
+/// partitions with room, for those that come next. `ahead` is what was read before it is needed.
 #[derive(Drop)]
 pub struct Tallies {
     pub gains: Gains,
     pub hints: Gains,
+    pub ahead: usize,
 }
 
 /// No counts, of so many partitions.
@@ -34,7 +35,11 @@ pub fn no_tallies(alloc: Global, count: u32) -> Result<Tallies, OutOfMemory>
 {
     let gains = no_gains(alloc, count)?;
     let hints = no_gains(alloc, count)?;
-    Ok(Tallies { gains, hints })
+    Ok(Tallies {
+        gains,
+        hints,
+        ahead: 0,
+    })
 }
 
 /// Counts one more in the partition of wide node x and in each with room in which it is read.

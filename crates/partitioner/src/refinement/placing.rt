@@ -12,6 +12,7 @@ ghost use Rattle.partitioner.specs.Private.Hinting.{AreHints};
 ghost use Rattle.partitioner.specs.Private.Loss.{IsContent};
 ghost use Rattle.partitioner.specs.Private.Leading.{HasNoRoom, IsFixed, IsLead, Leads, LeadsOpen, LeadsOrLoses, LeadsReaders, is_better, is_settled, start_of};
 
+use crate::costs::ahead::read_ahead;
 use crate::costs::gains::{Gains, begin, count_gains, least_loss};
 use crate::costs::hints::{Tallies, count_hints, hint_early, least_hinted, least_in, no_hints};
 use crate::costs::losses::loss_up_to;
@@ -309,6 +310,7 @@ pub fn place_of(
     ensures content { result.content ≡ true → IsContent n.now.net p.now.of.items i }
     ensures ready { IsReady n.now.net size p.now spots.now tallies.new }
 {
+    tallies.ahead = read_ahead(n, p, i);
     let start = part_of(n, p, i);
     begin(&mut tallies.gains, p.count);
     count_gains(n, p, &mut tallies.gains, i);
