@@ -37,6 +37,19 @@ fn rows_ahead(n: &FlatNet, p: &Partitioning, i: u32) -> usize
     mixed
 }
 
+/// Reads the first of the nodes that read each node that node i reads.
+fn firsts_ahead(n: &FlatNet, p: &Partitioning, i: u32) -> usize
+    requires tracks { Tracks n.now.net p.now }
+    requires node { i < length n.now.net.nodes }
+{
+    let _nodes = nodes_of(n);
+    let mut mixed: usize = 0;
+    for x in p.sources.row(i) {
+        mixed ^= p.readers.row(*x).first().copied().unwrap_or(0) as usize;
+    }
+    mixed
+}
+
 /// Reads where the other readers of node i stand, and those of each node that it reads, unless that is wide.
 fn readers_ahead(n: &FlatNet, p: &Partitioning, i: u32) -> usize
     requires tracks { Tracks n.now.net p.now }
@@ -52,14 +65,14 @@ fn readers_ahead(n: &FlatNet, p: &Partitioning, i: u32) -> usize
     mixed
 }
 
-/// Reads what the two nodes after node i will need. What comes out means nothing: it is all that was read, mixed, so that none of it can be
+/// Reads what the three nodes after node i will need. What comes out means nothing: it is all that was read, mixed, so that none of it can be
 /// left out.
 pub fn read_ahead(n: &FlatNet, p: &Partitioning, i: u32) -> usize
     requires tracks { Tracks n.now.net p.now }
     requires node { i < length n.now.net.nodes }
 {
-    if nodes_of(n) - i <= 2 {
+    if nodes_of(n) - i <= 3 {
         return 0;
     }
-    rows_ahead(n, p, i + 2) ^ readers_ahead(n, p, i + 1)
+    rows_ahead(n, p, i + 3) ^ firsts_ahead(n, p, i + 2) ^ readers_ahead(n, p, i + 1)
 }
