@@ -1,5 +1,5 @@
 -- What is noted in rows, and where the rows stand.
-use Rattle.std.proofs.Common.{◌≡◌, ◌≢◌, ℕ, zero, suc, ◌+◌, ◌-◌, ◌<◌, ◌≤◌, ◌⊎◌, inl, inr, Bool, true, false, cond, eqb, ltb, ◌&&◌, List, [], ◌∷◌, ◌++◌, length, map, refl, sym, ◌∙◌, ap, subst, arith, get_or, set, take, drop, replicate, append-nil}
+use Rattle.std.proofs.Common.{◌≡◌, ◌≢◌, ℕ, zero, suc, ◌+◌, ◌-◌, ◌<◌, ◌≤◌, min, ◌⊎◌, inl, inr, Bool, true, false, cond, eqb, ltb, ◌&&◌, List, [], ◌∷◌, ◌++◌, length, map, refl, sym, ◌∙◌, ap, subst, arith, get_or, set, take, drop, replicate, append-nil}
 use Rattle.std.specs.Prelude.{slice_index, slice_range, Option, Some, slice_get}
 use Rattle.std.specs.List.{range_with_len}
 use Rattle.std.proofs.lemmas.Bool.{eq-eqb, ne_eqb, cases_eq, cases_order, lt-ltb, le-ltb}
@@ -113,14 +113,15 @@ last_of_tally [] k = refl
 last_of_tally (x ∷ row) k =
     let there : slice_get (x ∷ row) (length row) ≡ Some (get_or (x ∷ row) (length row) 0) = slice_get_read (x ∷ row) (suc (length row)) (length row) (get_or (x ∷ row) (length row) 0) refl (omega arith) (there_is (x ∷ row) (length row) (omega arith)) in
     let place : suc (length row) - 1 ≡ length row = omega arith in
-    ap (λ (b : Bool). b && eqb (get_or (x ∷ row) (length (x ∷ row) - 1) 0) k) (lt-ltb 0 (length (x ∷ row)) (omega arith)) ∙ ap (λ (i : ℕ). eqb (get_or (x ∷ row) i 0) k) place ∙ sym (ap (λ (i : ℕ). is_number (slice_get (x ∷ row) i) k) place ∙ ap (λ (o : Option ℕ). is_number o k) there)
+    ap (λ (b : Bool). b && eqb (get_or (x ∷ row) (length (x ∷ row) - 1) 0) k) (lt-ltb 0 (min (length (x ∷ row)) 4294967295) (omega arith)) ∙ ap (λ (i : ℕ). eqb (get_or (x ∷ row) i 0) k) place ∙ sym (ap (λ (i : ℕ). is_number (slice_get (x ∷ row) i) k) place ∙ ap (λ (o : Option ℕ). is_number o k) there)
 
 pub tally_pushed : (row : List ℕ) (k : ℕ) → tallied (tally_of row) k ≡ tally_of (row ++ k ∷ [])
 tally_pushed row k =
     let long = length_push row k in
     let place : length (row ++ k ∷ []) - 1 ≡ length row = omega (arith, long) in
     let last : get_or (row ++ k ∷ []) (length (row ++ k ∷ []) - 1) 0 ≡ k = ap (λ (i : ℕ). get_or (row ++ k ∷ []) i 0) place ∙ get_or_push row k 0 (length row) refl in
-    sym (ap (λ (c : ℕ). record { count = c; last = get_or (row ++ k ∷ []) (length (row ++ k ∷ []) - 1) 0 }) long ∙ ap (λ (v : ℕ). record { count = length row + 1; last = v }) last)
+    let count : min (length (row ++ k ∷ [])) 4294967295 ≡ min (min (length row) 4294967295 + 1) 4294967295 = omega (arith, long) in
+    sym (ap (λ (c : ℕ). record { count = c; last = get_or (row ++ k ∷ []) (length (row ++ k ∷ []) - 1) 0 }) count ∙ ap (λ (v : ℕ). record { count = min (min (length row) 4294967295 + 1) 4294967295; last = v }) last)
 
 -- all that was noted stands in rows that there are
 in_pushed : (count : ℕ) (log : List Note) (note : Note) → AreIn count log → note.row < count → AreIn count (log ++ note ∷ [])
@@ -321,6 +322,33 @@ module _ (count : ℕ) (log : List Note) (k : ℕ) (places flat : List ℕ) (not
 
 abbrev pub no_note : Note
 no_note = record { row = 0; number = 0 }
+
+-- how many of the first k notes are in row x
+own_long : (note : Note) (x : ℕ) → length (own note x) ≡ cond (eqb note.row x) 1 0
+unfolding own
+own_long note x = go (eqb note.row x)
+  where
+    go : (b : Bool) → length (cond b (note.number ∷ []) []) ≡ cond b 1 0
+    go true = refl
+    go false = refl
+
+pub counted_more : (log : List Note) (k x count more : ℕ) → k < length log → count ≡ length (row_of (take k log) x) → more ≡ cond (eqb (get_or log k no_note).row x) 1 0 → count + more ≡ length (row_of (take (k + 1) log) x)
+counted_more log k x count more l before is =
+    let note = get_or log k no_note in
+    omega (
+      arith,
+      before,
+      is,
+      ap length (taken_more log k note x l (get_or_default log k no_note note l)),
+      length-append (row_of (take k log) x) (own note x),
+      own_long note x,
+    )
+
+pub counted_few : (log : List Note) (k x : ℕ) → k < length log → length (row_of (take (k + 1) log) x) ≤ length log
+counted_few log k x l = omega (arith, l, row_few (take (k + 1) log) x, length-take-le (k + 1) log (omega (arith, l)))
+
+pub counted_all : (log : List Note) (k x : ℕ) → length log ≤ k → length (row_of (take k log) x) ≡ length (row_of log x)
+counted_all log k x h = ap (λ (l : List Note). length (row_of l x)) (take_all k log h)
 
 pub put_next : (count : ℕ) (log : List Note) (k : ℕ) (places flat : List ℕ) (at : ℕ) → ArePut count log k places flat → AreIn count log → k < length log → at ≡ slice_index places (get_or log k no_note).row → ArePut count log (k + 1) (set places (get_or log k no_note).row (at + 1)) (set flat at (get_or log k no_note).number)
 put_next count log k places flat at put rows l e =

@@ -28,9 +28,10 @@ pub fn block_tallies(tallies: &[Tally], b: usize) -> &[Tally]
 
 /// How many numbers the rows with these tallies have.
 fn together(tallies: &[Tally]) -> usize {
-    tallies
-        .iter()
-        .fold(0usize, |sum, tally| sum.saturating_add(tally.count))
+    tallies.iter().fold(
+        0usize,
+        |sum, tally| sum.saturating_add(tally.count as usize),
+    )
 }
 
 /// So many blocks of nothing, each with room for what will be dealt to it.

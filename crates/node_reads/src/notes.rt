@@ -1,5 +1,5 @@
 //! Rows that grow in any order, kept as one list of all that is noted in them.
-ghost use Rattle.std.specs.Prelude.{◌≡◌, ◌<◌, ◌≤◌, ◌+◌, ◌/◌, ◌++◌, ◌∷◌, [], length, replicate, slice_index, slice_index_or, slice_set, slice_range, IfOk, OnOk, OnErr};
+ghost use Rattle.std.specs.Prelude.{◌≡◌, ◌<◌, ◌≤◌, ◌+◌, ◌/◌, ◌==◌, ◌++◌, ◌∷◌, [], length, replicate, slice_index, slice_index_or, slice_set, slice_range, IfOk, OnOk, OnErr, if◌then◌else◌};
 ghost use Rattle.node_reads.specs.Noting.{noted};
 ghost use Rattle.node_reads.specs.Private.Dealt.{logs_of, AreDealt};
 ghost use Rattle.node_reads.specs.Private.Logged.{row_of, rows_of, tally_at, is_last, tallied, AreIn, AreTallies, AreStarts, AreEnds, AreLaid};
@@ -17,16 +17,17 @@ pub struct Note {
     pub number: u32,
 }
 
-/// How many numbers a row has, and the last of them.
+/// How many numbers a row has, as far as 32 bits count them, and the last of them.
 #[derive(Clone, Copy, Debug, PartialEq, Eq, Drop)]
 pub struct Tally {
-    pub count: usize,
+    pub count: u32,
     pub last: u32,
 }
 
 /// Rows of numbers, which grow in any order. What is noted is kept in one list, in the order in which it comes, and is put into its
 /// rows together in the end. So one small place of each row is looked up while they grow, where rows of their own would take four times
-/// as much memory, and their numbers more. How many there are is counted in 64 bits, so that no number of them is refused.
+/// as much memory, and their numbers more. A row of more numbers than 32 bits
+/// count is counted anew where that is asked, so that no number of them is refused.
 #[derive(Drop)]
 pub struct Notes {
     tallies: Vec<Tally>,
@@ -53,13 +54,12 @@ fn is_last(tally: Tally, k: u32) -> bool
 
 /// Row x is one longer, and ends in k.
 fn count_note(tallies: &mut Vec<Tally>, x: u32, k: u32)
-    requires row { x < length tallies.old.items }
-    requires few { (tally_at tallies.old.items x).count + 1 < 18446744073709551616 }
+    requires { x < length tallies.old.items }
     ensures { tallies.new.items ≡ slice_set tallies.old.items x (tallied (tally_at tallies.old.items x) k) }
 {
     let tally = tallies[x as usize];
     tallies[x as usize] = Tally {
-        count: tally.count + 1,
+        count: tally.count.saturating_add(1),
         last: k,
     };
 }
@@ -105,7 +105,39 @@ fn note_once(
     Ok(())
 }
 
-/// Where each row begins. `log` is read by the clauses alone.
+/// 1 for a note in row x, and 0 for any other.
+fn count_one(note: Note, x: usize) -> usize
+    ensures { result ≡ (if note.row == x then 1 else 0) }
+{
+    if note.row as usize == x { 1 } else { 0 }
+}
+
+/// How many numbers were noted in row x.
+fn counted(log: &[Note], x: usize) -> usize
+    requires { length log.now < 18446744073709551616 }
+    ensures { result ≡ length (row_of log.now x) }
+{
+    let mut count: usize = 0;
+    for k in 0..log.len() {
+        count += count_one(log[k], x);
+    }
+    count
+}
+
+/// How many numbers row x has.
+fn count_at(tallies: &[Tally], log: &[Note], x: usize) -> usize
+    requires tallies { AreTallies tallies.now log.now }
+    requires row { x < length tallies.now }
+    ensures { result ≡ length (row_of log.now x) }
+{
+    let count = tallies[x].count;
+    if count < u32::MAX {
+        return count as usize;
+    }
+    counted(log, x)
+}
+
+/// Where each row begins.
 fn starts(alloc: Global, tallies: &[Tally], log: &[Note]) -> Result<Vec<usize>, OutOfMemory>
     requires { AreTallies tallies.now log.now }
     ensures { IfOk result (λ starts. AreStarts (length tallies.now) log.now starts.items) }
@@ -114,7 +146,7 @@ fn starts(alloc: Global, tallies: &[Tally], log: &[Note]) -> Result<Vec<usize>, 
     let mut next: usize = 0;
     for x in 0..tallies.len() {
         starts.push(next)?;
-        next += tallies[x].count;
+        next += count_at(tallies, log, x);
     }
     Ok(starts)
 }
@@ -218,13 +250,13 @@ fn packed(alloc: Global, tallies: &[Tally], log: &[Note]) -> Result<Graph, OutOf
     packed_blocks(alloc, tallies, log, &blocks)
 }
 
-/// How many numbers row x has. `log` is read by the clauses alone.
+/// How many numbers row x has.
 fn count_in(tallies: &[Tally], log: &[Note], x: u32) -> usize
     requires tallies { AreTallies tallies.now log.now }
     requires row { x < length tallies.now }
     ensures { result ≡ length (row_of log.now x) }
 {
-    tallies[x as usize].count
+    count_at(tallies, log, x as usize)
 }
 
 /// No tallies of rows in which something was noted.

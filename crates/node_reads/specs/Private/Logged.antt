@@ -1,5 +1,5 @@
 -- Rows of numbers, kept as one list of all that was noted in them, in the order in which it was.
-use Rattle.std.specs.Prelude.{◌≡◌, ℕ, suc, ◌+◌, ◌-◌, ◌<◌, ◌==◌, ◌&&◌, Bool, nat_lt, List, [], ◌∷◌, All, length, map, slice_index, slice_index_or, if◌then◌else◌}
+use Rattle.std.specs.Prelude.{◌≡◌, ℕ, suc, ◌+◌, ◌-◌, ◌<◌, min, ◌==◌, ◌&&◌, Bool, nat_lt, List, [], ◌∷◌, All, length, map, slice_index, slice_index_or, if◌then◌else◌}
 use Rattle.std.specs.List.{range_with_len}
 use Rattle.node_reads.specs.declared.notes.Note.{Note}
 use Rattle.node_reads.specs.declared.notes.Tally.{Tally}
@@ -18,9 +18,9 @@ abbrev pub start_in : List Note → ℕ → ℕ
 start_in [] x = 0
 start_in (note ∷ log) x = (if nat_lt note.row x then 1 else 0) + start_in log x
 
--- how many numbers a row has, and the last of them
+-- how many numbers a row has, as far as 32 bits count them, and the last of them
 abbrev pub tally_of : List ℕ → Tally
-tally_of row = record { count = length row; last = slice_index row (length row - 1) }
+tally_of row = record { count = min (length row) 4294967295; last = slice_index row (length row - 1) }
 
 -- that of row x
 abbrev pub tally_at : List Tally → ℕ → Tally
@@ -32,7 +32,7 @@ is_last tally k = nat_lt 0 tally.count && tally.last == k
 
 -- the tally of a row behind which k was put
 abbrev pub tallied : Tally → ℕ → Tally
-tallied tally k = record { count = tally.count + 1; last = k }
+tallied tally k = record { count = min (tally.count + 1) 4294967295; last = k }
 
 -- all that was noted was noted in one of the rows
 abbrev pub AreIn : ℕ → List Note → Type 0
