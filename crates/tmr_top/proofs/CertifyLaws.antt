@@ -52,13 +52,11 @@ same_length d e x y k one other = cc
 -- its bytes were counted, and are not too many
 pub is_short : (d e x y : Design) (k : PlainCert) (within : Bool) (m most : ℕ) → x ≡ d → y ≡ e → m ≡ most
     → IsTrue within ↔ length (cert_text x.net y.net k) ≤ m → within ≡ true → length (cert_text d.net e.net k) ≤ most
-is_short d e x y k true m most one other limit counted yes = omega (arith, counted.0 tt, limit, same_length d e x y k one other)
-is_short d e x y k false m most one other limit counted yes = absurd cc
+is_short d e x y k within m most one other limit counted answer = omega (arith, counted.0 answer, limit, same_length d e x y k one other)
 
 -- its bytes were counted, and are too many
 pub is_long : (d e x y : Design) (k : PlainCert) (within : Bool) (m most : ℕ) → x ≡ d → y ≡ e → m ≡ most
     → IsTrue within ↔ length (cert_text x.net y.net k) ≤ m → within ≡ false → most < length (cert_text d.net e.net k)
-is_long d e x y k true m most one other limit counted no = absurd cc
-is_long d e x y k false m most one other limit counted no =
-    let long : m < length (cert_text x.net y.net k) = lt_of_not-le (λ le. counted.1 le) in
+is_long d e x y k within m most one other limit counted answer =
+    let long : m < length (cert_text x.net y.net k) = lt_of_not-le (λ le. let e = counted.1 le in absurd cc) in
     omega (arith, long, limit, same_length d e x y k one other)
