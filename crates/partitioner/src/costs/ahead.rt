@@ -1,8 +1,8 @@
 //! What is read before it is needed, for speed alone.
 //!
 //! To count what a node gains takes three look-ups, one after the other: where the readers of a node stand in their list, which they are, and
-//! in which partitions these stand. In a large design most of them wait for the memory. So the rows of a later node are read some nodes before,
-//! each step one node after the other: then these waits run side by side with the work on the nodes between, and the memory is near in time.
+//! in which partitions these stand. In a large design most of them wait for the memory. So what a node needs is read before its turn, each
+//! look-up one node after the one before: then these waits run side by side, and beside the work on other nodes.
 ghost use Rattle.std.specs.Prelude.{◌<◌, length};
 ghost use Rattle.partitioner.specs.Private.Tracking.{Tracks};
 
@@ -10,6 +10,39 @@ use crate::counts::partitioning::Partitioning;
 use crate::refinement::placing::part_of;
 use flat_net::{FlatNet, nodes_of};
 use node_reads::is_wide;
+
+/// Whether the next nodes are read ahead, and all that was read, mixed. That means nothing: it is kept so that no reading can be left out.
+#[derive(Clone, Copy, Drop)]
+pub struct Ahead {
+    pub wanted: bool,
+    pub mixed: usize,
+}
+
+/// How many nodes of a row are far from node i: over 65,536 nodes lie between them. What is kept of nearer ones takes a megabyte or two, and
+/// so lies in a processor's cache.
+fn far_count(row: &[u32], i: u32) -> usize {
+    let mut far: usize = 0;
+    for x in row {
+        if x.abs_diff(i) > 65_536 {
+            far = far.saturating_add(1);
+        }
+    }
+    far
+}
+
+/// Over an eighth of all that the nodes read is far from them.
+pub fn reads_far(n: &FlatNet, p: &Partitioning) -> bool
+    requires { Tracks n.now.net p.now }
+{
+    let mut all: usize = 0;
+    let mut far: usize = 0;
+    for i in 0..nodes_of(n) {
+        let row = p.sources.row(i);
+        all = all.saturating_add(row.len());
+        far = far.saturating_add(far_count(row, i));
+    }
+    far > all / 8
+}
 
 /// Reads where the other readers of node x stand.
 fn parts_ahead(n: &FlatNet, p: &Partitioning, x: u32) -> usize
@@ -65,14 +98,14 @@ fn readers_ahead(n: &FlatNet, p: &Partitioning, i: u32) -> usize
     mixed
 }
 
-/// Reads what the three nodes after node i will need. What comes out means nothing: it is all that was read, mixed, so that none of it can be
-/// left out.
-pub fn read_ahead(n: &FlatNet, p: &Partitioning, i: u32) -> usize
+/// Reads what the three nodes after node i will need, where that is wanted.
+pub fn read_ahead(n: &FlatNet, p: &Partitioning, ahead: &mut Ahead, i: u32)
     requires tracks { Tracks n.now.net p.now }
     requires node { i < length n.now.net.nodes }
 {
-    if nodes_of(n) - i <= 3 {
-        return 0;
+    if !ahead.wanted || nodes_of(n) - i <= 3 {
+        return;
     }
-    rows_ahead(n, p, i + 3) ^ firsts_ahead(n, p, i + 2) ^ readers_ahead(n, p, i + 1)
+    let mixed = rows_ahead(n, p, i + 3) ^ firsts_ahead(n, p, i + 2) ^ readers_ahead(n, p, i + 1);
+    ahead.mixed = mixed;
 }

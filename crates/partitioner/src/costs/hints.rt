@@ -10,6 +10,7 @@ ghost use Rattle.partitioner.specs.Private.Loss.{loss};
 ghost use Rattle.partitioner.specs.Private.Spotting.{AreSpots};
 ghost use Rattle.partitioner.specs.Private.Tracking.{Tracks, held_parts};
 
+use crate::costs::ahead::Ahead;
 use crate::costs::gains::{Gains, begin, count_once, missed_in, near_in, no_gains};
 use crate::counts::partitioning::Partitioning;
 use crate::counts::spots::Spots;
@@ -20,16 +21,16 @@ use std::alloc::Global;
 use tmr_base::OutOfMemory;
 
 /// What is counted for one node: in `gains` exactly, for the nodes that it reads and few others read; in `hints` no fewer than are near in
-/// partitions with room, for those that come next. `ahead` is what was read before it is needed.
+/// partitions with room, for those that come next. `ahead` is what was read before its turn.
 #[derive(Drop)]
 pub struct Tallies {
     pub gains: Gains,
     pub hints: Gains,
-    pub ahead: usize,
+    pub ahead: Ahead,
 }
 
-/// No counts, of so many partitions.
-pub fn no_tallies(alloc: Global, count: u32) -> Result<Tallies, OutOfMemory>
+/// No counts, of so many partitions. `far` says whether to read ahead.
+pub fn no_tallies(alloc: Global, count: u32, far: bool) -> Result<Tallies, OutOfMemory>
     ensures gains { IfOk result (λ tallies. AreKept count tallies.gains) }
     ensures hints { IfOk result (λ tallies. AreKept count tallies.hints) }
 {
@@ -38,7 +39,10 @@ pub fn no_tallies(alloc: Global, count: u32) -> Result<Tallies, OutOfMemory>
     Ok(Tallies {
         gains,
         hints,
-        ahead: 0,
+        ahead: Ahead {
+            wanted: far,
+            mixed: 0,
+        },
     })
 }
 

@@ -5,6 +5,7 @@ ghost use Rattle.partitioner.specs.Refining.{IsMinimal};
 ghost use Rattle.partitioner.specs.Private.Tracking.{held_parts};
 ghost use Rattle.partitioner.specs.Private.Ready.{IsReady};
 
+use crate::costs::ahead::reads_far;
 use crate::costs::hints::{Tallies, no_tallies};
 use crate::counts::partitioning::Partitioning;
 use crate::counts::spots::{Spots, shut_full, spots_of};
@@ -58,6 +59,6 @@ pub fn is_minimal(alloc: Global, n: &FlatNet, parts: &Parts, size: u32) -> Resul
     let p = track(alloc, n, parts)?;
     let mut spots = spots_of(alloc, n, &p)?;
     shut_full(n, &p, &mut spots, size);
-    let mut tallies = no_tallies(alloc, p.count)?;
+    let mut tallies = no_tallies(alloc, p.count, reads_far(n, &p))?;
     Ok(all_stay(n, &p, &spots, &mut tallies, size))
 }

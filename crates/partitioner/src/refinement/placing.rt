@@ -310,7 +310,7 @@ pub fn place_of(
     ensures content { result.content ≡ true → IsContent n.now.net p.now.of.items i }
     ensures ready { IsReady n.now.net size p.now spots.now tallies.new }
 {
-    tallies.ahead = read_ahead(n, p, i);
+    read_ahead(n, p, &mut tallies.ahead, i);
     let start = part_of(n, p, i);
     begin(&mut tallies.gains, p.count);
     count_gains(n, p, &mut tallies.gains, i);

@@ -10,6 +10,7 @@ ghost use Rattle.partitioner.specs.Private.Tracking.{IsPlaced, Tracks, held_part
 ghost use Rattle.partitioner.specs.Private.Ready.{IsReady};
 ghost use Rattle.partitioner.specs.Private.Resting.{Rests};
 
+use crate::costs::ahead::reads_far;
 use crate::costs::hints::{Tallies, no_tallies};
 use crate::costs::pairs::pairs_in;
 use crate::counts::partitioning::{Partitioning, Placed};
@@ -140,7 +141,7 @@ fn pass_all(
 {
     let mut spots = spots_of(alloc, n, p)?;
     shut_full(n, p, &mut spots, size);
-    let mut tallies = no_tallies(alloc, p.count)?;
+    let mut tallies = no_tallies(alloc, p.count, reads_far(n, p))?;
     let mut rest = no_rest(alloc, n)?;
     let settled = pass_often(n, p, &mut spots, &mut tallies, &mut rest, size, passes)?;
     Ok(Passed {
