@@ -26,8 +26,8 @@ pub struct Tally {
 
 /// Rows of numbers, which grow in any order. What is noted is kept in one list, in the order in which it comes, and is put into its
 /// rows together in the end. So one small place of each row is looked up while they grow, where rows of their own would take four times
-/// as much memory, and their numbers more. A row of more numbers than 32 bits
-/// count is counted anew where that is asked, so that no number of them is refused.
+/// as much memory, and their numbers more. A row of more numbers than 32 bits count is counted anew where that is asked, so that no
+/// number of them is refused.
 #[derive(Drop)]
 pub struct Notes {
     tallies: Vec<Tally>,
