@@ -26,4 +26,6 @@ pub record TwinRun : Type 0 where
 
 -- each net has the word of the net that it stands for, but where that one is marked
 abbrev pub AreWordsBut : List Bool → List ℕ → List ℕ → List ℕ → Type 0
-AreWordsBut marks origins own words = (y : ℕ) → y < length origins → bit marks (slice_index origins y) ≡ false → slice_index words y ≡ slice_index own (slice_index origins y)
+AreWordsBut marks origins own words =
+    (y : ℕ) → y < length origins → bit marks (slice_index origins y) ≡ false
+    → slice_index words y ≡ slice_index own (slice_index origins y)
