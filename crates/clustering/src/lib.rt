@@ -9,6 +9,7 @@
 //! group that it touches, and only where these are few: so the time is linear in the pins, also where all nodes read one.
 #![tactic(auto)]
 
+mod effort;
 mod filling;
 mod joining;
 mod levels;
@@ -18,6 +19,7 @@ mod numberings;
 pub mod numbers;
 mod settling;
 
+pub use effort::is_large;
 pub use levels::Level;
 pub use multilevel::{clusters, clusters_from, levels_of};
 pub use settling::settled_parts;

@@ -5,9 +5,6 @@ use crate::numbers::{at, count, put, raise, row};
 use std::alloc::Global;
 use tmr_base::OutOfMemory;
 
-/// So many passes over the groups of each level. More bring next to nothing, since the levels below move on.
-const PASSES: u32 = 2;
-
 /// How many nodes each partition may hold, and how many it holds. `ties` tells in how many nets of one group another group of each
 /// partition stands, and `met` where that is more than none. Each net of a group has a turn of its own: `seen` tells the last one in
 /// which a partition was counted.
@@ -113,13 +110,14 @@ fn held_in(alloc: Global, level: &Level, of: &[u32], parts: u32) -> Result<Vec<u
     Ok(held)
 }
 
-/// Passes of moves over the groups of a level. A group moves only to one of so many partitions that has room for it.
+/// So many passes of moves over the groups of a level. A group moves only to one of so many partitions that has room for it.
 pub fn move_groups(
     alloc: Global,
     level: &Level,
     of: &mut Vec<u32>,
     parts: u32,
     room: u32,
+    passes: u32,
 ) -> Result<(), OutOfMemory> {
     let mut moving = Moving {
         room,
@@ -129,7 +127,7 @@ pub fn move_groups(
         seen: vec![in alloc; 0u32; parts as usize]?,
         turn: 0,
     };
-    for turn in 0..PASSES {
+    for turn in 0..passes {
         let _turn = turn;
         if !pass(level, &mut moving, of)? {
             return Ok(());

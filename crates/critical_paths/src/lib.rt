@@ -12,6 +12,7 @@
 #![tactic(auto)]
 
 mod design;
+mod effort;
 mod feedback;
 mod levels;
 mod loops;

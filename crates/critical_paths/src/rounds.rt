@@ -1,6 +1,7 @@
 //! Rounds, each over one worst path.
 
 use crate::design::Circuit;
+use crate::effort::effort_for;
 use crate::feedback::fed_back;
 use crate::levels::{Levels, compute_all, weigh_ends};
 use crate::placing::{Pairs, Placing};
@@ -11,12 +12,6 @@ use clustering::numbers::{count, raise};
 use std::alloc::Global;
 use std::collections::BinaryHeap;
 use tmr_base::OutOfMemory;
-
-/// So many times it is found out anew which registers are fed back.
-const SPELLS: u32 = 8;
-
-/// So many rounds follow each.
-const ROUNDS: u32 = 8;
 
 /// How many nodes each of so many partitions holds.
 fn held_in(alloc: Global, of: &[u32], parts: u32) -> Result<Vec<u32>, OutOfMemory> {
@@ -77,6 +72,7 @@ fn begun(
             random: 1,
         },
         rooms: no_rooms(alloc, nodes, parts)?,
+        effort: effort_for(nodes),
     })
 }
 
@@ -100,7 +96,7 @@ fn round(circuit: &Circuit, s: &mut Search) -> Result<bool, OutOfMemory> {
 fn spell(alloc: Global, circuit: &Circuit, s: &mut Search) -> Result<bool, OutOfMemory> {
     begin_spell(alloc, circuit, s)?;
     let mut made = false;
-    for _turn in 0..ROUNDS {
+    for _turn in 0..s.effort.rounds {
         if round(circuit, s)? {
             made = true;
         }
@@ -117,7 +113,7 @@ pub fn searched(
     size: u32,
 ) -> Result<Vec<u32>, OutOfMemory> {
     let mut s = begun(alloc, count(of.as_slice()), of, parts, size)?;
-    for _turn in 0..SPELLS {
+    for _turn in 0..s.effort.spells {
         if !spell(alloc, circuit, &mut s)? {
             break;
         }

@@ -1,6 +1,7 @@
 //! Trials: a run of nodes of the path goes over a border next to it.
 
 use crate::design::Circuit;
+use crate::effort::Effort;
 use crate::levels::{Levels, follow, forget, take_back, wait_for};
 use crate::placing::{Pairs, Placing, move_back, move_node, settle};
 use crate::room::{MOST_LEAVING, Rooms, find_leavers, make_room};
@@ -10,9 +11,6 @@ use tmr_base::OutOfMemory;
 
 /// At most so many nodes of the path go over a border in one trial.
 const LONGEST_RUN: u32 = 8;
-
-/// No further trial is made for a path when the trials have computed so many levels.
-const MOST_SPENT: u32 = 40000;
 
 /// To look for a node's place takes the time of so many levels.
 const SEEN_WORK: u32 = 8;
@@ -32,9 +30,10 @@ struct Best {
     worth: u64,
 }
 
-/// All that a trial changes.
+/// All that a trial changes, and how long the search goes on.
 #[derive(Drop)]
 pub struct Search {
+    pub effort: Effort,
     pub placing: Placing,
     pub levels: Levels,
     pub path: Path,
@@ -114,7 +113,7 @@ fn better_run(
     best: Best,
     run: Run,
 ) -> Result<Best, OutOfMemory> {
-    if s.levels.spent > MOST_SPENT {
+    if s.levels.spent > s.effort.levels {
         return Ok(best);
     }
     let worth = try_run(circuit, s, run)?;

@@ -6,7 +6,8 @@ use Rattle.partitioner.specs.Below.{one_if}
 
 -- the number in bit j of the four words
 abbrev pub lane_value : Lanes → ℕ → ℕ
-lane_value lanes j = one_if (word_bit j lanes.ones) + 2 * one_if (word_bit j lanes.twos) + 4 * one_if (word_bit j lanes.fours) + 8 * one_if (word_bit j lanes.eights)
+lane_value lanes j =
+    one_if (word_bit j lanes.ones) + 2 * one_if (word_bit j lanes.twos) + 4 * one_if (word_bit j lanes.fours) + 8 * one_if (word_bit j lanes.eights)
 
 -- the number in bit j is no less than k, or it ran over
 abbrev pub Reaches : Lanes → ℕ → ℕ → Type 0
