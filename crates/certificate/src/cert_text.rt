@@ -1,6 +1,7 @@
 //! A certificate's text, made step by step.
 ghost use Rattle.std.specs.Prelude.{◌≡◌, ◌<◌, ◌≤◌, ◌+◌, ◌++◌, length, OnOk, Ok};
-ghost use Rattle.certificate.specs.Cert.{IsCert, Fits};
+ghost use Rattle.flat_net.specs.Net.{Design};
+ghost use Rattle.certificate.specs.Cert.{PlainCert, IsCert, Fits};
 ghost use Rattle.certificate.specs.Length.{cert_length};
 ghost use Rattle.certificate.specs.Reading.{cert_of_text};
 ghost use Rattle.certificate.specs.Text.{cert_text};
@@ -24,9 +25,6 @@ pub struct CertText<'a> {
 }
 
 impl<'a> Model for CertText<'a> {
-    ghost use Rattle.flat_net.specs.Net.{Design};
-    ghost use Rattle.certificate.specs.Cert.{PlainCert, Fits};
-
     ghost Value = { Design × Design × PlainCert };
 
     ghost view = { λ t. (t.n.now, t.h.now, t.k.now) };

@@ -1,6 +1,6 @@
 //! A text in pieces.
-ghost use Rattle.std.specs.Prelude.{◌≡◌, ◌↔◌, ◌<◌, ◌≤◌, ◌++◌, ℕ, [], true, false, length, IfOk, IsTrue};
-ghost use Rattle.text_pieces.specs.InPieces.{long_piece};
+ghost use Rattle.std.specs.Prelude.{◌≡◌, ◌↔◌, ◌<◌, ◌≤◌, ◌-◌, ◌++◌, ℕ, [], true, false, length, IfOk, IsTrue};
+ghost use Rattle.text_pieces.specs.InPieces.{TextInPieces, long_piece};
 
 use crate::Steps;
 use std::alloc::{AllocError, Global};
@@ -20,9 +20,6 @@ pub struct Pieces<T: Steps> {
 }
 
 impl<T: Steps> Model for Pieces<T> {
-    ghost use Rattle.std.specs.Prelude.{◌-◌, ◌≤◌};
-    ghost use Rattle.text_pieces.specs.InPieces.{TextInPieces};
-
     ghost Value = { TextInPieces };
 
     ghost view = { λ t. record { rest = (T.in_steps t.text).left t.next; piece = t.piece.items; left = (T.in_steps t.text).count - t.next } };
