@@ -1,5 +1,5 @@
 //! A text in pieces.
-ghost use Rattle.std.specs.Prelude.{◌≡◌, ◌↔◌, ◌<◌, ◌≤◌, ◌-◌, ◌++◌, ℕ, [], true, false, length, IfOk, IsTrue};
+ghost use Rattle.std.specs.Prelude.{◌≡◌, ◌↔◌, ◌<◌, ◌≤◌, ◌+◌, ◌-◌, ◌++◌, ℕ, [], true, false, length, IfOk, IsTrue};
 ghost use Rattle.text_pieces.specs.InPieces.{TextInPieces, long_piece};
 
 use crate::Steps;
@@ -38,12 +38,15 @@ fn is_long(piece: &[u8]) -> bool
 /// Makes the piece that begins at this step. The answer is the step behind it.
 fn make_piece<T: Steps>(piece: &mut Vec<u8>, text: &mut T, from: u64) -> Result<u64, AllocError>
     requires within { from ≤ (T.in_steps text.old).count }
-    ensures text { IfOk result (λ next. (T.in_steps text.old).left from ≡ piece.new.items ++ (T.in_steps text.new).left next) }
+    ensures text { IfOk result (λ next. (T.in_steps text.old).left from ≡ piece.new.items ++ (T.in_steps text.old).left next) }
     ensures some { IfOk result (λ next. next ≤ from → (T.in_steps text.old).left from ≡ []) }
     ensures within { IfOk result (λ next. next ≤ (T.in_steps text.old).count) }
-    ensures count { (T.in_steps text.new).count ≡ (T.in_steps text.old).count }
+    ensures same { T.in_steps text.new ≡ T.in_steps text.old }
     // Only the last piece is short.
-    ensures full { IfOk result (λ next. next < (T.in_steps text.new).count → long_piece ≤ length piece.new.items) }
+    ensures full { IfOk result (λ next. next < (T.in_steps text.old).count → long_piece ≤ length piece.new.items) }
+    // Before each step that was made, the piece was not long yet.
+    ensures short { IfOk result (λ next. (k : ℕ) → from ≤ k → k < next
+        → length ((T.in_steps text.old).left from) < length ((T.in_steps text.old).left k) + long_piece) }
 {
     piece.clear();
     let steps = text.count();

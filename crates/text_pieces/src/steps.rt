@@ -14,9 +14,9 @@ pub trait Steps {
         ensures count { result ≡ (in_steps self.now).count }
         ensures end { (k : ℕ) → result ≤ k → (in_steps self.now).left k ≡ [] };
 
-    /// Puts what comes at this step. After want of memory nothing is known of what is left. There are always as many steps.
+    /// Puts what comes at this step. The text stays the same.
     fn put_step(&mut self, out: &mut Vec<u8>, step: u64) -> Result<(), AllocError>
         requires { step < (in_steps self.old).count }
-        ensures put { OnOk result (out.new.items ++ (in_steps self.new).left (step + 1) ≡ out.old.items ++ (in_steps self.old).left step) }
-        ensures count { (in_steps self.new).count ≡ (in_steps self.old).count };
+        ensures put { OnOk result (out.new.items ++ (in_steps self.old).left (step + 1) ≡ out.old.items ++ (in_steps self.old).left step) }
+        ensures same { in_steps self.new ≡ in_steps self.old };
 }
