@@ -112,7 +112,7 @@ impl<'a> CertText<'a> {
 }
 
 impl Steps for CertText<'_> {
-    ghost in_steps = { λ t. record { left = cert_left t.0.net t.1.net t.2; count = cert_steps t.2 } };
+    ghost in_steps = { λ t. record { rest = cert_left t.0.net t.1.net t.2; count = cert_steps t.2 } };
 
     #[tactic(auto, using(crate::proofs::Stepping::none_left))]
     fn count(&self) -> u64 {

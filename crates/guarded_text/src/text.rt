@@ -139,7 +139,7 @@ impl<'a> GuardedText<'a> {
 }
 
 impl Steps for GuardedText<'_> {
-    ghost in_steps = { λ d. record { left = guarded_rest d.net; count = guarded_steps d.net } };
+    ghost in_steps = { λ d. record { rest = guarded_rest d.net; count = guarded_steps d.net } };
 
     #[tactic(auto, using(text_pieces::proofs::Stepping::steps_done))]
     fn count(&self) -> u64 {

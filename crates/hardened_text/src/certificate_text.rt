@@ -105,7 +105,7 @@ impl<'a> CertificateText<'a> {
 }
 
 impl Steps for CertificateText<'_> {
-    ghost in_steps = { λ t. record { left = certificate_rest t.0 t.1; count = certificate_steps t.0 t.1 } };
+    ghost in_steps = { λ t. record { rest = certificate_rest t.0 t.1; count = certificate_steps t.0 t.1 } };
 
     #[tactic(auto, using(text_pieces::proofs::Stepping::steps_done))]
     fn count(&self) -> u64 {

@@ -89,7 +89,7 @@ impl<'a> DesignText<'a> {
 }
 
 impl Steps for DesignText<'_> {
-    ghost in_steps = { λ t. record { left = design_rest t.0 t.1; count = design_steps t.0 } };
+    ghost in_steps = { λ t. record { rest = design_rest t.0 t.1; count = design_steps t.0 } };
 
     #[tactic(auto, using(text_pieces::proofs::Stepping::steps_done))]
     fn count(&self) -> u64 {

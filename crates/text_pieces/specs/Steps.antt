@@ -4,7 +4,7 @@ use Rattle.std.specs.List.{flat_map, range_with_len}
 
 -- what is left of it at each step, and how many steps there are
 pub record TextInSteps : Type 0 where
-  pub left : ℕ → List ℕ
+  pub rest : ℕ → List ℕ
   pub count : ℕ
 
 -- what comes at the steps from k on, of so many

@@ -12,11 +12,11 @@ pub trait Steps {
     /// How many steps there are. Behind the last one nothing is left.
     fn count(&self) -> u64
         ensures count { result ≡ (in_steps self.now).count }
-        ensures end { (k : ℕ) → result ≤ k → (in_steps self.now).left k ≡ [] };
+        ensures end { (k : ℕ) → result ≤ k → (in_steps self.now).rest k ≡ [] };
 
     /// Puts what comes at this step. The text stays the same.
     fn put_step(&mut self, out: &mut Vec<u8>, step: u64) -> Result<(), AllocError>
         requires { step < (in_steps self.old).count }
-        ensures put { OnOk result (out.new.items ++ (in_steps self.old).left (step + 1) ≡ out.old.items ++ (in_steps self.old).left step) }
+        ensures put { OnOk result (out.new.items ++ (in_steps self.old).rest (step + 1) ≡ out.old.items ++ (in_steps self.old).rest step) }
         ensures same { in_steps self.new ≡ in_steps self.old };
 }

@@ -6,7 +6,8 @@ use Rattle.text_pieces.proofs.pieces.make_piece.Given as goal
 abbrev pub invariant-loop-step : goal.invariant-loop-step
 invariant-loop-step g l = record {
   same : g.T.Steps.in_steps l.text ≡ g.T.Steps.in_steps l.fn.text;
-  put : (g.T.Steps.in_steps l.fn.text).left l.from ≡ l.piece.items ++ (g.T.Steps.in_steps l.fn.text).left l.step;
+  put : (g.T.Steps.in_steps l.fn.text).rest l.from ≡ l.piece.items ++ (g.T.Steps.in_steps l.fn.text).rest l.step;
   none : l.step ≡ l.from → l.piece.items ≡ [];
-  short : (k : ℕ) → l.from ≤ k → k < l.step → length ((g.T.Steps.in_steps l.fn.text).left l.from) < length ((g.T.Steps.in_steps l.fn.text).left k) + long_piece;
+  short : (k : ℕ) → l.from ≤ k → k < l.step
+      → length ((g.T.Steps.in_steps l.fn.text).rest l.from) < length ((g.T.Steps.in_steps l.fn.text).rest k) + long_piece;
 }
