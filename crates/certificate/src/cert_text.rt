@@ -1,6 +1,7 @@
-//! A certificate's text, given in pieces.
-ghost use Rattle.std.specs.Prelude.{◌≡◌, ◌<◌, ◌≤◌, ◌+◌, ◌++◌, [], true, false, length, IfOk, OnOk, Ok};
-ghost use Rattle.certificate.specs.Cert.{IsCert, Fits};
+//! A certificate's text, made step by step.
+ghost use Rattle.std.specs.Prelude.{◌≡◌, ◌<◌, ◌≤◌, ◌+◌, ◌++◌, length, OnOk, Ok};
+ghost use Rattle.flat_net.specs.Net.{Design};
+ghost use Rattle.certificate.specs.Cert.{PlainCert, IsCert, Fits};
 ghost use Rattle.certificate.specs.Length.{cert_length};
 ghost use Rattle.certificate.specs.Reading.{cert_of_text};
 ghost use Rattle.certificate.specs.Text.{cert_text};
@@ -11,30 +12,24 @@ use crate::writing::{put_head, put_line, put_node_at, put_part_at, put_role_at};
 use flat_net::FlatNet;
 use std::alloc::{AllocError, Global};
 use std::marker::Model;
-use text_pieces::is_long;
+use text_pieces::{Pieces, Steps};
 
-/// The text of a certificate, given in pieces.
+/// The text of a certificate, made step by step.
 ///
-/// It is made in one pass over the certificate, and never held whole. A line is never cut.
+/// It is made in one pass over the certificate. A line is never cut.
 #[derive(Drop)]
 pub struct CertText<'a> {
     n: &'a FlatNet,
     h: &'a FlatNet,
     k: &'a Certificate,
-    piece: Vec<u8>,
-    next: u64,
 }
 
 impl<'a> Model for CertText<'a> {
-    ghost use Rattle.text_pieces.specs.InPieces.{TextInPieces};
+    ghost Value = { Design × Design × PlainCert };
 
-    ghost Value = { TextInPieces };
+    ghost view = { λ t. (t.n.now, t.h.now, t.k.now) };
 
-    ghost use Rattle.certificate.specs.Private.Inside.{cert_in_pieces, IsCertText};
-
-    ghost view = { cert_in_pieces };
-
-    ghost invariant = { IsCertText };
+    ghost invariant = { λ t. Fits t.n.now.net t.h.now.net t.k.now };
 }
 
 /// Puts what comes so many steps behind the partitions: the line of an original node, that of a hardened node where it is a voter, or
@@ -92,35 +87,14 @@ fn put_step(
     Ok(())
 }
 
-/// Makes the piece that begins at this step. The answer is the step behind it.
-fn make_piece(
-    piece: &mut Vec<u8>,
-    n: &FlatNet,
-    h: &FlatNet,
-    k: &Certificate,
-    from: u64,
-) -> Result<u64, AllocError>
-    requires fits { Fits n.now.net h.now.net k.now }
-    requires within { from ≤ cert_steps k.now }
-    ensures text { IfOk result (λ next. cert_left n.now.net h.now.net k.now from ≡ piece.new.items ++ cert_left n.now.net h.now.net k.now next) }
-    ensures some { IfOk result (λ next. from < cert_steps k.now → from < next) }
-    ensures within { IfOk result (λ next. next ≤ cert_steps k.now) }
-{
-    piece.clear();
-    let nodes = u64::from(n.node_count()) + u64::from(h.node_count());
-    let steps = u64::from(k.parts()) + nodes + 2;
-    for step in from..steps {
-        if is_long(piece) {
-            return Ok(step);
-        }
-        put_step(piece, n, h, k, step)?;
-    }
-    Ok(steps)
-}
-
 impl<'a> CertText<'a> {
     /// The text of certificate k for the original n and the hardened design h, which it fits. Nothing of it is given yet.
-    pub fn new(alloc: Global, n: &'a FlatNet, h: &'a FlatNet, k: &'a Certificate) -> CertText<'a>
+    pub fn in_pieces(
+        alloc: Global,
+        n: &'a FlatNet,
+        h: &'a FlatNet,
+        k: &'a Certificate,
+    ) -> Pieces<CertText<'a>>
         requires { Fits n.now.net h.now.net k.now }
         ensures text { result.rest ≡ cert_text n.now.net h.now.net k.now }
         // Reading it gives k.
@@ -133,32 +107,20 @@ impl<'a> CertText<'a> {
         h.input_count();
         // This one says that the certificate is consistent.
         k.parts();
-        CertText {
-            n,
-            h,
-            k,
-            piece: Vec::new(alloc),
-            next: 0,
-        }
+        Pieces::new(alloc, CertText { n, h, k })
     }
+}
 
-    /// Goes on to the next piece, and says whether there is one. After an error nothing is promised of what is given.
+impl Steps for CertText<'_> {
+    ghost in_steps = { λ t. record { rest = cert_left t.0.net t.1.net t.2; count = cert_steps t.2 } };
+
     #[tactic(auto, using(crate::proofs::Stepping::none_left))]
-    pub fn advance(&mut self) -> Result<bool, AllocError>
-        ensures next { IfOk result (λ more. more ≡ true → self.old.rest ≡ self.new.piece ++ self.new.rest) }
-        ensures fewer { IfOk result (λ more. more ≡ true → self.new.left < self.old.left) }
-        ensures end { IfOk result (λ more. more ≡ false → self.old.rest ≡ []) }
-    {
-        let next = make_piece(&mut self.piece, self.n, self.h, self.k, self.next)?;
-        let more = self.next < next;
-        self.next = next;
-        Ok(more)
+    fn count(&self) -> u64 {
+        let nodes = u64::from(self.n.node_count()) + u64::from(self.h.node_count());
+        u64::from(self.k.parts()) + nodes + 2
     }
 
-    /// The piece at hand.
-    pub fn piece(&self) -> &[u8]
-        ensures { result.now ≡ self.now.piece }
-    {
-        &self.piece
+    fn put_step(&mut self, out: &mut Vec<u8>, step: u64) -> Result<(), AllocError> {
+        put_step(out, self.n, self.h, self.k, step)
     }
 }

@@ -53,7 +53,7 @@ pub fn write_cert(
     // Its length, line by line.
     ensures length { IfOk result (λ bytes. length bytes.items ≡ cert_length n.now.net h.now.net c.now) }
 {
-    let mut text = CertText::new(alloc, n, h, c);
+    let mut text = CertText::in_pieces(alloc, n, h, c);
     let mut bytes = Vec::new(alloc);
     while text.advance()? {
         bytes.extend_from_slice(text.piece())?;
@@ -74,7 +74,7 @@ pub fn cert_is_within(
     requires { Fits n.now.net h.now.net c.now }
     ensures { IfOk result (λ within. IsTrue within ↔ length (cert_text n.now.net h.now.net c.now) ≤ most) }
 {
-    let mut text = CertText::new(alloc, n, h, c);
+    let mut text = CertText::in_pieces(alloc, n, h, c);
     let mut room = most;
     while text.advance()? {
         let bytes = text.piece().len() as u64;

@@ -1,14 +1,8 @@
 -- A text that is made step by step.
-use Rattle.std.proofs.Common.{◌≡◌, ℕ, suc, ◌+◌, ◌-◌, ◌≤◌, List, [], ◌∷◌, ◌++◌, length, slice_get, Some, refl, sym, ap, ◌∙◌, append_assoc, arith}
-use Rattle.std.specs.List.{flat_map, range_with_len}
+use Rattle.std.proofs.Common.{◌≡◌, ℕ, suc, ◌+◌, ◌≤◌, List, [], ◌∷◌, ◌++◌, length, slice_get, Some, refl, sym, ap, ◌∙◌, append_assoc, arith}
+use Rattle.std.specs.List.{flat_map}
 use Rattle.text_pieces.specs.Steps.{from_step}
 use Rattle.text_pieces.proofs.Stepping.{step_first}
-
--- behind the last step nothing comes
-pub steps_done : (f : ℕ → List ℕ) (count k : ℕ) → count ≤ k → from_step f count k ≡ []
-steps_done f count k le =
-    let e : count - k ≡ 0 = omega (arith, le) in
-    ap (λ (m : ℕ). flat_map f (range_with_len k m)) e
 
 -- a step for each entry of a list
 pub steps_over : {A : Type 0} (f : ℕ → List ℕ) (h : A → List ℕ) (xs : List A) (count start behind : ℕ) → start + length xs ≡ behind → behind ≤ count

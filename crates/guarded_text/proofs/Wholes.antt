@@ -5,7 +5,7 @@ use Rattle.std.specs.List.{flat_map}
 use Rattle.std.proofs.lemmas.List.{append-nil}
 use Rattle.std.proofs.lemmas.Option.{get_or_from_slice_get, slice_get_within}
 use Rattle.text_pieces.specs.Steps.{from_step}
-use Rattle.text_pieces.proofs.Stepping.{step_first}
+use Rattle.text_pieces.proofs.Stepping.{step_first, steps_done}
 use Rattle.limits.specs.Most.{widest_nets}
 use Rattle.flat_net.specs.Net.{Net, Node, Design, IsDesign, IsValid, net_count, pin_total, name_of}
 use Rattle.blif_writer.specs.Length.{flat_length}
@@ -19,7 +19,7 @@ use Rattle.guarded_text.specs.Private.Spelled.{tailed, two_spelled, comparator_t
 use Rattle.guarded_text.specs.Private.Lines.{guarded_clock, copy_text, twins_text}
 use Rattle.guarded_text.specs.Private.Steps.{alarm_step, guarded_step, guarded_steps, guarded_rest}
 use Rattle.guarded_text.proofs.FlatText.{guarded_valid, text_is}
-use Rattle.guarded_text.proofs.Stepping.{steps_done, steps_over}
+use Rattle.guarded_text.proofs.Stepping.{steps_over}
 use Rattle.guarded_text.proofs.Steps.{alarm_word, alarm_name, alarm_ends, compared_output, compared_alarm, guarded_ports, guarded_twins, guarded_compared}
 
 twins : (n : Net) (i : ℕ) (x : Node) → slice_get n.nodes i ≡ Some x → guarded_step n (1 + i) ≡ twins_text n x

@@ -2,4 +2,3 @@
 pub mod Spelled
 pub mod Lines
 pub mod Steps
-pub mod Inside

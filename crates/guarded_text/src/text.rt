@@ -1,7 +1,7 @@
-//! The flat text of the guarded design, given in pieces.
-ghost use Rattle.std.specs.Prelude.{◌≡◌, ◌<◌, ◌≤◌, ◌+◌, ◌++◌, [], true, false, ℕ, length, IfOk, OnOk};
+//! The flat text of the guarded design, made step by step.
+ghost use Rattle.std.specs.Prelude.{◌≡◌, ◌≤◌, ◌+◌, ◌++◌, ℕ, length, IfOk, OnOk};
 ghost use Rattle.limits.specs.Most.{widest_nets};
-ghost use Rattle.flat_net.specs.Net.{net_count, pin_total};
+ghost use Rattle.flat_net.specs.Net.{Design, net_count, pin_total};
 ghost use Rattle.blif_writer.specs.Left.{spaced};
 ghost use Rattle.blif_writer.specs.Length.{flat_length};
 ghost use Rattle.blif_writer.specs.NetOf.{IsNetOf};
@@ -18,33 +18,28 @@ use dwc::guarded_designs_tell;
 use flat_net::{FlatNet, nodes_of};
 use std::alloc::{AllocError, Global};
 use std::marker::Model;
-use text_pieces::is_long;
+use text_pieces::{Pieces, Steps};
 use tmr_base::{NetId, OutOfMemory};
 
-/// The flat text of a guarded design, given in pieces: each input and node twice, a comparator for each output, and an
+/// The flat text of a guarded design, made step by step: each input and node twice, a comparator for each output, and an
 /// alarm, which is on exactly where the two copies of some output differ.
 ///
-/// It is made in one pass over the original, and never held whole. What stands for one node is never cut.
+/// It is made in one pass over the original. What stands for one node is never cut.
 #[derive(Drop)]
 pub struct GuardedText<'a> {
     alloc: Global,
     n: &'a FlatNet,
     control: Vec<u8>,
     rows: Vec<u8>,
-    piece: Vec<u8>,
-    next: u64,
 }
 
 impl<'a> Model for GuardedText<'a> {
-    ghost use Rattle.text_pieces.specs.InPieces.{TextInPieces};
+    ghost Value = { Design };
 
-    ghost Value = { TextInPieces };
+    ghost view = { λ t. t.n.now };
 
-    ghost use Rattle.guarded_text.specs.Private.Inside.{guarded_in_pieces, IsGuardedText};
-
-    ghost view = { guarded_in_pieces };
-
-    ghost invariant = { IsGuardedText };
+    // The clock is told as the guarded design has it.
+    ghost invariant = { λ t. t.control.items ≡ spaced (control_words (guarded_clock t.n.now.net.clock)) };
 }
 
 /// How many nodes the guarded design has.
@@ -118,35 +113,9 @@ fn put_step(
     Ok(())
 }
 
-/// Makes the piece that begins at this step. The answer is the step behind it.
-fn make_piece(
-    alloc: Global,
-    piece: &mut Vec<u8>,
-    n: &FlatNet,
-    control: &[u8],
-    rows: &mut Vec<u8>,
-    from: u64,
-) -> Result<u64, AllocError>
-    requires { control.now ≡ spaced (control_words (guarded_clock n.now.net.clock)) }
-    ensures text { IfOk result (λ next. guarded_rest n.now.net from ≡ piece.new.items ++ guarded_rest n.now.net next) }
-    ensures some { IfOk result (λ next. from < guarded_steps n.now.net → from < next) }
-    ensures within { IfOk result (λ next. next ≤ guarded_steps n.now.net) }
-{
-    piece.clear();
-    let outputs = u64::from(n.output_count());
-    let steps = u64::from(n.node_count()) + outputs + outputs + 3;
-    for step in from..steps {
-        if is_long(piece) {
-            return Ok(step);
-        }
-        put_step(alloc, piece, n, control, rows, step)?;
-    }
-    Ok(steps)
-}
-
 impl<'a> GuardedText<'a> {
     /// The text of which nothing is given yet.
-    pub fn new(alloc: Global, n: &'a FlatNet) -> Result<GuardedText<'a>, OutOfMemory>
+    pub fn in_pieces(alloc: Global, n: &'a FlatNet) -> Result<Pieces<GuardedText<'a>>, OutOfMemory>
         requires { net_count n.now.net + pin_total n.now.net ≤ widest_nets }
         ensures text { IfOk result (λ text. text.rest ≡ flat_text (guard_net n.now.net)) }
         // Its length, node by node and pin by pin.
@@ -159,39 +128,28 @@ impl<'a> GuardedText<'a> {
         let _inputs = n.input_count();
         guarded_designs_tell();
         let control = control_text(alloc, n)?;
-        Ok(GuardedText {
+        let text = GuardedText {
             alloc,
             n,
             control,
             rows: Vec::new(alloc),
-            piece: Vec::new(alloc),
-            next: 0,
-        })
+        };
+        Ok(Pieces::new(alloc, text))
+    }
+}
+
+impl Steps for GuardedText<'_> {
+    ghost in_steps = { λ d. record { rest = guarded_rest d.net; count = guarded_steps d.net } };
+
+    #[tactic(auto, using(text_pieces::proofs::Stepping::steps_done))]
+    fn count(&self) -> u64 {
+        let outputs = u64::from(self.n.output_count());
+        u64::from(self.n.node_count()) + outputs + outputs + 3
     }
 
-    /// Goes on to the next piece, and says whether there is one. After an error nothing is promised of what is given.
-    pub fn advance(&mut self) -> Result<bool, AllocError>
-        ensures next { IfOk result (λ more. more ≡ true → self.old.rest ≡ self.new.piece ++ self.new.rest) }
-        ensures fewer { IfOk result (λ more. more ≡ true → self.new.left < self.old.left) }
-        ensures end { IfOk result (λ more. more ≡ false → self.old.rest ≡ []) }
-    {
-        let next = make_piece(
-            self.alloc,
-            &mut self.piece,
-            self.n,
-            &self.control,
-            &mut self.rows,
-            self.next,
-        )?;
-        let more = self.next < next;
-        self.next = next;
-        Ok(more)
-    }
-
-    /// The piece at hand.
-    pub fn piece(&self) -> &[u8]
-        ensures { result.now ≡ self.now.piece }
-    {
-        &self.piece
+    #[tactic(auto, using(text_pieces::proofs::Stepping::step_put))]
+    fn put_step(&mut self, out: &mut Vec<u8>, step: u64) -> Result<(), AllocError> {
+        put_step(self.alloc, out, self.n, &self.control, &mut self.rows, step)?;
+        Ok(())
     }
 }

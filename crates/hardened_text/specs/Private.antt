@@ -3,4 +3,3 @@ pub mod Spelled
 pub mod Lines
 pub mod Pieces
 pub mod Steps
-pub mod Inside

@@ -1,5 +1,7 @@
-//! The text of the hardened design's certificate, given in pieces.
-ghost use Rattle.std.specs.Prelude.{◌≡◌, ◌<◌, ◌≤◌, ◌++◌, [], true, false, IfOk, OnOk};
+//! The text of the hardened design's certificate, made step by step.
+ghost use Rattle.std.specs.Prelude.{◌≡◌, ◌++◌, OnOk};
+ghost use Rattle.flat_net.specs.Free.{FreeDesign};
+ghost use Rattle.hardened_text.specs.declared.form.HardenedForm.{HardenedForm};
 ghost use Rattle.hardened_text.specs.Texts.{IsFormed, certificate_text};
 ghost use Rattle.hardened_text.specs.Private.Steps.{step_behind, certificate_step, certificate_steps, certificate_rest};
 
@@ -8,31 +10,26 @@ use crate::form::HardenedForm;
 use flat_net::{FreeNet, nodes_of};
 use std::alloc::{AllocError, Global};
 use std::marker::Model;
-use text_pieces::is_long;
+use text_pieces::{Pieces, Steps};
 use tmr_base::PartId;
 
-/// The text of a hardened design's certificate, given in pieces.
+/// The text of a hardened design's certificate, made step by step.
 ///
-/// It is never held whole. The lines of one net's voters are never cut, so that a net with many can make a piece long.
+/// The lines of one net's voters are never cut, so that a net with many can make a piece long.
 #[derive(Drop)]
 pub struct CertificateText<'a> {
     n: &'a FreeNet,
     form: &'a HardenedForm,
     head: Vec<u8>,
-    piece: Vec<u8>,
-    next: u64,
 }
 
 impl<'a> Model for CertificateText<'a> {
-    ghost use Rattle.text_pieces.specs.InPieces.{TextInPieces};
+    ghost Value = { FreeDesign × HardenedForm };
 
-    ghost Value = { TextInPieces };
+    ghost view = { λ t. (t.n.now, t.form.now) };
 
-    ghost use Rattle.hardened_text.specs.Private.Inside.{certificate_in_pieces, IsCertificateText};
-
-    ghost view = { certificate_in_pieces };
-
-    ghost invariant = { IsCertificateText };
+    // The plan is one of the design.
+    ghost invariant = { λ t. IsFormed t.n.now t.form.now };
 }
 
 /// Puts what comes so many steps behind the partitions: the line of each node, the lines of each net's voters, and the end.
@@ -88,70 +85,39 @@ fn put_step(
     Ok(())
 }
 
-/// Makes the piece that begins at this step. The answer is the step behind it.
-fn make_piece(
-    piece: &mut Vec<u8>,
-    n: &FreeNet,
-    form: &HardenedForm,
-    head: &mut Vec<u8>,
-    from: u64,
-) -> Result<u64, AllocError>
-    requires { IsFormed n.now form.now }
-    ensures text { IfOk result (λ next. certificate_rest n.now form.now from ≡ piece.new.items ++ certificate_rest n.now form.now next) }
-    ensures some { IfOk result (λ next. from < certificate_steps n.now form.now → from < next) }
-    ensures within { IfOk result (λ next. next ≤ certificate_steps n.now form.now) }
-{
-    piece.clear();
-    let net = n.net();
-    let nodes = nodes_of(net);
-    let nets = net.input_count() + nodes;
-    let steps = u64::from(form.plan.parts.count()) + u64::from(nodes) + u64::from(nets) + 2;
-    for step in from..steps {
-        if is_long(piece) {
-            return Ok(step);
-        }
-        put_step(piece, n, form, head, step)?;
-    }
-    Ok(steps)
-}
-
 impl<'a> CertificateText<'a> {
     /// The text of which nothing is given yet.
-    pub fn new(alloc: Global, n: &'a FreeNet, form: &'a HardenedForm) -> CertificateText<'a>
+    pub fn in_pieces(
+        alloc: Global,
+        n: &'a FreeNet,
+        form: &'a HardenedForm,
+    ) -> Pieces<CertificateText<'a>>
         requires { IsFormed n.now form.now }
         ensures { result.rest ≡ certificate_text n.now form.now }
     {
-        CertificateText {
+        let text = CertificateText {
             n,
             form,
             head: Vec::new(alloc),
-            piece: Vec::new(alloc),
-            next: 0,
-        }
+        };
+        Pieces::new(alloc, text)
+    }
+}
+
+impl Steps for CertificateText<'_> {
+    ghost in_steps = { λ t. record { rest = certificate_rest t.0 t.1; count = certificate_steps t.0 t.1 } };
+
+    #[tactic(auto, using(text_pieces::proofs::Stepping::steps_done))]
+    fn count(&self) -> u64 {
+        let net = self.n.net();
+        let nodes = nodes_of(net);
+        let nets = net.input_count() + nodes;
+        u64::from(self.form.plan.parts.count()) + u64::from(nodes) + u64::from(nets) + 2
     }
 
-    /// Goes on to the next piece, and says whether there is one. After an error nothing is promised of what is given.
-    pub fn advance(&mut self) -> Result<bool, AllocError>
-        ensures next { IfOk result (λ more. more ≡ true → self.old.rest ≡ self.new.piece ++ self.new.rest) }
-        ensures fewer { IfOk result (λ more. more ≡ true → self.new.left < self.old.left) }
-        ensures end { IfOk result (λ more. more ≡ false → self.old.rest ≡ []) }
-    {
-        let next = make_piece(
-            &mut self.piece,
-            self.n,
-            self.form,
-            &mut self.head,
-            self.next,
-        )?;
-        let more = self.next < next;
-        self.next = next;
-        Ok(more)
-    }
-
-    /// The piece at hand.
-    pub fn piece(&self) -> &[u8]
-        ensures { result.now ≡ self.now.piece }
-    {
-        &self.piece
+    #[tactic(auto, using(text_pieces::proofs::Stepping::step_put))]
+    fn put_step(&mut self, out: &mut Vec<u8>, step: u64) -> Result<(), AllocError> {
+        put_step(out, self.n, self.form, &mut self.head, step)?;
+        Ok(())
     }
 }

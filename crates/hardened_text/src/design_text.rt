@@ -1,8 +1,10 @@
-//! The flat text of the hardened design, given in pieces.
-ghost use Rattle.std.specs.Prelude.{◌≡◌, ◌<◌, ◌≤◌, ◌++◌, [], true, false, IfOk, OnOk};
+//! The flat text of the hardened design, made step by step.
+ghost use Rattle.std.specs.Prelude.{◌≡◌, ◌++◌, IfOk, OnOk};
+ghost use Rattle.flat_net.specs.Free.{FreeDesign};
 ghost use Rattle.blif_writer.specs.Left.{spaced};
 ghost use Rattle.blif_writer.specs.Text.{control_words};
 ghost use Rattle.triplicate.specs.Blocks.{hardened_clock};
+ghost use Rattle.hardened_text.specs.declared.form.HardenedForm.{HardenedForm};
 ghost use Rattle.hardened_text.specs.Texts.{IsFormed, design_text};
 ghost use Rattle.hardened_text.specs.Private.Steps.{design_step, design_steps, design_rest};
 
@@ -12,32 +14,27 @@ use crate::form::HardenedForm;
 use flat_net::{FreeNet, nodes_of};
 use std::alloc::{AllocError, Global};
 use std::marker::Model;
-use text_pieces::is_long;
+use text_pieces::{Pieces, Steps};
 use tmr_base::OutOfMemory;
 
-/// The flat text of a hardened design, given in pieces.
+/// The flat text of a hardened design, made step by step.
 ///
-/// It is never held whole. What stands for one net is never cut, so that a net with many voters can make a piece long.
+/// What stands for one net is never cut, so that a net with many voters can make a piece long.
 #[derive(Drop)]
 pub struct DesignText<'a> {
     n: &'a FreeNet,
     form: &'a HardenedForm,
     control: Vec<u8>,
     room: Room,
-    piece: Vec<u8>,
-    next: u64,
 }
 
 impl<'a> Model for DesignText<'a> {
-    ghost use Rattle.text_pieces.specs.InPieces.{TextInPieces};
+    ghost Value = { FreeDesign × HardenedForm };
 
-    ghost Value = { TextInPieces };
+    ghost view = { λ t. (t.n.now, t.form.now) };
 
-    ghost use Rattle.hardened_text.specs.Private.Inside.{design_in_pieces, IsDesignText};
-
-    ghost view = { design_in_pieces };
-
-    ghost invariant = { IsDesignText };
+    // The plan is one of the design, and the clock is told as the hardened design has it.
+    ghost invariant = { λ t. IsFormed t.n.now t.form.now × (t.control.items ≡ spaced (control_words (hardened_clock t.n.now.design.net.clock))) };
 }
 
 /// Puts what comes at this step: the ports first, then what stands for each net, and last the end.
@@ -70,78 +67,40 @@ fn put_step(
     Ok(())
 }
 
-/// Makes the piece that begins at this step. The answer is the step behind it.
-fn make_piece(
-    piece: &mut Vec<u8>,
-    n: &FreeNet,
-    form: &HardenedForm,
-    control: &[u8],
-    room: &mut Room,
-    from: u64,
-) -> Result<u64, AllocError>
-    requires formed { IsFormed n.now form.now }
-    requires control { control.now ≡ spaced (control_words (hardened_clock n.now.design.net.clock)) }
-    ensures text { IfOk result (λ next. design_rest n.now form.now from ≡ piece.new.items ++ design_rest n.now form.now next) }
-    ensures some { IfOk result (λ next. from < design_steps n.now → from < next) }
-    ensures within { IfOk result (λ next. next ≤ design_steps n.now) }
-{
-    piece.clear();
-    let net = n.net();
-    let nets = net.input_count() + nodes_of(net);
-    let steps = u64::from(nets) + 2;
-    for step in from..steps {
-        if is_long(piece) {
-            return Ok(step);
-        }
-        put_step(piece, n, form, control, room, step)?;
-    }
-    Ok(steps)
-}
-
 impl<'a> DesignText<'a> {
     /// The text of which nothing is given yet.
-    pub fn new(
+    pub fn in_pieces(
         alloc: Global,
         n: &'a FreeNet,
         form: &'a HardenedForm,
-    ) -> Result<DesignText<'a>, OutOfMemory>
+    ) -> Result<Pieces<DesignText<'a>>, OutOfMemory>
         requires { IsFormed n.now form.now }
         ensures { IfOk result (λ text. text.rest ≡ design_text n.now form.now) }
     {
         let control = control_text(alloc, n.net())?;
-        Ok(DesignText {
+        let text = DesignText {
             n,
             form,
             control,
             room: Room::new(alloc),
-            piece: Vec::new(alloc),
-            next: 0,
-        })
+        };
+        Ok(Pieces::new(alloc, text))
+    }
+}
+
+impl Steps for DesignText<'_> {
+    ghost in_steps = { λ t. record { rest = design_rest t.0 t.1; count = design_steps t.0 } };
+
+    #[tactic(auto, using(text_pieces::proofs::Stepping::steps_done))]
+    fn count(&self) -> u64 {
+        let net = self.n.net();
+        let nets = net.input_count() + nodes_of(net);
+        u64::from(nets) + 2
     }
 
-    /// Goes on to the next piece, and says whether there is one. After an error nothing is promised of what is given.
-    pub fn advance(&mut self) -> Result<bool, AllocError>
-        ensures next { IfOk result (λ more. more ≡ true → self.old.rest ≡ self.new.piece ++ self.new.rest) }
-        ensures fewer { IfOk result (λ more. more ≡ true → self.new.left < self.old.left) }
-        ensures end { IfOk result (λ more. more ≡ false → self.old.rest ≡ []) }
-    {
-        let next = make_piece(
-            &mut self.piece,
-            self.n,
-            self.form,
-            &self.control,
-            &mut self.room,
-            self.next,
-        )?;
-        let more = self.next < next;
-        self.next = next;
-        Ok(more)
-    }
-
-    /// The piece at hand.
-    pub fn piece(&self) -> &[u8]
-        ensures { result.now ≡ self.now.piece }
-    {
-        &self.piece
+    #[tactic(auto, using(text_pieces::proofs::Stepping::step_put))]
+    fn put_step(&mut self, out: &mut Vec<u8>, step: u64) -> Result<(), AllocError> {
+        put_step(out, self.n, self.form, &self.control, &mut self.room, step)?;
+        Ok(())
     }
 }

@@ -1,5 +1,5 @@
 -- A text that is made step by step.
-use Rattle.std.proofs.Common.{◌≡◌, ℕ, suc, ◌+◌, ◌-◌, ◌<◌, List, ◌++◌, sym, ap, ◌∙◌, append_assoc, arith}
+use Rattle.std.proofs.Common.{◌≡◌, ℕ, suc, ◌+◌, ◌-◌, ◌<◌, ◌≤◌, List, [], ◌++◌, sym, ap, ◌∙◌, append_assoc, arith}
 use Rattle.std.specs.List.{flat_map, range_with_len}
 use Rattle.text_pieces.specs.Steps.{from_step}
 
@@ -10,8 +10,14 @@ step_first f count k low =
     ap (λ (m : ℕ). flat_map f (range_with_len k m)) e
 
 -- what comes at step k is put
-pub step_put : (f : ℕ → List ℕ) (count k : ℕ) (out new total : List ℕ) → k < count → new ≡ out ++ f k
-    → total ≡ out ++ from_step f count k → total ≡ new ++ from_step f count (k + 1)
-step_put f count k out new total low put e =
-    e ∙ (ap (λ (t : List ℕ). out ++ t) (step_first f count k low)
-    ∙ (sym (append_assoc out (f k) (from_step f count (k + 1))) ∙ ap (λ (o : List ℕ). o ++ from_step f count (k + 1)) (sym put)))
+pub step_put : (f : ℕ → List ℕ) (count k : ℕ) (out new : List ℕ) → k < count → new ≡ out ++ f k
+    → new ++ from_step f count (k + 1) ≡ out ++ from_step f count k
+step_put f count k out new low put =
+    ap (λ (o : List ℕ). o ++ from_step f count (k + 1)) put
+    ∙ (append_assoc out (f k) (from_step f count (k + 1)) ∙ ap (λ (t : List ℕ). out ++ t) (sym (step_first f count k low)))
+
+-- behind the last step nothing comes
+pub steps_done : (f : ℕ → List ℕ) (count k : ℕ) → count ≤ k → from_step f count k ≡ []
+steps_done f count k le =
+    let e : count - k ≡ 0 = omega (arith, le) in
+    ap (λ (m : ℕ). flat_map f (range_with_len k m)) e

@@ -6,3 +6,7 @@ pub record TextInPieces : Type 0 where
   pub rest : List ℕ
   pub piece : List ℕ
   pub left : ℕ
+
+-- a piece with so many bytes gets no more
+abbrev pub long_piece : ℕ
+long_piece = 65536

@@ -1,9 +1,12 @@
-//! Texts that are given in pieces.
+//! Texts that are made step by step, and given in pieces.
 //!
-//! The layers above may rely on this: specs/InPieces says what is known of a text that is given in pieces, and specs/Steps
-//! what is left of one that is made step by step. `is_long` says when a piece gets no more bytes.
+//! The layers above may rely on this: what implements `Steps` makes a text step by step, and `Pieces` gives such a text in pieces. All
+//! pieces, put one behind the other, are the text, and none but the last is short. specs/Steps says what is left of a text at each step,
+//! specs/InPieces what is known of one that is given in pieces.
 #![tactic(auto)]
 
-mod piece_length;
+mod pieces;
+mod steps;
 
-pub use piece_length::is_long;
+pub use pieces::Pieces;
+pub use steps::Steps;

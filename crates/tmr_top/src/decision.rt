@@ -7,6 +7,7 @@ use certificate::CertText;
 use guarded_text::GuardedText;
 use hardened_text::{CertificateText, DesignText};
 use std::alloc::Global;
+use text_pieces::Pieces;
 use tmr_base::OutOfMemory;
 
 /// What a command comes to by what its files hold.
@@ -21,10 +22,10 @@ pub enum Verdict {
 #[derive(Drop)]
 pub enum SavedText<'t> {
     Whole(Vec<u8>),
-    Design(DesignText<'t>),
-    Certificate(CertificateText<'t>),
-    Found(CertText<'t>),
-    Guarded(GuardedText<'t>),
+    Design(Pieces<DesignText<'t>>),
+    Certificate(Pieces<CertificateText<'t>>),
+    Found(Pieces<CertText<'t>>),
+    Guarded(Pieces<GuardedText<'t>>),
 }
 
 /// A text to be saved, and the name that it is saved under.

@@ -6,7 +6,7 @@ ghost use Rattle.tmr_top.specs.Private.Saved.{Saves, IsSaveStop};
 ghost use Rattle.tmr_top.specs.Private.Works.{save_names, save_texts, text_of};
 
 use crate::decision::{Save, SavedText};
-use crate::givers::{CertificateGiver, DesignGiver, FoundGiver, GuardedGiver};
+use crate::givers::TextGiver;
 use tmr_outside::{Files, SaveFault};
 
 /// Why saves came to no end, and at the file of which name.
@@ -23,10 +23,10 @@ fn save_text<F: Files>(files: &mut F, name: &str, text: SavedText<'_>) -> Result
 {
     match text {
         SavedText::Whole(bytes) => files.save(name, &bytes),
-        SavedText::Design(text) => files.save_pieces(name, &mut DesignGiver { text }),
-        SavedText::Certificate(text) => files.save_pieces(name, &mut CertificateGiver { text }),
-        SavedText::Found(text) => files.save_pieces(name, &mut FoundGiver { text }),
-        SavedText::Guarded(text) => files.save_pieces(name, &mut GuardedGiver { text }),
+        SavedText::Design(text) => files.save_pieces(name, &mut TextGiver { text }),
+        SavedText::Certificate(text) => files.save_pieces(name, &mut TextGiver { text }),
+        SavedText::Found(text) => files.save_pieces(name, &mut TextGiver { text }),
+        SavedText::Guarded(text) => files.save_pieces(name, &mut TextGiver { text }),
     }
 }
 

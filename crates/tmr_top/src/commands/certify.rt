@@ -50,7 +50,7 @@ fn tell_short<'n, 't>(
     )?;
     let original = designs.original.net();
     let hardened = designs.hardened.net();
-    let made = CertText::new(alloc, original, hardened, found);
+    let made = CertText::in_pieces(alloc, original, hardened, found);
     saving_made(alloc, words.certificate, SavedText::Found(made), text)
 }
 

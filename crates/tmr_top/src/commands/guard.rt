@@ -45,7 +45,7 @@ fn tell<'n, 't>(
 {
     text_keeps_limit(words, design);
     let net = design.net();
-    let guarded = GuardedText::new(alloc, net)?;
+    let guarded = GuardedText::in_pieces(alloc, net)?;
     let text = guard_made(alloc, net, guarded_nodes(net), design.free_count())?;
     saving_made(alloc, words.guarded, SavedText::Guarded(guarded), text)
 }

@@ -82,8 +82,8 @@ fn tell_form<'n, 't>(
 {
     texts_keep_limits(words, n, made);
     let text = form_text(alloc, words, n, made)?;
-    let design = DesignText::new(alloc, n, made)?;
-    let certificate = CertificateText::new(alloc, n, made);
+    let design = DesignText::in_pieces(alloc, n, made)?;
+    let certificate = CertificateText::in_pieces(alloc, n, made);
     let mut saves = Vec::new(alloc);
     saves.push(Save {
         name: words.hardened,

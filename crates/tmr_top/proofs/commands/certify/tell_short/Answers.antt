@@ -13,12 +13,12 @@ returns c =
     let n = c.args.designs.now.original.design.net in
     let h = c.args.designs.now.hardened.design.net in
     let k = c.args.found.now in
-    let bytes : List ℕ = c.new-made.result.rest in
+    let bytes : List ℕ = c.in_pieces-made.result.rest in
     let written : bytes ≡ cert_text n h k =
-    c.new-made.ensures.text ∙ (ap (λ (d : Design). cert_text d.net c.net-hardened.result.now.net k) c.net-original.ensures.net ∙ ap (λ (d : Design). cert_text n d.net k) c.net-hardened.ensures.net) in
+    c.in_pieces-made.ensures.text ∙ (ap (λ (d : Design). cert_text d.net c.net-hardened.result.now.net k) c.net-original.ensures.net ∙ ap (λ (d : Design). cert_text n d.net k) c.net-hardened.ensures.net) in
     let read : cert_of_text n h (cert_text n h k) ≡ Ok k =
     subst (λ (d : Design). cert_of_text n d.net (cert_text n d.net k) ≡ Ok k) c.net-hardened.ensures.net
-    (subst (λ (d : Design). cert_of_text d.net c.net-hardened.result.now.net (cert_text d.net c.net-hardened.result.now.net k) ≡ Ok k) c.net-original.ensures.net c.new-made.ensures.read) in
+    (subst (λ (d : Design). cert_of_text d.net c.net-hardened.result.now.net (cert_text d.net c.net-hardened.result.now.net k) ≡ Ok k) c.net-original.ensures.net c.in_pieces-made.ensures.read) in
     let read_bytes : cert_of_text n h bytes ≡ Ok k = subst (λ (t : List ℕ). cert_of_text n h t ≡ Ok k) (sym written) read in
     let short : length bytes ≤ most_hardened c.args.words.now.limits = subst (λ (t : List ℕ). length t ≤ most_hardened c.args.words.now.limits) (sym written) c.requires.short in
     if_ok c.saving_made.result _ _ (λ w is. done_over _ _ _ _ _ w is refl (λ t e. cc)

@@ -26,9 +26,9 @@ returns c =
     let design_short : length design ≤ most_hardened w.limits = limits.design a.pair.net.free in
     let certificate_short : length certificate ≤ most_hardened w.limits = limits.certificate in
     let one : Save = record { name = c.args.words.now.hardened; text = saved.Design c.in_ok-design.design } in
-    let other : Save = record { name = c.args.words.now.certificate; text = saved.Certificate c.new-certificate.result } in
+    let other : Save = record { name = c.args.words.now.certificate; text = saved.Certificate c.in_pieces-certificate.result } in
     let saves = c.in_ok-push-2.ensures.items ∙ ap (λ (s : List Save). s ++ other ∷ []) (c.in_ok-push.ensures.items ∙ ap (λ (s : List Save). s ++ one ∷ []) c.new-saves.ensures.items) in
-    let texts = ap save_texts saves ∙ (ap (λ (t : List ℕ). t ∷ c.new-certificate.result.rest ∷ []) (c.in_ok-design.ensures ∙ a.design) ∙ ap (λ (t : List ℕ). design ∷ t ∷ []) (c.new-certificate.ensures ∙ a.certificate)) in
+    let texts = ap save_texts saves ∙ (ap (λ (t : List ℕ). t ∷ c.in_pieces-certificate.result.rest ∷ []) (c.in_ok-design.ensures ∙ a.design) ∙ ap (λ (t : List ℕ). design ∷ t ∷ []) (c.in_pieces-certificate.ensures ∙ a.certificate)) in
     done_over _ _ _ _ _ _ (record { done = refl; names_are = ap save_names saves; texts_are = texts; says = refl }) refl (no_trial w)
     (λ held holds. hardened_outcome held (hardening_in c.args.words.now) n a.pair.net.design.net c.args.n.now.free a.pair.net.free a.pair.cert c.args.made.now.minimal design certificate _ holds a.bounded.form a.bounded.unbounded (few_pins w.limits _ within.few) (c.texts_keep_limits.ensures.short a)
     (subst (λ (m : Bool). IsTrue m ↔ IsMinimal n c.args.words.now.size (parts_of a.pair.cert)) (sym a.minimal) a.bounded.minimal)

@@ -4,10 +4,10 @@ use Rattle.certificate.proofs.Lengths.{text_length}
 use Rattle.certificate.proofs.RoundTrip.{fold_of_text_again}
 use Rattle.certificate.proofs.Same.{same_reading}
 use Rattle.certificate.proofs.Stepping.{all_left}
-use Rattle.certificate.proofs.cert_text.CertText.new.Goals as goal
+use Rattle.certificate.proofs.cert_text.CertText.in_pieces.Goals as goal
 
 pub returns-clause-text : goal.returns-clause-text
-returns-clause-text c = all_left c.args.n.now.net c.args.h.now.net c.args.k.now
+returns-clause-text c = c.new.ensures ∙ all_left c.args.n.now.net c.args.h.now.net c.args.k.now
 
 pub returns-clause-read : goal.returns-clause-read
 returns-clause-read c =

@@ -1,9 +1,0 @@
-use Rattle.std.proofs.Common.{◌≡◌, [], ◌++◌}
-use Rattle.hardened_text.specs.Private.Steps.{design_rest}
-use Rattle.hardened_text.proofs.design_text.make_piece.Given as goal
-
--- what is put so far is what came since the piece began, and at its beginning that is nothing
-abbrev pub invariant-loop-step : goal.invariant-loop-step
-invariant-loop-step l =
-    (design_rest l.n l.form l.from ≡ l.piece.items ++ design_rest l.n l.form l.step)
-    × (l.step ≡ l.from → l.piece.items ≡ [])
