@@ -22,23 +22,11 @@ struct Clusters {
     weighed: u32,
 }
 
-/// The groups of a level joined. They are joined so for each limit that is no smaller than `least`.
+/// The groups of a level joined, and how many nodes the largest cluster holds that was weighed.
 #[derive(Drop)]
 pub struct Joined {
     pub of: Numbering,
-    pub least: u32,
-}
-
-/// The least limit from which on the groups are joined as they are, where the largest cluster that was weighed holds so many nodes: `most` was
-/// the limit, or the cap where that is smaller.
-fn least_limit(weighed: u32, most: u32, cap: u32) -> u32 {
-    if weighed <= cap {
-        weighed
-    } else if cap <= most {
-        cap
-    } else {
-        u32::MAX
-    }
+    pub weighed: u32,
 }
 
 /// Raises the rates of the clusters that a net of group v touches, by a whole number: nets of few groups tie most.
@@ -114,13 +102,8 @@ fn join_group(level: &Level, c: &mut Clusters, v: u32, most: u32) -> Result<(), 
     Ok(())
 }
 
-/// The groups of a level joined to clusters of at most `most` nodes, and of no more than `cap`.
-pub fn join_groups(
-    alloc: Global,
-    level: &Level,
-    most: u32,
-    cap: u32,
-) -> Result<Joined, OutOfMemory> {
+/// The groups of a level joined to clusters of at most `most` nodes.
+pub fn join_groups(alloc: Global, level: &Level, most: u32) -> Result<Joined, OutOfMemory> {
     let groups = count(level.sizes.as_slice());
     let leaders = (0..groups).collect(alloc)?;
     let sizes = level.sizes.clone()?;
@@ -133,11 +116,11 @@ pub fn join_groups(
         weighed: 0,
     };
     for v in 0..groups {
-        join_group(level, &mut clusters, v, most.min(cap))?;
+        join_group(level, &mut clusters, v, most)?;
     }
     let of = numbering_of(alloc, clusters.leaders.as_slice())?;
     Ok(Joined {
         of,
-        least: least_limit(clusters.weighed, most, cap),
+        weighed: clusters.weighed,
     })
 }

@@ -15,11 +15,11 @@ use tmr_base::OutOfMemory;
 pub const MOST_FOLLOWED: usize = 72;
 
 /// The groups of one level. A net is one node's; it touches the group that holds the node and those that hold its readers. `below` has
-/// the group of each group of the level below. On the lowest level each node is a group. Groups of the level below are
-/// joined so for each limit that is no smaller than `least`.
+/// the group of each group of the level below. On the lowest level each node is a group. `weighed` tells how many nodes the largest cluster
+/// holds that was weighed as groups of the level below were joined: they are joined so for each limit that is no smaller.
 #[derive(Drop)]
 pub struct Level {
-    pub least: u32,
+    pub weighed: u32,
     pub below: Vec<u32>,
     pub sizes: Vec<u32>,
     pub nets: Graph,
@@ -93,7 +93,7 @@ pub fn lowest_level(alloc: Global, n: &FlatNet) -> Result<Level, OutOfMemory> {
     let nets = net_rows(alloc, n)?;
     let nets_of = turned(alloc, &nets, nodes)?;
     Ok(Level {
-        least: 0,
+        weighed: 0,
         below: Vec::new(alloc),
         sizes,
         nets,
@@ -112,12 +112,15 @@ fn joined_sizes(alloc: Global, sizes: &[u32], joined: &Numbering) -> Result<Vec<
 
 /// The level above, whose groups are these joined so. A net that touches one group of this level alone is left out there.
 pub fn level_above(alloc: Global, level: &Level, joined: Joined) -> Result<Level, OutOfMemory> {
-    let Joined { of: joined, least } = joined;
+    let Joined {
+        of: joined,
+        weighed,
+    } = joined;
     let sizes = joined_sizes(alloc, level.sizes.as_slice(), &joined)?;
     let nets_of = rows_by_group(alloc, &level.nets, 2, joined.of.as_slice(), joined.count)?;
     let nets = turned(alloc, &nets_of, row_count(&level.nets))?;
     Ok(Level {
-        least,
+        weighed,
         below: joined.of,
         sizes,
         nets,

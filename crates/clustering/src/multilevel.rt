@@ -2,12 +2,12 @@
 ghost use Rattle.std.specs.Prelude.{◌<◌, IfOk};
 ghost use Rattle.partitioner.specs.Sizes.{KeepsSize};
 
-use crate::effort::{cap_at, passes_at};
+use crate::effort::passes_for;
 use crate::filling::filled;
 use crate::joining::join_groups;
 use crate::levels::{Level, level_above, lowest_level};
 use crate::moving::move_groups;
-use crate::numbers::{at, count};
+use crate::numbers::at;
 use crate::settling::settled_parts;
 use flat_net::{FlatNet, nodes_of};
 use std::alloc::Global;
@@ -17,13 +17,8 @@ use tmr_base::{OutOfMemory, Parts};
 const MOST_LEVELS: u32 = 16;
 
 /// The level above, if it has at least one in twenty groups fewer.
-fn next_level(
-    alloc: Global,
-    level: &Level,
-    most: u32,
-    cap: u32,
-) -> Result<Option<Level>, OutOfMemory> {
-    let joined = join_groups(alloc, level, most, cap)?;
+fn next_level(alloc: Global, level: &Level, most: u32) -> Result<Option<Level>, OutOfMemory> {
+    let joined = join_groups(alloc, level, most)?;
     let groups = level.sizes.len();
     if joined.of.count as usize >= groups - groups / 20 {
         return Ok(None);
@@ -32,21 +27,12 @@ fn next_level(
     Ok(Some(above))
 }
 
-/// How many nodes the design has: as many as the lowest level has groups.
-fn nodes_in(levels: &[Level]) -> u32 {
-    match levels.first() {
-        Some(lowest) => count(lowest.sizes.as_slice()),
-        None => 0,
-    }
-}
-
 /// Puts the level above the last one behind it, if there is one. Says whether there is.
 fn push_level(alloc: Global, levels: &mut Vec<Level>, most: u32) -> Result<bool, OutOfMemory> {
-    let cap = cap_at(levels.len(), nodes_in(levels.as_slice()));
     let Some(last) = levels.last() else {
         return Ok(false);
     };
-    let Some(above) = next_level(alloc, last, most, cap)? else {
+    let Some(above) = next_level(alloc, last, most)? else {
         return Ok(false);
     };
     levels.push(above)?;
@@ -56,7 +42,7 @@ fn push_level(alloc: Global, levels: &mut Vec<Level>, most: u32) -> Result<bool,
 /// How many levels, from the lowest up, would be the same where groups of at most `most` nodes are joined.
 fn same_levels(levels: &[Level], most: u32) -> usize {
     for k in 0..levels.len() {
-        if levels[k].least > most {
+        if levels[k].weighed > most {
             return k;
         }
     }
@@ -96,22 +82,22 @@ fn handed_down(alloc: Global, below: &[u32], of: &[u32]) -> Result<Vec<u32>, Out
     Ok(lower)
 }
 
-/// The partitions of the nodes: the groups of the highest level fill them, and those of each level move.
-fn wanted(alloc: Global, levels: &[Level], size: u32, parts: u32) -> Result<Vec<u32>, OutOfMemory> {
+/// The partitions of the nodes: the groups of the highest level fill them, and those of each level move in so many passes.
+fn wanted(
+    alloc: Global,
+    levels: &[Level],
+    size: u32,
+    parts: u32,
+    passes: u32,
+) -> Result<Vec<u32>, OutOfMemory> {
     let room = size.saturating_add(size / 4);
-    let nodes = nodes_in(levels);
-    let highest = levels.len().saturating_sub(1);
     let mut of = Vec::new(alloc);
     if let Some(highest) = levels.last() {
         of = filled(alloc, highest, size)?;
     }
     for k in 1..levels.len() {
-        let number = levels.len() - k;
-        let level = &levels[number];
-        let passes = passes_at(number, highest, nodes);
-        if passes > 0 {
-            move_groups(alloc, level, &mut of, parts, room, passes)?;
-        }
+        let level = &levels[levels.len() - k];
+        move_groups(alloc, level, &mut of, parts, room, passes)?;
         of = handed_down(alloc, level.below.as_slice(), of.as_slice())?;
     }
     Ok(of)
@@ -128,8 +114,8 @@ pub fn clusters(alloc: Global, n: &FlatNet, size: u32) -> Result<Parts, OutOfMem
     Ok(parts)
 }
 
-/// The same from levels that `levels_of` gave, or that an earlier call left. It leaves those levels that are the same
-/// for every size that is no smaller.
+/// The same from levels that `levels_of` gave, or that an earlier call left. It leaves those levels that hang on no size: no group was too
+/// large to be joined there, so they are the same for a size that is no smaller.
 pub fn clusters_from(
     alloc: Global,
     n: &FlatNet,
@@ -143,7 +129,13 @@ pub fn clusters_from(
     let most = size / 4;
     keep_levels(levels, most);
     add_levels(alloc, levels, most)?;
-    let wanted = wanted(alloc, levels.as_slice(), size, nodes.div_ceil(size))?;
+    let wanted = wanted(
+        alloc,
+        levels.as_slice(),
+        size,
+        nodes.div_ceil(size),
+        passes_for(nodes),
+    )?;
     keep_levels(levels, most);
     let parts = settled_parts(alloc, n, wanted.as_slice(), size)?;
     Ok(parts)
