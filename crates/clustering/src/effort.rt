@@ -1,10 +1,13 @@
 //! How much work a design is worth.
+ghost use Rattle.std.specs.Prelude.{◌≡◌, nat_lt};
 
 /// A design of more nodes is large. It gets less work for each node: docs/DECISIONS.md says why, and what that costs.
 const MOST_NODES: u32 = 16_384;
 
 /// A design of so many nodes is large.
-pub fn is_large(nodes: u32) -> bool {
+pub fn is_large(nodes: u32) -> bool
+    ensures { result ≡ nat_lt 16384 nodes }
+{
     nodes > MOST_NODES
 }
 

@@ -25,11 +25,13 @@ AreCounted n p i gains level w bias lanes j =
 
 -- partition a is as good for node i as those of the 64 lanes from `first` on whose bits are not set
 abbrev pub AreShut : Net → Partitioning → ℕ → Level → ℕ → ℕ → ℕ → Type 0
-AreShut n p i level first chosen a = (c q : ℕ) → c < 64 → q < p.count → lane_of level q ≡ first + c → word_bit c chosen ≡ false → Leads n p i a q
+AreShut n p i level first chosen a =
+    (c q : ℕ) → c < 64 → q < p.count → lane_of level q ≡ first + c → word_bit c chosen ≡ false → Leads n p i a q
 
 -- partition a is as good for node i as those of so many lanes from `first` on that have room
 abbrev pub AreTried : Net → ℕ → Partitioning → ℕ → Level → ℕ → ℕ → ℕ → Type 0
-AreTried n size p i level first lanes a = (c q : ℕ) → c < lanes → q < p.count → lane_of level q ≡ first + c → LeadsOpen n size p i a q
+AreTried n size p i level first lanes a =
+    (c q : ℕ) → c < lanes → q < p.count → lane_of level q ≡ first + c → LeadsOpen n size p i a q
 
 -- a partition from `first` on in which fewer are near than needed does not take the lead, where at most `most` more are near than these and
 -- the node reads `all`
