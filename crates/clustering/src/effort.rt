@@ -11,6 +11,16 @@ pub fn is_large(nodes: u32) -> bool
     nodes > MOST_NODES
 }
 
+/// How many nodes a group of a level holds at most, whatever the size of partitions, where the lowest level is level 0. In a large design that
+/// is eight times as many on each level: so a level is the same for all sizes that allow so many, and is made once for them.
+pub fn most_on_level(nodes: u32, level: usize) -> u32 {
+    if is_large(nodes) && level <= 10 {
+        1u32 << (3 * level as u32)
+    } else {
+        u32::MAX
+    }
+}
+
 /// How many passes of moves the groups of each level get in a design of so many nodes. More than two bring next to nothing, since the levels
 /// below move on.
 pub fn passes_for(nodes: u32) -> u32 {

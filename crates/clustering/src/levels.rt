@@ -16,7 +16,8 @@ pub const MOST_FOLLOWED: usize = 72;
 
 /// The groups of one level. A net is one node's; it touches the group that holds the node and those that hold its readers. `below` has
 /// the group of each group of the level below. On the lowest level each node is a group. `weighed` tells how many nodes the largest cluster
-/// holds that was weighed as groups of the level below were joined: they are joined so for each limit that is no smaller.
+/// holds that was weighed as groups of the level below were joined, or how many it may hold on this level, if that is fewer: they are joined
+/// so for each limit that is no smaller.
 #[derive(Drop)]
 pub struct Level {
     pub weighed: u32,
@@ -110,8 +111,14 @@ fn joined_sizes(alloc: Global, sizes: &[u32], joined: &Numbering) -> Result<Vec<
     Ok(together)
 }
 
-/// The level above, whose groups are these joined so. A net that touches one group of this level alone is left out there.
-pub fn level_above(alloc: Global, level: &Level, joined: Joined) -> Result<Level, OutOfMemory> {
+/// The level above, whose groups are these joined so, where none was to hold more than `own` nodes for any limit. A net that touches one group
+/// of this level alone is left out there.
+pub fn level_above(
+    alloc: Global,
+    level: &Level,
+    joined: Joined,
+    own: u32,
+) -> Result<Level, OutOfMemory> {
     let Joined {
         of: joined,
         weighed,
@@ -120,7 +127,7 @@ pub fn level_above(alloc: Global, level: &Level, joined: Joined) -> Result<Level
     let nets_of = rows_by_group(alloc, &level.nets, 2, joined.of.as_slice(), joined.count)?;
     let nets = turned(alloc, &nets_of, row_count(&level.nets))?;
     Ok(Level {
-        weighed,
+        weighed: weighed.min(own),
         below: joined.of,
         sizes,
         nets,

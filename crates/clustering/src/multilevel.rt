@@ -2,7 +2,7 @@
 ghost use Rattle.std.specs.Prelude.{◌<◌, IfOk};
 ghost use Rattle.partitioner.specs.Sizes.{KeepsSize};
 
-use crate::effort::passes_for;
+use crate::effort::{most_on_level, passes_for};
 use crate::filling::filled;
 use crate::joining::join_groups;
 use crate::levels::{Level, level_above, lowest_level};
@@ -16,23 +16,35 @@ use tmr_base::{OutOfMemory, Parts};
 /// At most so many levels stand on the lowest.
 const MOST_LEVELS: u32 = 16;
 
-/// The level above, if it has at least one in twenty groups fewer.
-fn next_level(alloc: Global, level: &Level, most: u32) -> Result<Option<Level>, OutOfMemory> {
-    let joined = join_groups(alloc, level, most)?;
+/// The level above, if it has at least one in twenty groups fewer. Its groups hold at most `most` nodes, and at most `own`, which hangs on no
+/// size: it is the same for each size that allows so many.
+fn next_level(
+    alloc: Global,
+    level: &Level,
+    most: u32,
+    own: u32,
+) -> Result<Option<Level>, OutOfMemory> {
+    let joined = join_groups(alloc, level, most.min(own))?;
     let groups = level.sizes.len();
     if joined.of.count as usize >= groups - groups / 20 {
         return Ok(None);
     }
-    let above = level_above(alloc, level, joined)?;
+    let above = level_above(alloc, level, joined, own)?;
     Ok(Some(above))
 }
 
 /// Puts the level above the last one behind it, if there is one. Says whether there is.
-fn push_level(alloc: Global, levels: &mut Vec<Level>, most: u32) -> Result<bool, OutOfMemory> {
+fn push_level(
+    alloc: Global,
+    levels: &mut Vec<Level>,
+    nodes: u32,
+    most: u32,
+) -> Result<bool, OutOfMemory> {
+    let own = most_on_level(nodes, levels.len());
     let Some(last) = levels.last() else {
         return Ok(false);
     };
-    let Some(above) = next_level(alloc, last, most)? else {
+    let Some(above) = next_level(alloc, last, most, own)? else {
         return Ok(false);
     };
     levels.push(above)?;
@@ -56,10 +68,15 @@ fn keep_levels(levels: &mut Vec<Level>, most: u32) {
 }
 
 /// Puts all levels, of groups of at most `most` nodes, behind those that are there.
-fn add_levels(alloc: Global, levels: &mut Vec<Level>, most: u32) -> Result<(), OutOfMemory> {
+fn add_levels(
+    alloc: Global,
+    levels: &mut Vec<Level>,
+    nodes: u32,
+    most: u32,
+) -> Result<(), OutOfMemory> {
     for made in 0..MOST_LEVELS {
         let _made = made;
-        if levels.len() > MOST_LEVELS as usize || !push_level(alloc, levels, most)? {
+        if levels.len() > MOST_LEVELS as usize || !push_level(alloc, levels, nodes, most)? {
             return Ok(());
         }
     }
@@ -128,7 +145,7 @@ pub fn clusters_from(
     let nodes = nodes_of(n);
     let most = size / 4;
     keep_levels(levels, most);
-    add_levels(alloc, levels, most)?;
+    add_levels(alloc, levels, nodes, most)?;
     let wanted = wanted(
         alloc,
         levels.as_slice(),

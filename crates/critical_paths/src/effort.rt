@@ -2,12 +2,13 @@
 
 use clustering::is_large;
 
-/// So many times it is found out anew which registers are fed back, and so many rounds follow each. No further trial is made for a path when
-/// the trials of its round have computed `levels` levels.
+/// So many times it is found out anew which registers are fed back, and so many rounds follow each, fewer where `idle` rounds one after the
+/// other changed nothing. No further trial is made for a path when the trials of its round have computed `levels` levels.
 #[derive(Clone, Copy, Drop)]
 pub struct Effort {
     pub spells: u32,
     pub rounds: u32,
+    pub idle: u32,
     pub levels: u32,
 }
 
@@ -17,12 +18,14 @@ pub fn effort_for(nodes: u32) -> Effort {
         Effort {
             spells: 1,
             rounds: 64,
+            idle: 8,
             levels: 10_000,
         }
     } else {
         Effort {
             spells: 8,
             rounds: 8,
+            idle: 8,
             levels: 40_000,
         }
     }

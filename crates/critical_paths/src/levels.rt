@@ -20,8 +20,8 @@ pub struct Change {
 }
 
 /// For each node how many tables and voters stand on the longest path to it, the node itself counted if it is a table; what it gives to its
-/// readers: the same, or 0 if it is a register; and whether it is a register that is fed back. `worst` is the worst level of a path's end when the round began, and `weight` the weight of all ends.
-/// `changes` tells what a trial changed, `waiting` has the ranks of nodes whose level is to be computed, and `computed` counts those that
+/// readers: the same, or 0 if it is a register; and whether it is a register that is fed back. `worst` is the worst level of a path's end when the round began, `worst_ends` how many ends had it, and
+/// `weight` the weight of all ends. `changes` tells what a trial changed, `waiting` has the ranks of nodes whose level is to be computed, and `computed` counts those that
 /// were, `spent` in all trials of a round.
 #[derive(Drop)]
 pub struct Levels {
@@ -29,6 +29,7 @@ pub struct Levels {
     pub given: Vec<u32>,
     pub fed: Vec<bool>,
     pub worst: u32,
+    pub worst_ends: u32,
     pub weight: u64,
     pub changes: Vec<Change>,
     pub waiting: BinaryHeap<Reverse<u32>>,
@@ -128,19 +129,21 @@ fn worst_level(circuit: &Circuit, levels: &Levels) -> u32 {
     worst
 }
 
-/// Begins a round: finds the worst level of an end, and the weight of all ends.
+/// Finds the worst level of an end, how many ends have it, and the weight of all ends.
 pub fn weigh_ends(circuit: &Circuit, levels: &mut Levels) {
     let worst = worst_level(circuit, levels);
+    let mut worst_ends: u32 = 0;
     let mut weight: u64 = 0;
     for y in &circuit.ends {
         let level = at(levels.of.as_slice(), *y);
         if level.saturating_add(SEEN) >= worst {
             weight = weight.saturating_add(end_weight(worst, level, ends_at(circuit, *y)));
+            worst_ends = worst_ends.saturating_add(u32::from(level == worst));
         }
     }
     levels.worst = worst;
+    levels.worst_ends = worst_ends;
     levels.weight = weight;
-    levels.spent = 0;
 }
 
 /// The level of node x, and of those that read it, is to be computed.

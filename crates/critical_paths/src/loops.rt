@@ -1,7 +1,7 @@
 //! Which nodes stand on loops together.
 
 use crate::design::bit;
-use clustering::numbers::{at, put, row, row_count};
+use clustering::numbers::{at, count, put, row, row_count};
 use graph::Graph;
 use std::alloc::Global;
 use tmr_base::OutOfMemory;
@@ -71,25 +71,31 @@ fn leave(walk: &mut Walk, x: u32) {
     }
 }
 
-/// Follows the read of node x that names node y, if both stand in one part and in one group of `whole`.
-fn follow(
+/// Follows the reads of node x from number `from` on, as far as they lead to nodes in its part and in its group of `whole` that were entered.
+/// Gives the number of the first that leads to one that was not, or how many there are.
+fn follow_reads(
     walk: &mut Walk,
+    reads: &[u32],
     parts: &[u32],
     whole: &[u32],
     x: u32,
-    y: u32,
-) -> Result<(), OutOfMemory> {
-    if at(parts, x) != at(parts, y) || at(whole, x) != at(whole, y) {
-        return Ok(());
+    from: u32,
+) -> u32 {
+    let part = at(parts, x);
+    let group = at(whole, x);
+    for k in from..count(reads) {
+        let y = at(reads, k);
+        if at(parts, y) == part && at(whole, y) == group {
+            let time = at(walk.times.as_slice(), y);
+            if time == 0 {
+                return k;
+            }
+            if at(walk.groups.as_slice(), y) == NONE {
+                lower(walk, x, time);
+            }
+        }
     }
-    let time = at(walk.times.as_slice(), y);
-    if time == 0 {
-        return enter(walk, y);
-    }
-    if at(walk.groups.as_slice(), y) == NONE {
-        lower(walk, x, time);
-    }
-    Ok(())
+    count(reads)
 }
 
 /// Goes on from the end of the path.
@@ -101,16 +107,17 @@ fn go_on(
     step: Step,
 ) -> Result<(), OutOfMemory> {
     let reads = row(sources, step.node);
-    if step.next as usize >= reads.len() {
+    let next = follow_reads(walk, reads, parts, whole, step.node, step.next);
+    if next >= count(reads) {
         leave(walk, step.node);
         return Ok(());
     }
     let _old = walk.path.pop();
     walk.path.push(Step {
         node: step.node,
-        next: step.next.saturating_add(1),
+        next: next.saturating_add(1),
     })?;
-    follow(walk, parts, whole, step.node, at(reads, step.next))
+    enter(walk, at(reads, next))
 }
 
 /// Enters node x, and all that it leads to.

@@ -36,7 +36,7 @@ struct Place {
 
 /// Nodes that may leave the partitions on a path. The first node of each partition and the next one behind each node are kept in
 /// `first` and `next`. `leavers` has the cheapest of each partition that was asked for, `from` where they begin and `kept` how many
-/// they are; `asked` tells the last round in which it was asked for, and `listed` whether the nodes were listed in this one.
+/// they are; `asked` tells the last round in which it was asked for, and `listed` whether the nodes were listed since some moved.
 #[derive(Drop)]
 pub struct Rooms {
     pub first: Vec<u32>,
@@ -68,14 +68,16 @@ pub fn no_rooms(alloc: Global, nodes: u32, parts: u32) -> Result<Rooms, OutOfMem
     })
 }
 
-/// Begins a round, in which nothing was asked for.
-pub fn begin_round(rooms: &mut Rooms) {
+/// Begins a round, in which nothing was asked for. The nodes are listed anew where some moved since the round before.
+pub fn begin_round(rooms: &mut Rooms, moved: bool) {
     rooms.round = rooms.round.saturating_add(1);
     rooms.leavers.clear();
-    rooms.listed = false;
+    if moved {
+        rooms.listed = false;
+    }
 }
 
-/// Lists the nodes of each partition, unless that was done in this round.
+/// Lists the nodes of each partition, unless that was done since some moved.
 fn list_members(rooms: &mut Rooms, parts: &[u32]) {
     if rooms.listed {
         return;

@@ -46,6 +46,7 @@ fn no_levels(alloc: Global, nodes: u32) -> Result<Levels, OutOfMemory> {
         given: vec![in alloc; 0u32; nodes as usize]?,
         fed: Vec::new(alloc),
         worst: 0,
+        worst_ends: 0,
         weight: 0,
         changes: Vec::new(alloc),
         waiting: BinaryHeap::new(alloc),
@@ -84,11 +85,15 @@ fn begin_spell(alloc: Global, circuit: &Circuit, s: &mut Search) -> Result<(), O
     Ok(())
 }
 
-/// One round: the best trial at a worst path is made, if one is worth it. Says whether it was.
-fn round(circuit: &Circuit, s: &mut Search) -> Result<bool, OutOfMemory> {
-    weigh_ends(circuit, &mut s.levels);
+/// One round: the best trial at a worst path is made, if one is worth it. Says whether it was. Where nothing moved since the round before, the
+/// ends weigh what they did.
+fn round(circuit: &Circuit, s: &mut Search, moved: bool) -> Result<bool, OutOfMemory> {
+    if moved {
+        weigh_ends(circuit, &mut s.levels);
+    }
+    s.levels.spent = 0;
     follow_worst(circuit, &s.levels, s.placing.of.as_slice(), &mut s.path)?;
-    begin_round(&mut s.rooms);
+    begin_round(&mut s.rooms, moved);
     make_best(circuit, s)
 }
 
@@ -96,9 +101,16 @@ fn round(circuit: &Circuit, s: &mut Search) -> Result<bool, OutOfMemory> {
 fn spell(alloc: Global, circuit: &Circuit, s: &mut Search) -> Result<bool, OutOfMemory> {
     begin_spell(alloc, circuit, s)?;
     let mut made = false;
+    let mut idle: u32 = 0;
     for _turn in 0..s.effort.rounds {
-        if round(circuit, s)? {
+        if idle >= s.effort.idle {
+            return Ok(made);
+        }
+        if round(circuit, s, idle == 0)? {
             made = true;
+            idle = 0;
+        } else {
+            idle = idle.saturating_add(1);
         }
     }
     Ok(made)

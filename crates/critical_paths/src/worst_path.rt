@@ -30,13 +30,7 @@ fn is_worst(levels: &Levels, y: u32) -> bool {
 
 /// One of the ends of the worst level.
 fn worst_end(circuit: &Circuit, levels: &Levels, path: &mut Path) -> Option<u32> {
-    let mut ends: u32 = 0;
-    for y in &circuit.ends {
-        if is_worst(levels, *y) {
-            ends = ends.saturating_add(1);
-        }
-    }
-    let mut left = chosen(path, ends);
+    let mut left = chosen(path, levels.worst_ends);
     for y in &circuit.ends {
         if is_worst(levels, *y) {
             if left == 0 {
