@@ -23,3 +23,4 @@ pub mod LaneLaws
 pub mod MarkLaws
 pub mod NearLaws
 pub mod ScanLaws
+pub mod RunLaws

@@ -5,6 +5,7 @@ pub mod marking;
 pub mod marks;
 pub mod partitioning;
 pub mod rows;
+pub mod runs;
 pub mod sets;
 pub mod spots;
 pub mod tracking;

@@ -9,6 +9,7 @@ ghost use Rattle.partitioner.specs.Private.Spotting.{AreSpots, KeepsSpots};
 
 use crate::counts::counting::count_at;
 use crate::counts::partitioning::Partitioning;
+use crate::counts::runs::run_end;
 use crate::counts::sets::Sets;
 use crate::refinement::placing::{has_room, part_of};
 use flat_net::{FlatNet, nodes_of};
@@ -123,7 +124,7 @@ pub fn shut_full(n: &FlatNet, p: &Partitioning, spots: &mut Spots, size: u32)
     }
 }
 
-/// Notes that node x is read where the nodes of the row stand.
+/// Notes that node x is read where the nodes of the row stand, once for those that stand next to one another in one partition.
 fn note_readers(
     n: &FlatNet,
     p: &Partitioning,
@@ -139,8 +140,11 @@ fn note_readers(
     ensures free { OnOk result (All (λ y. has spots.new.free x (slice_index p.now.of.items y) ≡ true) row.now) }
     ensures nets { OnOk result (All (λ y. has spots.new.nets (slice_index p.now.of.items y) x ≡ true) row.now) }
 {
-    for y in row {
-        note_spot(spots, x, part_of(n, p, *y))?;
+    let mut first = 0;
+    while first < row.len() {
+        let q = part_of(n, p, row[first]);
+        note_spot(spots, x, q)?;
+        first = run_end(p.of.as_slice(), row, first + 1, q);
     }
     Ok(())
 }

@@ -1,5 +1,5 @@
 //! The counts beside a partitioning, made from it.
-ghost use Rattle.std.specs.Prelude.{◌≡◌, ◌<◌, ◌==◌, ℕ, true, List, All, length, slice_index, count_by, IfOk, OnOk, if◌then◌else◌};
+ghost use Rattle.std.specs.Prelude.{◌≡◌, ◌<◌, ◌==◌, ◌&&◌, ◌+◌, ℕ, true, List, All, length, slice_index, count_by, IfOk, OnOk, if◌then◌else◌};
 ghost use Rattle.flat_net.specs.Net.{Net};
 ghost use Rattle.node_reads.specs.Sources.{is_wide, AreOtherReaders};
 ghost use Rattle.partitioner.specs.Private.Counting.{count_at};
@@ -10,6 +10,7 @@ ghost use Rattle.partitioner.specs.Private.Tracking.{IsPlaced, Tracks, held_part
 use crate::counts::counting::{count_at, set_count};
 use crate::counts::marking::marks_of;
 use crate::counts::partitioning::{Partitioning, Placed};
+use crate::counts::runs::run_end;
 use crate::reading::{Reads, Sources, reads_of, sorted_sources};
 use flat_net::{FlatNet, nodes_of};
 use graph::Graph;
@@ -45,7 +46,22 @@ fn held_of(alloc: Global, count: u32, of: &[u32]) -> Result<Vec<u32>, OutOfMemor
     Ok(holds)
 }
 
-/// Counts the readers of node x, of which none is counted yet.
+/// Counts so many more readers of node x in partition p.
+fn add_count(
+    counts: &mut HashMap<(u32, u32), u32>,
+    x: u32,
+    p: u32,
+    more: u32,
+) -> Result<(), OutOfMemory>
+    requires few { count_at counts.old x p + more < 4294967296 }
+    ensures { OnOk result ((z q : ℕ) → count_at counts.new z q ≡ (if x == z && p == q then count_at counts.old x p + more else count_at counts.old z q)) }
+{
+    let count = count_at(counts, x, p);
+    set_count(counts, x, p, count + more)?;
+    Ok(())
+}
+
+/// Counts the readers of node x, of which none is counted yet. Those that stand next to one another in one partition are counted together.
 fn count_row(
     counts: &mut HashMap<(u32, u32), u32>,
     of: &[u32],
@@ -57,10 +73,12 @@ fn count_row(
     requires absent { (q : ℕ) → count_at counts.old x q ≡ 0 }
     ensures { OnOk result ((z q : ℕ) → count_at counts.new z q ≡ (if x == z then count_by (λ y. slice_index of.now y == q) row.now else count_at counts.old z q)) }
 {
-    for y in row {
-        let p = of[*y as usize];
-        let count = count_at(counts, x, p);
-        set_count(counts, x, p, count + 1)?;
+    let mut first = 0;
+    while first < row.len() {
+        let p = of[row[first] as usize];
+        let end = run_end(of, row, first + 1, p);
+        add_count(counts, x, p, (end - first) as u32)?;
+        first = end;
     }
     Ok(())
 }
