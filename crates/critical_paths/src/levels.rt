@@ -20,9 +20,9 @@ pub struct Change {
 }
 
 /// For each node how many tables and voters stand on the longest path to it, the node itself counted if it is a table; what it gives to its
-/// readers: the same, or 0 if it is a register; and whether it is a register that is fed back. `worst` is the worst level of a path's end when the round began, `worst_ends` how many ends had it, and
-/// `weight` the weight of all ends. `changes` tells what a trial changed, `waiting` has the ranks of nodes whose level is to be computed, and `computed` counts those that
-/// were, `spent` in all trials of a round.
+/// readers: the same, or 0 if it is a register; and whether it is a register that is fed back. `worst` is the worst level of a path's end when
+/// the round began, `worst_ends` how many ends had it, and `weight` the weight of all ends. `changes` tells what a trial changed, `waiting` has
+/// the ranks of nodes whose level is to be computed, and `computed` counts those that were, `spent` in all trials of a round.
 #[derive(Drop)]
 pub struct Levels {
     pub of: Vec<u32>,
