@@ -51,7 +51,8 @@ kept_file load = record { name = load.name; limit = load.limit; kind = Bytes }
 
 -- the three files of a pair, all kept, so that a line of them can be shown
 abbrev pub kept_pair_files : Pair → List Load
-kept_pair_files p = kept_file (original_file p.limits p.original) ∷ kept_file (hardened_file p.limits p.hardened) ∷ certificate_file p.limits p.certificate ∷ []
+kept_pair_files p = kept_file (original_file p.limits p.original) ∷ kept_file (hardened_file p.limits p.hardened)
+    ∷ certificate_file p.limits p.certificate ∷ []
 
 -- the name that waves are saved under, where there is one
 abbrev pub wave_names : Option (List ℕ) → List (List ℕ)

@@ -1,7 +1,7 @@
 //! The runs of the program: from the words of the command line to a status and a printed text.
 //!
-//! Each command is one room under `commands`. Around the rooms stands what all share: files are loaded (`loads`), designs and pairs
-//! are opened (`designs`, `pair_files`, `pairs`), and the texts of a work are saved (`saves`, `givers`, `conclusion`).
+//! Each command is one room under `commands`; `help` and `version` share one. Around the rooms stands what all share: files are loaded
+//! (`loads`), designs and pairs are opened (`designs`, `pair_files`, `pairs`), and the texts of a work are saved (`saves`, `givers`, `conclusion`).
 #![tactic(auto)]
 
 mod commands;

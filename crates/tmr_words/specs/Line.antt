@@ -172,7 +172,8 @@ graph_reading_of limits words = None
 -- a replay over a pair, where no file word is empty, and no waves are saved or those under this name
 abbrev pub replay_over : Option Pair → List ℕ → Option (List ℕ) → Option Command
 replay_over None schedule waves = None
-replay_over (Some pair) schedule waves = if is_file schedule then Some (Replay (record { pair = pair; schedule = schedule; waves = waves })) else None
+replay_over (Some pair) schedule waves =
+    if is_file schedule then Some (Replay (record { pair = pair; schedule = schedule; waves = waves })) else None
 
 unfoldable pub replaying_of : Limits → List (List ℕ) → Option Command
 replaying_of limits (original ∷ hardened ∷ certificate ∷ schedule ∷ []) = replay_over (pair_named limits (original ∷ hardened ∷ certificate ∷ [])) schedule None

@@ -1,5 +1,5 @@
 //! Nodes that stand next to one another in a row, and in one partition.
-ghost use Rattle.std.specs.Prelude.{◌≡◌, ◌<◌, ◌≤◌, ℕ, All, length, slice_index};
+ghost use Rattle.std.specs.Prelude.{◌≡◌, ◌≢◌, ◌<◌, ◌≤◌, ℕ, All, length, slice_index};
 
 /// Where the nodes of the row that stand in partition q end, from `first` on: the first place of a node that stands elsewhere, or past the
 /// row.
@@ -9,6 +9,7 @@ pub fn run_end(of: &[u32], row: &[u32], first: usize, q: u32) -> usize
     ensures first { first ≤ result }
     ensures within { result ≤ length row.now }
     ensures run { (k : ℕ) → first ≤ k → k < result → slice_index of.now (slice_index row.now k) ≡ q }
+    ensures end { result < length row.now → slice_index of.now (slice_index row.now result) ≢ q }
 {
     for k in first..row.len() {
         if of[row[k] as usize] != q {
