@@ -1,10 +1,10 @@
 -- Nodes that are put into partitions one after the other.
-use Rattle.std.proofs.Common.{◌≡◌, ℕ, zero, suc, ◌+◌, ◌-◌, ◌*◌, ◌<◌, ◌≤◌, ◌⊎◌, inl, inr, eqb, List, [], ◌∷◌, ◌++◌, length, refl, sym, ◌∙◌, ap, subst, arith, get_or, set, replicate}
+use Rattle.std.proofs.Common.{◌≡◌, ℕ, zero, suc, ◌+◌, ◌-◌, ◌*◌, ◌<◌, ◌≤◌, ◌⊎◌, inl, inr, eqb, List, [], ◌∷◌, ◌++◌, length, take, refl, sym, ◌∙◌, ap, subst, arith, get_or, set, replicate}
 use Rattle.std.proofs.Math.Nat.{mul-suc, mul-le-mul_left}
 use Rattle.std.specs.List.{sum, All}
 use Rattle.std.specs.Int.{div_ceil}
-use Rattle.std.proofs.lemmas.Bool.{cases_eq, eq-eqb, ne_eqb}
-use Rattle.std.proofs.lemmas.List.{get_or-set_same, get_or-set_other, length-set, length_push}
+use Rattle.std.proofs.lemmas.Bool.{cases_eq, cases_lt, eq-eqb, ne_eqb}
+use Rattle.std.proofs.lemmas.List.{get_or-set_same, get_or-set_other, get_or_append_left, get_or_push, length-set, length_push, take-append-le, take_all}
 use Rattle.std.proofs.lemmas.List.Elements.{All-push}
 use Rattle.std.proofs.lemmas.List.Folds.{sum_by-replicate}
 use Rattle.std.proofs.lemmas.List.Sums.{sum_by_push, sum_by-set, sum_by-cons}
@@ -13,7 +13,7 @@ use Rattle.partitioner.specs.Below.{one_if}
 use Rattle.tmr_base.specs.Parts.{PlainParts}
 use Rattle.flat_net.specs.Net.{Net}
 use Rattle.partitioner.specs.Sizes.{capacity, held, KeepsSize}
-use Rattle.clustering.specs.Private.Settling.{AreSettled, KeepsRoom}
+use Rattle.clustering.specs.Private.Settling.{AreSettled, IsPut, KeepsRoom, StandsBy}
 
 -- where each partition is full, there are as many nodes as partitions times the room
 pub full_sum : (room : ℕ) (holds : List ℕ) → ((p : ℕ) → p < length holds → room ≤ get_or holds p 0) → room * length holds ≤ sum holds
@@ -89,6 +89,41 @@ one_kept room first p holds keeps l free = record {
     at q (inr ne) =
         let here = get_or-set_other holds p q (get_or holds p 0 + 1) 0 (λ e. ne (sym e)) in
         ((λ m. let was : room ≤ get_or holds q 0 = keeps.full q m in omega (arith, here, was)), (λ m. let was : get_or holds q 0 ≤ room = keeps.most q m in omega (arith, here, was)))
+
+-- a node stands so where it is put: in the wanted partition if that has room, else in the free one, before which all are full
+pub stands_by : (room wanted p free : ℕ) (of holds : List ℕ) → AreSettled of holds → KeepsRoom room free holds → free < length holds → get_or holds free 0 < room
+    → (wanted < length holds → get_or holds wanted 0 < room → p ≡ wanted) → ((wanted < length holds → room ≤ get_or holds wanted 0) → p ≡ free) → StandsBy room (length holds) wanted of p
+stands_by room wanted p free of holds settled keeps within has if_wanted if_full = record {
+  here = λ h l. if_wanted h (omega (arith, settled.counted wanted h, l));
+  free = λ full. subst (λ (k : ℕ). held of k < room) (sym (there full)) (omega (arith, settled.counted free within, has));
+  first = λ full q l. let before : q < free = omega (arith, l, there full) in omega (arith, settled.counted q (omega (arith, before, within)), keeps.full q before);
+}
+  where
+    there : (wanted < length holds → room ≤ held of wanted) → p ≡ free
+    there full = if_full (λ h. omega (arith, settled.counted wanted h, full h))
+
+-- one more node stands so
+pub stands_more : (room parts w : ℕ) (wanted before after : List ℕ) → IsPut room parts w before after → w ≡ get_or wanted (length before) 0
+    → ((j : ℕ) → j < length before → StandsBy room parts (get_or wanted j 0) (take j before) (get_or before j 0))
+    → (j : ℕ) → j < length before + 1 → StandsBy room parts (get_or wanted j 0) (take j after) (get_or after j 0)
+stands_more room parts w wanted before after put e all j l =
+    subst (λ (xs : List ℕ). StandsBy room parts (get_or wanted j 0) (take j xs) (get_or xs j 0)) (sym put.is) (go (cases_lt j (length before)))
+  where
+    longer : List ℕ
+    longer = before ++ put.place ∷ []
+
+    go : (j < length before) ⊎ (length before ≤ j) → StandsBy room parts (get_or wanted j 0) (take j longer) (get_or longer j 0)
+    go (inl m) =
+        let same : take j longer ≡ take j before = take-append-le j before (put.place ∷ []) (omega (arith, m)) in
+        let here : get_or longer j 0 ≡ get_or before j 0 = get_or_append_left before (put.place ∷ []) 0 j m in
+        subst (λ (xs : List ℕ). StandsBy room parts (get_or wanted j 0) xs (get_or longer j 0)) (sym same) (subst (λ (k : ℕ). StandsBy room parts (get_or wanted j 0) (take j before) k) (sym here) (all j m))
+    go (inr m) =
+        let last : j ≡ length before = omega (arith, l, m) in
+        let same : take j longer ≡ before = take-append-le j before (put.place ∷ []) (omega (arith, last)) ∙ take_all j before (omega (arith, last)) in
+        let here : get_or longer j 0 ≡ put.place = get_or_push before put.place 0 j (sym last) in
+        let asked : get_or wanted j 0 ≡ w = ap (λ (k : ℕ). get_or wanted k 0) last ∙ sym e in
+        subst (λ (k : ℕ). StandsBy room parts k (take j longer) (get_or longer j 0)) (sym asked)
+        (subst (λ (xs : List ℕ). StandsBy room parts w xs (get_or longer j 0)) (sym same) (subst (λ (k : ℕ). StandsBy room parts w before k) (sym here) put.stands))
 
 -- no partition holds too many
 pub held_few : (of holds : List ℕ) (room first p : ℕ) → AreSettled of holds → KeepsRoom room first holds → p < length holds → held of p ≤ room

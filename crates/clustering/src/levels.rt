@@ -1,5 +1,5 @@
 //! Levels of groups of nodes, each made of the groups of the level below.
-ghost use Rattle.std.specs.Prelude.{◌≡◌, length, OnOk};
+ghost use Rattle.std.specs.Prelude.{◌≡◌, length, min, replicate, IfOk, OnOk};
 
 use crate::joining::Joined;
 use crate::numberings::Numbering;
@@ -88,7 +88,10 @@ fn net_rows(alloc: Global, n: &FlatNet) -> Result<Graph, OutOfMemory> {
 }
 
 /// The lowest level: each node is a group.
-pub fn lowest_level(alloc: Global, n: &FlatNet) -> Result<Level, OutOfMemory> {
+pub fn lowest_level(alloc: Global, n: &FlatNet) -> Result<Level, OutOfMemory>
+    ensures weighed { IfOk result (λ level. level.weighed ≡ 0) }
+    ensures sizes { IfOk result (λ level. level.sizes.items ≡ replicate (length n.now.net.nodes) 1) }
+{
     let nodes = nodes_of(n);
     let sizes = vec![in alloc; 1u32; nodes as usize]?;
     let nets = net_rows(alloc, n)?;
@@ -118,7 +121,10 @@ pub fn level_above(
     level: &Level,
     joined: Joined,
     own: u32,
-) -> Result<Level, OutOfMemory> {
+) -> Result<Level, OutOfMemory>
+    ensures weighed { IfOk result (λ above. above.weighed ≡ min joined.weighed own) }
+    ensures below { IfOk result (λ above. above.below.items ≡ joined.of.of.items) }
+{
     let Joined {
         of: joined,
         weighed,

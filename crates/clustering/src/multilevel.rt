@@ -1,5 +1,6 @@
 //! Partitions made of clusters.
-ghost use Rattle.std.specs.Prelude.{◌<◌, IfOk};
+ghost use Rattle.std.specs.Prelude.{◌≡◌, ◌<◌, ◌≤◌, ℕ, Some, length, slice_get, IfOk};
+ghost use Rattle.clustering.specs.declared.levels.Level.{Level};
 ghost use Rattle.partitioner.specs.Sizes.{KeepsSize};
 
 use crate::effort::{most_on_level, passes_for};
@@ -52,7 +53,11 @@ fn push_level(
 }
 
 /// How many levels, from the lowest up, would be the same where groups of at most `most` nodes are joined.
-fn same_levels(levels: &[Level], most: u32) -> usize {
+fn same_levels(levels: &[Level], most: u32) -> usize
+    ensures within { result ≤ length levels.now }
+    ensures same { (k : ℕ) (level : Level) → k < result → slice_get levels.now k ≡ Some level → level.weighed ≤ most }
+    ensures end { (level : Level) → slice_get levels.now result ≡ Some level → most < level.weighed }
+{
     for k in 0..levels.len() {
         if levels[k].weighed > most {
             return k;
@@ -62,7 +67,9 @@ fn same_levels(levels: &[Level], most: u32) -> usize {
 }
 
 /// Leaves these levels alone.
-fn keep_levels(levels: &mut Vec<Level>, most: u32) {
+fn keep_levels(levels: &mut Vec<Level>, most: u32)
+    ensures { (k : ℕ) (level : Level) → slice_get levels.new.items k ≡ Some level → level.weighed ≤ most }
+{
     let kept = same_levels(levels.as_slice(), most);
     levels.truncate(kept);
 }
@@ -84,7 +91,9 @@ fn add_levels(
 }
 
 /// The lowest level, from which clusters are made.
-pub fn levels_of(alloc: Global, n: &FlatNet) -> Result<Vec<Level>, OutOfMemory> {
+pub fn levels_of(alloc: Global, n: &FlatNet) -> Result<Vec<Level>, OutOfMemory>
+    ensures { IfOk result (λ levels. length levels.items ≡ 1) }
+{
     let mut levels = Vec::new(alloc);
     levels.push(lowest_level(alloc, n)?)?;
     Ok(levels)

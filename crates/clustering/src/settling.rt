@@ -1,8 +1,8 @@
 //! The last pass: partitions that keep the rule of sizes, whatever was wanted.
-ghost use Rattle.std.specs.Prelude.{◌≡◌, ◌<◌, ◌≤◌, ◌+◌, ◌*◌, ℕ, All, length, sum, slice_index, IfOk, OnOk};
+ghost use Rattle.std.specs.Prelude.{◌≡◌, ◌<◌, ◌≤◌, ◌+◌, ◌*◌, ◌⊎◌, ◌++◌, ◌∷◌, [], ℕ, All, length, sum, take, slice_index, slice_index_or, IfOk, OnOk};
 ghost use Rattle.std.specs.Int.{div_ceil};
 ghost use Rattle.partitioner.specs.Sizes.{capacity, held, KeepsSize};
-ghost use Rattle.clustering.specs.Private.Settling.{AreSettled, KeepsRoom};
+ghost use Rattle.clustering.specs.Private.Settling.{AreSettled, IsPut, KeepsRoom, StandsBy};
 
 use crate::numberings::numbering_of;
 use crate::numbers::at;
@@ -24,6 +24,8 @@ pub fn part_count(nodes: u32, size: u32, wanted: u32) -> u32
     requires { 0 < size }
     ensures few { result ≤ div_ceil nodes size }
     ensures enough { nodes ≤ capacity size * result }
+    ensures wanted { wanted < div_ceil nodes size → nodes ≤ capacity size * wanted → result ≡ wanted }
+    ensures one { (result ≡ wanted) ⊎ (result ≡ div_ceil nodes size) }
 {
     let most = nodes.div_ceil(size);
     if wanted < most && u64::from(nodes) <= room_of(size).saturating_mul(u64::from(wanted)) {
@@ -55,6 +57,8 @@ fn part_for(holds: &[u32], room: u64, wanted: u32, free: usize) -> usize
     requires free { slice_index holds.now free < room }
     ensures within { result < length holds.now }
     ensures free { slice_index holds.now result < room }
+    ensures wanted { wanted < length holds.now → slice_index holds.now wanted < room → result ≡ wanted }
+    ensures other { (wanted < length holds.now → room ≤ slice_index holds.now wanted) → result ≡ free }
 {
     let wanted = wanted as usize;
     if wanted < holds.len() && u64::from(holds[wanted]) < room {
@@ -81,6 +85,7 @@ fn put_node(
     requires parts { length holds.old.items < 4294967296 }
     ensures settled { OnOk result (AreSettled of.new.items holds.new.items) }
     ensures keeps { OnOk result (KeepsRoom room first holds.new.items) }
+    ensures put { OnOk result (of.new.items ≡ of.old.items ++ p ∷ []) }
     ensures more { OnOk result (length of.new.items ≡ length of.old.items + 1) }
     ensures parts { length holds.new.items ≡ length holds.old.items }
 {
@@ -104,6 +109,7 @@ fn settle_node(
     requires parts { length holds.old.items < 4294967296 }
     ensures settled { OnOk result (AreSettled of.new.items holds.new.items) }
     ensures keeps { IfOk result (λ first. KeepsRoom room first holds.new.items) }
+    ensures put { OnOk result (IsPut room (length holds.old.items) wanted of.old.items of.new.items) }
     ensures more { OnOk result (length of.new.items ≡ length of.old.items + 1) }
     ensures parts { length holds.new.items ≡ length holds.old.items }
 {
@@ -126,6 +132,7 @@ pub fn settled(
     ensures each { IfOk result (λ of. length of.items ≡ nodes) }
     ensures in_range { IfOk result (λ of. All (λ p. p < parts) of.items) }
     ensures held_few { IfOk result (λ of. (p : ℕ) → p < parts → held of.items p ≤ capacity size) }
+    ensures stands { IfOk result (λ of. (i : ℕ) → i < nodes → StandsBy (capacity size) parts (slice_index_or wanted.now i 0) (take i of.items) (slice_index of.items i)) }
 {
     let room = room_of(size);
     let mut holds = vec![in alloc; 0u32; parts as usize]?;

@@ -1,5 +1,8 @@
 //! What the search looks up of a design.
-ghost use Rattle.std.specs.Prelude.{◌≡◌, ◌<◌, length};
+ghost use Rattle.std.specs.Prelude.{◌≡◌, ◌<◌, false, length, map, slice_index_or, slice_set, IfOk};
+ghost use Rattle.std.specs.List.{range_with_len};
+ghost use Rattle.feedback_cut.specs.Registers.{is_register_at};
+ghost use Rattle.node_reads.specs.Sources.{AreOtherReaders, AreSources};
 
 use crate::loops::loop_groups;
 use clustering::numbers::{at, count, put, raise};
@@ -28,22 +31,28 @@ pub struct Circuit {
 }
 
 /// Bit i of these, or false past their end.
-pub fn bit(bits: &[bool], i: u32) -> bool {
+pub fn bit(bits: &[bool], i: u32) -> bool
+    ensures { result ≡ slice_index_or bits.now i false }
+{
     match bits.get(i as usize) {
         Some(bit) => *bit,
         None => false,
     }
 }
 
-/// Bit i of these is b from now on.
-pub fn put_bit(bits: &mut Vec<bool>, i: u32, b: bool) {
+/// Bit i of these is b from now on. What would be put past their end is dropped.
+pub fn put_bit(bits: &mut Vec<bool>, i: u32, b: bool)
+    ensures { bits.new.items ≡ slice_set bits.old.items i b }
+{
     if (i as usize) < bits.len() {
         bits[i as usize] = b;
     }
 }
 
 /// Whether each node is a register.
-fn registers_of(alloc: Global, n: &FlatNet) -> Result<Vec<bool>, OutOfMemory> {
+fn registers_of(alloc: Global, n: &FlatNet) -> Result<Vec<bool>, OutOfMemory>
+    ensures { IfOk result (λ registers. registers.items ≡ map (is_register_at n.now.net) (range_with_len 0 (length n.now.net.nodes))) }
+{
     let nodes = nodes_of(n);
     let mut registers = Vec::with_capacity(alloc, nodes as usize)?;
     for x in 0..nodes {
@@ -123,7 +132,11 @@ fn alone_in(alloc: Global, groups: &[u32]) -> Result<Vec<bool>, OutOfMemory> {
 }
 
 /// What the search looks up of a design. It does not hang on the partitions: so it is made once for many sizes.
-pub fn circuit_of(alloc: Global, n: &FlatNet) -> Result<Circuit, OutOfMemory> {
+pub fn circuit_of(alloc: Global, n: &FlatNet) -> Result<Circuit, OutOfMemory>
+    ensures readers { IfOk result (λ c. AreOtherReaders n.now.net c.readers) }
+    ensures sources { IfOk result (λ c. AreSources n.now.net c.sources) }
+    ensures registers { IfOk result (λ c. c.registers.items ≡ map (is_register_at n.now.net) (range_with_len 0 (length n.now.net.nodes))) }
+{
     let nodes = nodes_of(n);
     let readers = packed_readers_of(alloc, n)?;
     let sources = sources_of(alloc, n, &readers)?;

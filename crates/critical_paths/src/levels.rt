@@ -1,4 +1,5 @@
 //! Levels: how many tables and voters stand on the longest path to each node.
+ghost use Rattle.std.specs.Prelude.{◌≡◌, ◌≢◌, ◌+◌, [], true, false, min, slice_index_or, if◌then◌else◌};
 
 use crate::design::{Circuit, bit};
 use clustering::numbers::{at, put, row};
@@ -38,7 +39,11 @@ pub struct Levels {
 }
 
 /// The level at which node y sees node x: what x gives, and one more for a voter between them.
-pub fn seen_level(levels: &Levels, parts: &[u32], x: u32, y: u32) -> u32 {
+pub fn seen_level(levels: &Levels, parts: &[u32], x: u32, y: u32) -> u32
+    ensures apart { slice_index_or parts.now x 0 ≢ slice_index_or parts.now y 0 → result ≡ min (slice_index_or levels.now.given.items x 0 + 1) 4294967295 }
+    ensures fed { slice_index_or levels.now.fed.items y false ≡ true → result ≡ min (slice_index_or levels.now.given.items x 0 + 1) 4294967295 }
+    ensures inside { slice_index_or parts.now x 0 ≡ slice_index_or parts.now y 0 → slice_index_or levels.now.fed.items y false ≡ false → result ≡ slice_index_or levels.now.given.items x 0 }
+{
     let given = at(levels.given.as_slice(), x);
     if at(parts, x) != at(parts, y) || bit(levels.fed.as_slice(), y) {
         given.saturating_add(1)
@@ -84,7 +89,9 @@ fn computed_level(circuit: &Circuit, levels: &Levels, parts: &[u32], y: u32) -> 
 }
 
 /// How many paths end at node y: at the pin of a register, or at outputs.
-pub fn ends_at(circuit: &Circuit, y: u32) -> u32 {
+pub fn ends_at(circuit: &Circuit, y: u32) -> u32
+    ensures { result ≡ (if slice_index_or circuit.now.registers.items y false then 1 else slice_index_or circuit.now.outputs.items y 0) }
+{
     if bit(circuit.registers.as_slice(), y) {
         1
     } else {
@@ -244,7 +251,14 @@ pub fn take_back(circuit: &Circuit, levels: &mut Levels, weight: u64) {
 }
 
 /// What a trial changed stays.
-pub fn forget(levels: &mut Levels) {
+pub fn forget(levels: &mut Levels)
+    ensures of { levels.new.of.items ≡ levels.old.of.items }
+    ensures given { levels.new.given.items ≡ levels.old.given.items }
+    ensures weight { levels.new.weight ≡ levels.old.weight }
+    ensures changes { levels.new.changes.items ≡ [] }
+    ensures computed { levels.new.computed ≡ 0 }
+    ensures spent { levels.new.spent ≡ min (levels.old.spent + levels.old.computed) 4294967295 }
+{
     levels.spent = levels.spent.saturating_add(levels.computed);
     levels.changes.clear();
     levels.waiting.clear();

@@ -1,4 +1,5 @@
 //! Nodes that go to other partitions, and what that costs.
+ghost use Rattle.std.specs.Prelude.{◌≡◌, ◌++◌, ◌∷◌, [], nat_lt, slice_index_or, slice_set, OnOk};
 
 use crate::design::Circuit;
 use clustering::numbers::{at, put, raise, row};
@@ -71,12 +72,16 @@ pub fn moved_pairs(circuit: &Circuit, of: &[u32], v: u32, q: u32) -> Pairs {
 }
 
 /// Partition q has room for a node.
-pub fn has_room(placing: &Placing, q: u32) -> bool {
+pub fn has_room(placing: &Placing, q: u32) -> bool
+    ensures { result ≡ nat_lt (slice_index_or placing.now.held.items q 0) placing.now.room }
+{
     at(placing.held.as_slice(), q) < placing.room
 }
 
 /// Node v stands in partition q from now on.
-fn put_node(of: &mut Vec<u32>, held: &mut Vec<u32>, v: u32, q: u32) {
+fn put_node(of: &mut Vec<u32>, held: &mut Vec<u32>, v: u32, q: u32)
+    ensures { of.new.items ≡ slice_set of.old.items v q }
+{
     let p = at(of.as_slice(), v);
     let left = at(held.as_slice(), p).saturating_sub(1);
     put(held, p, left);
@@ -90,7 +95,11 @@ pub fn move_node(
     placing: &mut Placing,
     v: u32,
     q: u32,
-) -> Result<(), OutOfMemory> {
+) -> Result<(), OutOfMemory>
+    ensures of { OnOk result (placing.new.of.items ≡ slice_set placing.old.of.items v q) }
+    ensures moves { OnOk result (placing.new.moves.items ≡ placing.old.moves.items ++ record { node = v; from = slice_index_or placing.old.of.items v 0 } ∷ []) }
+    ensures room { OnOk result (placing.new.room ≡ placing.old.room) }
+{
     let pairs = moved_pairs(circuit, placing.of.as_slice(), v, q);
     placing.moves.push(Move {
         node: v,
@@ -111,7 +120,13 @@ pub fn move_back(placing: &mut Placing) {
 }
 
 /// What a trial moved stays.
-pub fn settle(placing: &mut Placing) {
+pub fn settle(placing: &mut Placing)
+    ensures of { placing.new.of.items ≡ placing.old.of.items }
+    ensures held { placing.new.held.items ≡ placing.old.held.items }
+    ensures room { placing.new.room ≡ placing.old.room }
+    ensures moves { placing.new.moves.items ≡ [] }
+    ensures pairs { placing.new.pairs ≡ record { more = 0; fewer = 0 } }
+{
     placing.moves.clear();
     placing.pairs = Pairs { more: 0, fewer: 0 };
 }

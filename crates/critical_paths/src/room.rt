@@ -1,4 +1,5 @@
 //! Room in partitions that are full.
+ghost use Rattle.std.specs.Prelude.{◌≡◌, ◌+◌, [], min, true, false};
 
 use crate::design::{Circuit, bit};
 use crate::levels::{Levels, wait_for};
@@ -69,7 +70,12 @@ pub fn no_rooms(alloc: Global, nodes: u32, parts: u32) -> Result<Rooms, OutOfMem
 }
 
 /// Begins a round, in which nothing was asked for. The nodes are listed anew where some moved since the round before.
-pub fn begin_round(rooms: &mut Rooms, moved: bool) {
+pub fn begin_round(rooms: &mut Rooms, moved: bool)
+    ensures round { rooms.new.round ≡ min (rooms.old.round + 1) 4294967295 }
+    ensures leavers { rooms.new.leavers.items ≡ [] }
+    ensures moved { moved ≡ true → rooms.new.listed ≡ false }
+    ensures still { moved ≡ false → rooms.new.listed ≡ rooms.old.listed }
+{
     rooms.round = rooms.round.saturating_add(1);
     rooms.leavers.clear();
     if moved {

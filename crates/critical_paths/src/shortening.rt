@@ -34,7 +34,7 @@ fn copied(alloc: Global, parts: &Parts) -> Result<Parts, OutOfMemory>
     Ok(Parts::make(parts.count(), of))
 }
 
-/// The same as `shortened`, from what is looked up of the design, which is made once for many sizes.
+/// The same as `shortened`, from what is looked up of this design, which is made once for many sizes.
 pub fn shortened_from(
     alloc: Global,
     n: &FlatNet,
@@ -62,7 +62,7 @@ pub fn shortened_from(
     }
 }
 
-/// Partitions in which fewer voters stand on the longest paths. They keep the rule of sizes, and cost at most nine eighths of those
+/// Partitions that are sought so that fewer voters stand on the longest paths. They keep the rule of sizes, and cost at most nine eighths of those
 /// given: where the search finds dearer ones, they are a copy of these.
 pub fn shortened(alloc: Global, n: &FlatNet, parts: &Parts, size: u32) -> Result<Parts, OutOfMemory>
     requires size { 0 < size }

@@ -3,6 +3,7 @@ ghost use Rattle.std.specs.Prelude.{◌≡◌, ◌<◌, ◌≤◌, ◌⊎◌, le
 ghost use Rattle.feedback_cut.specs.Cut.{CutsLoops, OrdersUncut};
 ghost use Rattle.feedback_cut.specs.Inner.{inner_rows};
 ghost use Rattle.partitioner.specs.Reads.{AreReads};
+ghost use Rattle.partitioner.specs.Refining.{refined};
 ghost use Rattle.partitioner.specs.Sizes.{KeepsSize};
 ghost use Rattle.triplicate.specs.Choices.{IsCutOf};
 ghost use Rattle.triplicate.specs.Surveyed.{IsSurvey};
@@ -61,6 +62,7 @@ fn cheaper(first: Refined, second: Refined) -> Refined
     ensures given { (result ≡ first) ⊎ (result ≡ second) }
     ensures first { result.cost ≤ first.cost }
     ensures second { result.cost ≤ second.cost }
+    ensures tie { first.cost ≤ second.cost → result ≡ first }
 {
     if second.cost < first.cost {
         second
@@ -74,6 +76,7 @@ fn within(most: u64, first: Refined, second: Refined) -> Refined
     requires { second.cost ≤ most }
     ensures given { (result ≡ first) ⊎ (result ≡ second) }
     ensures most { result.cost ≤ most }
+    ensures first { first.cost ≤ most → result ≡ first }
 {
     if first.cost <= most { first } else { second }
 }
@@ -90,6 +93,7 @@ fn refined_from(
     requires size { 0 < size }
     requires reads { AreReads n.now.net reads }
     requires start { KeepsSize n.now.net size start.now }
+    ensures exact { IfOk result (λ r. r.refined.parts ≡ refined n.now.net size start.now passes) }
     ensures told { IfOk result (λ r. AreTold n.now.net size r.refined) }
     ensures reads { IfOk result (λ r. AreReads n.now.net r.reads) }
 {
