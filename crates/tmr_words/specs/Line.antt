@@ -176,7 +176,8 @@ replay_over (Some pair) schedule waves =
     if is_file schedule then Some (Replay (record { pair = pair; schedule = schedule; waves = waves })) else None
 
 unfoldable pub replaying_of : Limits → List (List ℕ) → Option Command
-replaying_of limits (original ∷ hardened ∷ certificate ∷ schedule ∷ []) = replay_over (pair_named limits (original ∷ hardened ∷ certificate ∷ [])) schedule None
+replaying_of limits (original ∷ hardened ∷ certificate ∷ schedule ∷ []) =
+    replay_over (pair_named limits (original ∷ hardened ∷ certificate ∷ [])) schedule None
 replaying_of limits words = None
 
 unfoldable pub waving_of : Limits → List (List ℕ) → Option Command
