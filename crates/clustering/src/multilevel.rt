@@ -1,5 +1,5 @@
 //! Partitions made of clusters.
-ghost use Rattle.std.specs.Prelude.{◌≡◌, ◌<◌, ◌≤◌, ℕ, Some, length, slice_get, IfOk};
+ghost use Rattle.std.specs.Prelude.{◌≡◌, ◌<◌, ◌≤◌, ℕ, Some, length, slice_get, take, IfOk};
 ghost use Rattle.clustering.specs.declared.levels.Level.{Level};
 ghost use Rattle.partitioner.specs.Sizes.{KeepsSize};
 
@@ -67,8 +67,11 @@ fn same_levels(levels: &[Level], most: u32) -> usize
 }
 
 /// Leaves these levels alone.
+#[tactic(auto, using(crate::proofs::RowLaws::taken_long))]
 fn keep_levels(levels: &mut Vec<Level>, most: u32)
-    ensures { (k : ℕ) (level : Level) → slice_get levels.new.items k ≡ Some level → level.weighed ≤ most }
+    ensures kept { levels.new.items ≡ take (length levels.new.items) levels.old.items }
+    ensures end { (level : Level) → slice_get levels.old.items (length levels.new.items) ≡ Some level → most < level.weighed }
+    ensures same { (k : ℕ) (level : Level) → slice_get levels.new.items k ≡ Some level → level.weighed ≤ most }
 {
     let kept = same_levels(levels.as_slice(), most);
     levels.truncate(kept);

@@ -6,7 +6,7 @@ ghost use Rattle.node_reads.specs.Sources.{AreOtherReaders, AreSources};
 
 use crate::loops::loop_groups;
 use clustering::numbers::{at, count, put, raise};
-use feedback_cut::is_register;
+use feedback_cut::registers;
 use flat_net::{FlatNet, nodes_of};
 use graph::Graph;
 use node_reads::{packed_readers_of, sources_of};
@@ -47,18 +47,6 @@ pub fn put_bit(bits: &mut Vec<bool>, i: u32, b: bool)
     if (i as usize) < bits.len() {
         bits[i as usize] = b;
     }
-}
-
-/// Whether each node is a register.
-fn registers_of(alloc: Global, n: &FlatNet) -> Result<Vec<bool>, OutOfMemory>
-    ensures { IfOk result (λ registers. registers.items ≡ map (is_register_at n.now.net) (range_with_len 0 (length n.now.net.nodes))) }
-{
-    let nodes = nodes_of(n);
-    let mut registers = Vec::with_capacity(alloc, nodes as usize)?;
-    for x in 0..nodes {
-        registers.push(is_register(n, x))?;
-    }
-    Ok(registers)
 }
 
 /// How many outputs each node is.
@@ -140,7 +128,7 @@ pub fn circuit_of(alloc: Global, n: &FlatNet) -> Result<Circuit, OutOfMemory>
     let nodes = nodes_of(n);
     let readers = packed_readers_of(alloc, n)?;
     let sources = sources_of(alloc, n, &readers)?;
-    let registers = registers_of(alloc, n)?;
+    let registers = registers(alloc, n)?;
     let outputs = outputs_of(alloc, n)?;
     let ends = ends_of(alloc, registers.as_slice(), outputs.as_slice())?;
     let order = order_of(alloc, n)?;

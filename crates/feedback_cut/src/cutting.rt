@@ -5,7 +5,7 @@ ghost use Rattle.feedback_cut.specs.Cut.{is_cut, CutMeets, CutsRegisters, Orders
 ghost use Rattle.feedback_cut.specs.Inner.{inner_rows};
 
 use crate::inner::inner_reads;
-use crate::loop_groups::components;
+use crate::loop_groups::components_over;
 use crate::self_reads::with_self_reads;
 use flat_net::{FlatNet, nodes_of};
 use graph::{CutReads, Graph, search};
@@ -47,10 +47,10 @@ pub struct OrderedCut {
     pub cut: CutPins,
 }
 
-/// A cut of each loop of reads inside a partition, and what the search for it saw.
+/// A cut of each loop of reads inside a partition, what each node reads there, and an order of all nodes.
 ///
-/// A depth-first search takes the nodes as roots in ascending order and follows each node's pins in order
-/// to nodes of the same partition. A pin that leads to a node that was entered and is not finished is cut.
+/// Each cut pin is needed: uncut pins lead from its node to the node that it reads. Which of several such cuts a
+/// depth-first search ends with is no clause.
 pub fn cut_in_order(alloc: Global, n: &FlatNet, parts: &Parts) -> Result<OrderedCut, OutOfMemory>
     requires { length parts.now.of ≡ length n.now.net.nodes }
     ensures cut { IfOk result (λ found. CutMeets n.now.net parts.now found.cut) }
@@ -91,7 +91,7 @@ pub fn cut_registers(alloc: Global, n: &FlatNet, parts: &Parts) -> Result<Ordere
 {
     let count = nodes_of(n);
     let graph = inner_reads(alloc, n, parts)?;
-    let groups = components(alloc, n, parts)?;
+    let groups = components_over(alloc, n, parts, &graph)?;
     let selves = with_self_reads(alloc, n, &groups, &graph)?;
     let searched = search(alloc, &selves, count)?;
     Ok(OrderedCut {

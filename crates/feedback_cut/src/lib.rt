@@ -19,4 +19,4 @@ mod self_reads;
 pub use cutting::{CutPins, OrderedCut, cut, cut_in_order, cut_registers};
 pub use inner::inner_reads;
 pub use loop_groups::{LoopGroups, components};
-pub use registers::is_register;
+pub use registers::{is_register, registers};

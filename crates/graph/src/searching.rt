@@ -197,7 +197,10 @@ pub(crate) fn search_from(alloc: Global, graph: &Graph, roots: u32) -> Result<Wa
     }
 }
 
-/// A depth-first search with all vertices as roots in ascending order, each following its reads in order.
+/// All vertices in an order, and which reads are cut: a vertex stands behind all that it reads uncut, and uncut reads lead from the reader
+/// of a cut read to the vertex read.
+///
+/// They are found by a depth-first search. Which of several orders and cuts it ends with is no clause.
 pub fn search(alloc: Global, graph: &Graph, count: u32) -> Result<Searched, OutOfMemory>
     requires { count ≡ length graph.now }
     ensures { IfOk result (λ s. IsSearched graph.now s.order.items s.cut) }

@@ -60,7 +60,7 @@ fn noted_readers(alloc: Global, n: &FlatNet) -> Result<Notes, OutOfMemory>
     Ok(rows)
 }
 
-/// The same, packed.
+/// For each node the other nodes that read it, in ascending order.
 pub fn packed_readers_of(alloc: Global, n: &FlatNet) -> Result<Graph, OutOfMemory>
     ensures { IfOk result (λ rows. AreOtherReaders n.now.net rows) }
 {
@@ -96,7 +96,7 @@ fn noted_sources(alloc: Global, n: &FlatNet, readers: &Graph) -> Result<Notes, O
     Ok(rows)
 }
 
-/// The same, packed.
+/// For each node the other nodes that it reads, in ascending order, from the nodes that read each.
 pub fn sources_of(alloc: Global, n: &FlatNet, readers: &Graph) -> Result<Graph, OutOfMemory>
     requires { AreOtherReaders n.now.net readers.now }
     ensures { IfOk result (λ rows. AreSources n.now.net rows) }

@@ -9,8 +9,10 @@ use node_reads::{packed_readers_of, sorted_rows, sources_of, wide_sources_of};
 use std::alloc::Global;
 use tmr_base::OutOfMemory;
 
-/// For each node the other nodes that it reads, and the wide ones among these. The rows stand in ascending order of how many nodes read
-/// each, so that a node's place is found among few partitions.
+/// For each node the other nodes that it reads, and the wide ones among these in ascending order.
+///
+/// `rows` has each node once; in which order is no clause. They are made in ascending order of how many nodes read each, so that a node's
+/// place is found among few partitions.
 #[derive(Drop)]
 pub struct Sources {
     pub rows: Graph,

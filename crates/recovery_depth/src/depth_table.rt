@@ -5,9 +5,8 @@ ghost use Rattle.recovery_depth.specs.Depths.{AreDepths};
 
 use crate::partition_depths::greatest_labels;
 use crate::reaching::reaches;
-use crate::register_nodes::registers;
 use crate::uncut::uncut_inner;
-use feedback_cut::CutPins;
+use feedback_cut::{CutPins, registers};
 use flat_net::{FlatNet, nodes_of};
 use std::alloc::Global;
 use std::marker::Model;

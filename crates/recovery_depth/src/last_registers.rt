@@ -49,6 +49,7 @@ pub fn first_of(ranks: &Ranks, none: u32, best: u32, other: u32) -> u32
 /// The best so far, or the last register of x, where x has this reach.
 pub fn considered(last: &LastRegisters<'_>, target: u32, best: u32, x: u32) -> u32
     ensures other { (slice_index_or last.now.reaches.now x 0 ≡ target → IsOneOf last.now.none best (last_of last.now.is_register.now last.now.before.now x) result) }
+    ensures first { slice_index_or last.now.reaches.now x 0 ≡ target → best ≢ last.now.none → last_of last.now.is_register.now last.now.before.now x ≢ last.now.none → result ≡ (if is_before last.now.ranks.now (last_of last.now.is_register.now last.now.before.now x) best then last_of last.now.is_register.now last.now.before.now x else best) }
     ensures same { (slice_index_or last.now.reaches.now x 0 ≢ target → result ≡ best) }
 {
     if reach_at(last.reaches, x) != target {

@@ -25,11 +25,9 @@ mod ordering;
 mod partition_depths;
 mod ranks;
 mod reaching;
-mod register_nodes;
 mod uncut;
 
 pub use depth_and_chain::Deep;
 pub use depth_table::{DepthTable, depths};
 pub use extra::{Extra, bound, bound_in_order};
 pub use least_depths::least;
-pub use register_nodes::registers;

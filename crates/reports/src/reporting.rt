@@ -13,10 +13,10 @@ use crate::partitions::partitions;
 use crate::voters::voter_counts;
 use crate::writing::{PartCounts, put_head, put_parts};
 use certificate::Certificate;
-use feedback_cut::components;
+use feedback_cut::{components, registers};
 use flat_net::{FlatNet, nodes_of};
 use partitioner::cost;
-use recovery_depth::{least, registers};
+use recovery_depth::least;
 use std::alloc::Global;
 use tmr_base::{OutOfMemory, Parts};
 
