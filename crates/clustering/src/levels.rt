@@ -6,7 +6,7 @@ use crate::numberings::Numbering;
 use crate::numbers::{at, count, raise, row, row_count};
 use flat_net::{FlatNet, nodes_of};
 use graph::Graph;
-use node_reads::{Notes, packed_readers_of};
+use node_reads::Notes;
 use std::alloc::Global;
 use tmr_base::OutOfMemory;
 
@@ -74,27 +74,26 @@ fn turned(alloc: Global, rows: &Graph, count: u32) -> Result<Graph, OutOfMemory>
 }
 
 /// For each node the node itself and the others that read it.
-fn net_rows(alloc: Global, n: &FlatNet) -> Result<Graph, OutOfMemory> {
-    let readers = packed_readers_of(alloc, n)?;
+fn net_rows(alloc: Global, n: &FlatNet, readers: &Graph) -> Result<Graph, OutOfMemory> {
     let mut nets = Graph::with_room(alloc, readers.count(), 0)?;
     let mut net = Vec::new(alloc);
     for x in 0..nodes_of(n) {
         net.clear();
         net.push(x)?;
-        net.extend_from_slice(row(&readers, x))?;
+        net.extend_from_slice(row(readers, x))?;
         nets.push(&net)?;
     }
     Ok(nets)
 }
 
-/// The lowest level: each node is a group.
-pub fn lowest_level(alloc: Global, n: &FlatNet) -> Result<Level, OutOfMemory>
+/// The lowest level: each node is a group. `readers` has for each node the others that read it.
+pub fn lowest_level(alloc: Global, n: &FlatNet, readers: &Graph) -> Result<Level, OutOfMemory>
     ensures weighed { IfOk result (λ level. level.weighed ≡ 0) }
     ensures sizes { IfOk result (λ level. level.sizes.items ≡ replicate (length n.now.net.nodes) 1) }
 {
     let nodes = nodes_of(n);
     let sizes = vec![in alloc; 1u32; nodes as usize]?;
-    let nets = net_rows(alloc, n)?;
+    let nets = net_rows(alloc, n, readers)?;
     let nets_of = turned(alloc, &nets, nodes)?;
     Ok(Level {
         weighed: 0,

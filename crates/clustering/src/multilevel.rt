@@ -11,6 +11,8 @@ use crate::moving::move_groups;
 use crate::numbers::at;
 use crate::settling::settled_parts;
 use flat_net::{FlatNet, nodes_of};
+use graph::Graph;
+use node_reads::packed_readers_of;
 use std::alloc::Global;
 use tmr_base::{OutOfMemory, Parts};
 
@@ -93,12 +95,12 @@ fn add_levels(
     Ok(())
 }
 
-/// The lowest level, from which clusters are made.
-pub fn levels_of(alloc: Global, n: &FlatNet) -> Result<Vec<Level>, OutOfMemory>
+/// The lowest level, from which clusters are made. `readers` has for each node the others that read it.
+pub fn levels_of(alloc: Global, n: &FlatNet, readers: &Graph) -> Result<Vec<Level>, OutOfMemory>
     ensures { IfOk result (λ levels. length levels.items ≡ 1) }
 {
     let mut levels = Vec::new(alloc);
-    levels.push(lowest_level(alloc, n)?)?;
+    levels.push(lowest_level(alloc, n, readers)?)?;
     Ok(levels)
 }
 
@@ -138,7 +140,8 @@ pub fn clusters(alloc: Global, n: &FlatNet, size: u32) -> Result<Parts, OutOfMem
     requires { 0 < size }
     ensures { IfOk result (λ parts. KeepsSize n.now.net size parts) }
 {
-    let mut levels = levels_of(alloc, n)?;
+    let readers = packed_readers_of(alloc, n)?;
+    let mut levels = levels_of(alloc, n, &readers)?;
     let parts = clusters_from(alloc, n, &mut levels, size)?;
     Ok(parts)
 }

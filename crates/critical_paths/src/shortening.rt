@@ -1,14 +1,15 @@
 //! Partitions with shorter paths, from others.
 ghost use Rattle.std.specs.Prelude.{◌≡◌, ◌<◌, ◌≤◌, ◌*◌, ◌+◌, List, ℕ, All, length, take, IfOk};
+ghost use Rattle.node_reads.specs.Sources.{AreOtherReaders};
 ghost use Rattle.partitioner.specs.Cost.{cost};
-ghost use Rattle.partitioner.specs.Reads.{AreReads};
 ghost use Rattle.partitioner.specs.Sizes.{KeepsSize};
 
 use crate::design::{Circuit, circuit_of};
 use crate::rounds::searched;
 use clustering::settled_parts;
 use flat_net::{FlatNet, nodes_of};
-use partitioner::{Reads, cost_by, reads_of};
+use graph::Graph;
+use partitioner::cost_by;
 use std::alloc::Global;
 use tmr_base::{OutOfMemory, Parts};
 
@@ -34,31 +35,47 @@ fn copied(alloc: Global, parts: &Parts) -> Result<Parts, OutOfMemory>
     Ok(Parts::make(parts.count(), of))
 }
 
-/// The same as `shortened`, from what is looked up of this design, which is made once for many sizes.
+/// Partitions, and what they cost.
+#[derive(Drop)]
+pub struct Shortened {
+    pub parts: Parts,
+    pub cost: u64,
+}
+
+/// The same as `shortened`, from what is looked up of this design, which is made once for many sizes. `before` is what the partitions cost
+/// that are given.
 pub fn shortened_from(
     alloc: Global,
     n: &FlatNet,
-    reads: &Reads,
+    readers: &Graph,
     circuit: &Circuit,
     parts: &Parts,
     size: u32,
-) -> Result<Parts, OutOfMemory>
+    before: u64,
+) -> Result<Shortened, OutOfMemory>
     requires size { 0 < size }
-    requires reads { AreReads n.now.net reads.now }
+    requires readers { AreOtherReaders n.now.net readers.now }
     requires parts { KeepsSize n.now.net size parts.now }
-    ensures size { IfOk result (λ found. KeepsSize n.now.net size found) }
-    ensures cost { IfOk result (λ found. 8 * cost n.now.net found ≤ 9 * cost n.now.net parts.now) }
+    requires before { before ≡ cost n.now.net parts.now }
+    ensures size { IfOk result (λ found. KeepsSize n.now.net size found.parts) }
+    ensures told { IfOk result (λ found. found.cost ≡ cost n.now.net found.parts) }
+    ensures cost { IfOk result (λ found. 8 * found.cost ≤ 9 * before) }
 {
     let start = parts_list(alloc, parts)?;
     let wanted = searched(alloc, circuit, start, parts.count(), size)?;
     let found = settled_parts(alloc, n, wanted.as_slice(), size)?;
-    let now = cost_by(alloc, n, &reads.readers, &found)?;
-    let before = cost_by(alloc, n, &reads.readers, parts)?;
+    let now = cost_by(alloc, n, readers, &found)?;
     if now.saturating_sub(before) <= before / 8 {
-        Ok(found)
+        Ok(Shortened {
+            parts: found,
+            cost: now,
+        })
     } else {
-        let copy = copied(alloc, parts)?;
-        Ok(copy)
+        let parts = copied(alloc, parts)?;
+        Ok(Shortened {
+            parts,
+            cost: before,
+        })
     }
 }
 
@@ -70,8 +87,8 @@ pub fn shortened(alloc: Global, n: &FlatNet, parts: &Parts, size: u32) -> Result
     ensures size { IfOk result (λ found. KeepsSize n.now.net size found) }
     ensures cost { IfOk result (λ found. 8 * cost n.now.net found ≤ 9 * cost n.now.net parts.now) }
 {
-    let reads = reads_of(alloc, n)?;
     let circuit = circuit_of(alloc, n)?;
-    let found = shortened_from(alloc, n, &reads, &circuit, parts, size)?;
-    Ok(found)
+    let before = cost_by(alloc, n, &circuit.readers, parts)?;
+    let found = shortened_from(alloc, n, &circuit.readers, &circuit, parts, size, before)?;
+    Ok(found.parts)
 }

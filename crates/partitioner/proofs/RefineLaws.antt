@@ -85,6 +85,11 @@ pub refined_none : (n : Net) (size : ℕ) (parts : PlainParts) → refined n siz
 unfolding refined
 refined_none n size parts = refl
 
+-- after no passes the parts cost what they did
+pub refined_zero : (n : Net) (size passes before : ℕ) (parts after : PlainParts) → after ≡ refined n size parts passes → before ≡ cost n parts → passes ≡ 0 → before ≡ cost n after
+refined_zero n size passes before parts after is costs none =
+    costs ∙ sym (ap (cost n) (is ∙ (ap (refined n size parts) none ∙ refined_none n size parts)))
+
 pub refined_more : (n : Net) (size : ℕ) (parts : PlainParts) (k : ℕ) → refined n size parts (k + 1) ≡ pass n size (refined n size parts k)
 unfolding refined
 refined_more n size parts k = ap (refined n size parts) (add-one k)

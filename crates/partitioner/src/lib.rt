@@ -15,4 +15,6 @@ pub use costs::pairs::{cost, cost_by};
 pub use plain_cut::plain;
 pub use reading::{Reads, Sources, reads_of};
 pub use refinement::minimal::is_minimal;
-pub use refinement::refining::{Refined, RefinedFrom, refine, refine_counted, refine_from};
+pub use refinement::refining::{
+    Refined, RefinedFrom, refine, refine_counted, refine_from, refine_known,
+};

@@ -2,6 +2,7 @@
 ghost use Rattle.std.specs.Prelude.{◌≡◌, ◌<◌, ◌≤◌, ◌⊎◌, length, IfOk};
 ghost use Rattle.feedback_cut.specs.Cut.{CutsLoops, OrdersUncut};
 ghost use Rattle.feedback_cut.specs.Inner.{inner_rows};
+ghost use Rattle.partitioner.specs.Cost.{cost};
 ghost use Rattle.partitioner.specs.Reads.{AreReads};
 ghost use Rattle.partitioner.specs.Refining.{refined};
 ghost use Rattle.partitioner.specs.Sizes.{KeepsSize};
@@ -12,10 +13,10 @@ ghost use Rattle.triplicate.specs.Private.Chosen.{AreChosen, AreTold};
 use crate::form::Form;
 use crate::surveying::{LeanSurvey, Survey, lean_survey};
 use clustering::{Level, clusters_from};
-use critical_paths::shortened_from;
+use critical_paths::{Shortened, shortened_from};
 use feedback_cut::{OrderedCut, cut_in_order, cut_registers};
 use flat_net::FlatNet;
-use partitioner::{Reads, Refined, RefinedFrom, plain, refine_from};
+use partitioner::{Reads, Refined, RefinedFrom, plain, refine_from, refine_known};
 use std::alloc::Global;
 use tmr_base::{OutOfMemory, Parts};
 
@@ -88,17 +89,36 @@ fn refined_from(
     reads: Reads,
     start: &Parts,
     size: u32,
-    passes: u32,
 ) -> Result<RefinedFrom, OutOfMemory>
     requires size { 0 < size }
     requires reads { AreReads n.now.net reads }
     requires start { KeepsSize n.now.net size start.now }
-    ensures exact { IfOk result (λ r. r.refined.parts ≡ refined n.now.net size start.now passes) }
+    ensures exact { IfOk result (λ r. r.refined.parts ≡ refined n.now.net size start.now 8) }
     ensures told { IfOk result (λ r. AreTold n.now.net size r.refined) }
     ensures reads { IfOk result (λ r. AreReads n.now.net r.reads) }
 {
-    let refined = refine_from(alloc, n, reads, start, size, passes)?;
+    let refined = refine_from(alloc, n, reads, start, size, 8)?;
     Ok(refined)
+}
+
+/// What is told of partitions whose cost is known. No node is moved.
+fn as_they_are(
+    alloc: Global,
+    n: &FlatNet,
+    reads: Reads,
+    short: &Shortened,
+    size: u32,
+) -> Result<RefinedFrom, OutOfMemory>
+    requires size { 0 < size }
+    requires reads { AreReads n.now.net reads }
+    requires parts { KeepsSize n.now.net size short.now.parts }
+    requires cost { short.now.cost ≡ cost n.now.net short.now.parts }
+    ensures parts { IfOk result (λ r. r.refined.parts ≡ short.now.parts) }
+    ensures told { IfOk result (λ r. AreTold n.now.net size r.refined) }
+    ensures reads { IfOk result (λ r. AreReads n.now.net r.reads) }
+{
+    let found = refine_known(alloc, n, reads, &short.parts, size, 0, short.cost)?;
+    Ok(found)
 }
 
 /// Partitions refined from clusters, and then moved off long paths, where these cost no more than those refined from the plain cut; else
@@ -120,16 +140,17 @@ fn lean_partitions(
     let before = standard.before;
     let most = standard.cost;
     let start = clustered(alloc, n, &mut survey.levels, size)?;
-    let lean = refined_from(alloc, n, first.reads, &start, size, 8)?;
+    let lean = refined_from(alloc, n, first.reads, &start, size)?;
     let short = shortened_from(
         alloc,
         n,
-        &lean.reads,
+        &lean.reads.readers,
         &survey.circuit,
         &lean.refined.parts,
         size,
+        lean.refined.cost,
     )?;
-    let fast = refined_from(alloc, n, lean.reads, &short, size, 0)?;
+    let fast = as_they_are(alloc, n, lean.reads, &short, size)?;
     let other = cheaper(standard, lean.refined);
     let chosen = within(most, fast.refined, other);
     let refined = Refined {
@@ -155,7 +176,7 @@ fn lean_planned(
     ensures survey { IfOk result (λ r. IsSurvey n.now.net r.survey) }
 {
     let Survey { reads, lean } = survey;
-    let mut lean = lean_survey(alloc, n, lean)?;
+    let mut lean = lean_survey(alloc, n, &reads.readers, lean)?;
     let found = lean_partitions(alloc, n, reads, &mut lean, size)?;
     Ok(Chosen {
         refined: found.refined,

@@ -5,6 +5,7 @@ ghost use Rattle.triplicate.specs.Surveyed.{IsSurvey};
 use clustering::{Level, levels_of};
 use critical_paths::{Circuit, circuit_of};
 use flat_net::FlatNet;
+use graph::Graph;
 use partitioner::{Reads, reads_of};
 use std::alloc::Global;
 use tmr_base::OutOfMemory;
@@ -33,16 +34,17 @@ pub fn survey_of(alloc: Global, n: &FlatNet) -> Result<Survey, OutOfMemory>
     Ok(Survey { reads, lean: None })
 }
 
-/// What the lean form looks up: what was made before, or else from the design.
+/// What the lean form looks up: what was made before, or else from the design and the other nodes that read each node.
 pub(crate) fn lean_survey(
     alloc: Global,
     n: &FlatNet,
+    readers: &Graph,
     made: Option<LeanSurvey>,
 ) -> Result<LeanSurvey, OutOfMemory> {
     match made {
         Some(lean) => Ok(lean),
         None => Ok(LeanSurvey {
-            levels: levels_of(alloc, n)?,
+            levels: levels_of(alloc, n, readers)?,
             circuit: circuit_of(alloc, n)?,
         }),
     }

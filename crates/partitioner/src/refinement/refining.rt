@@ -12,7 +12,7 @@ ghost use Rattle.partitioner.specs.Private.Resting.{Rests};
 
 use crate::costs::ahead::reads_far;
 use crate::costs::hints::{Tallies, no_tallies};
-use crate::costs::pairs::pairs_in;
+use crate::costs::pairs::{cost_by, pairs_in};
 use crate::counts::partitioning::{Partitioning, Placed};
 use crate::counts::spots::{Spots, shut_full, spots_of};
 use crate::counts::tracking::{placed, tracked};
@@ -194,7 +194,26 @@ fn unmoved(placed: Placed, before: u64) -> RefinedFrom
     RefinedFrom { refined, reads }
 }
 
+/// What the parts cost after so many passes: after none what they did before, which is not counted anew.
+fn cost_after(
+    alloc: Global,
+    n: &FlatNet,
+    p: &Partitioning,
+    before: u64,
+    passes: u32,
+) -> Result<u64, OutOfMemory>
+    requires tracks { Tracks n.now.net p.now }
+    requires before { passes ≡ 0 → before ≡ cost n.now.net (held_parts p.now) }
+    ensures { IfOk result (λ pairs. pairs ≡ cost n.now.net (held_parts p.now)) }
+{
+    if passes == 0 {
+        return Ok(before);
+    }
+    pairs_in(alloc, n, &p.readers, p.count, p.of.as_slice())
+}
+
 /// What refining gives, from where the nodes stand and what that costs.
+#[tactic(auto, using(crate::proofs::RefineLaws::refined_zero))]
 fn refine_placed(
     alloc: Global,
     n: &FlatNet,
@@ -203,7 +222,8 @@ fn refine_placed(
     size: u32,
     passes: u32,
 ) -> Result<RefinedFrom, OutOfMemory>
-    requires { IsPlaced n.now.net placed }
+    requires placed { IsPlaced n.now.net placed }
+    requires before { before ≡ cost n.now.net (placed_parts placed) }
     ensures exact { IfOk result (λ r. r.refined.parts ≡ refined n.now.net size (placed_parts placed) passes) }
     ensures range { IfOk result (λ r. AreParts r.refined.parts) }
     ensures cost { IfOk result (λ r. r.refined.cost ≡ cost n.now.net r.refined.parts) }
@@ -213,7 +233,7 @@ fn refine_placed(
 {
     let mut p = tracked(alloc, n, placed)?;
     let mut done = pass_all(alloc, n, &mut p, size, passes)?;
-    let cost = pairs_in(alloc, n, &p.readers, p.count, p.of.as_slice())?;
+    let cost = cost_after(alloc, n, &p, before, passes)?;
     let minimal = no_move_helps(n, &p, &done.spots, &mut done.tallies, size, done.settled);
     let Partitioning {
         count,
@@ -232,6 +252,35 @@ fn refine_placed(
     let sources = Some(Sources { rows, wide });
     let reads = Reads { readers, sources };
     Ok(RefinedFrom { refined, reads })
+}
+
+/// The same as `refine_from`, where it is known what the parts cost.
+pub fn refine_known(
+    alloc: Global,
+    n: &FlatNet,
+    reads: Reads,
+    parts: &Parts,
+    size: u32,
+    passes: u32,
+    before: u64,
+) -> Result<RefinedFrom, OutOfMemory>
+    requires size { 0 < size }
+    requires reads { AreReads n.now.net reads }
+    requires parts { KeepsSize n.now.net size parts.now }
+    requires before { before ≡ cost n.now.net parts.now }
+    ensures exact { IfOk result (λ r. r.refined.parts ≡ refined n.now.net size parts.now passes) }
+    ensures range { IfOk result (λ r. AreParts r.refined.parts) }
+    ensures cost { IfOk result (λ r. r.refined.cost ≡ cost n.now.net r.refined.parts) }
+    ensures before { IfOk result (λ r. r.refined.before ≡ before) }
+    ensures minimal { IfOk result (λ r. IsTrue r.refined.minimal ↔ IsMinimal n.now.net size r.refined.parts) }
+    ensures reads { IfOk result (λ r. AreReads n.now.net r.reads) }
+{
+    let start = placed(alloc, n, reads, parts)?;
+    if !may_move(n, &start, size) {
+        return Ok(unmoved(start, before));
+    }
+    let refined = refine_placed(alloc, n, start, before, size, passes)?;
+    Ok(refined)
 }
 
 /// The parts of `refine`, and what `cost` and `is_minimal` tell of them, from what is looked up of the design. It comes back for the next
@@ -254,18 +303,8 @@ pub fn refine_from(
     ensures minimal { IfOk result (λ r. IsTrue r.refined.minimal ↔ IsMinimal n.now.net size r.refined.parts) }
     ensures reads { IfOk result (λ r. AreReads n.now.net r.reads) }
 {
-    let start = placed(alloc, n, reads, parts)?;
-    let before = pairs_in(
-        alloc,
-        n,
-        &start.reads.readers,
-        start.count,
-        start.of.as_slice(),
-    )?;
-    if !may_move(n, &start, size) {
-        return Ok(unmoved(start, before));
-    }
-    let refined = refine_placed(alloc, n, start, before, size, passes)?;
+    let before = cost_by(alloc, n, &reads.readers, parts)?;
+    let refined = refine_known(alloc, n, reads, parts, size, passes, before)?;
     Ok(refined)
 }
 

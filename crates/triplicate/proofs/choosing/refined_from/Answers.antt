@@ -9,7 +9,7 @@ returns-clause-told c =
     let size = c.args.size in
     let refined = c.in_ok-refined.ensures in
     record {
-      keeps = subst (KeepsSize n size) (sym refined.exact) (refined_keeps n size c.args.start.now c.args.passes c.requires.start);
+      keeps = subst (KeepsSize n size) (sym refined.exact) (refined_keeps n size c.args.start.now 8 c.requires.start);
       range = refined.range;
       pairs = refined.cost;
       minimal = refined.minimal;

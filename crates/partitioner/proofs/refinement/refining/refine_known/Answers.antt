@@ -4,7 +4,7 @@ use Rattle.partitioner.specs.Reads.{AreReads}
 use Rattle.partitioner.specs.Refining.{refined, IsMinimal}
 use Rattle.partitioner.specs.Private.Tracking.{placed_parts}
 use Rattle.partitioner.proofs.RefineLaws.{fixed_refined, fixed_minimal}
-use Rattle.partitioner.proofs.refinement.refining.refine_from.Goals as goal
+use Rattle.partitioner.proofs.refinement.refining.refine_known.Goals as goal
 
 pub returns-then-not-may_move-clause-exact : goal.returns-then-not-may_move-clause-exact
 returns-then-not-may_move-clause-exact c =
