@@ -13,10 +13,10 @@ mod inner;
 mod loop_groups;
 mod loops;
 mod numbering;
-mod registers;
+mod register_nodes;
 mod self_reads;
 
 pub use cutting::{CutPins, OrderedCut, cut, cut_in_order, cut_registers};
 pub use inner::inner_reads;
 pub use loop_groups::{LoopGroups, components};
-pub use registers::{is_register, registers};
+pub use register_nodes::{is_register, registers};

@@ -3,7 +3,7 @@ ghost use Rattle.std.specs.Prelude.{◌≡◌, ◌<◌, length, map, IfOk, OnOk}
 ghost use Rattle.feedback_cut.specs.Private.SelfReads.{self_read, self_rows};
 
 use crate::loop_groups::LoopGroups;
-use crate::registers::is_register;
+use crate::register_nodes::is_register;
 use flat_net::{FlatNet, nodes_of};
 use graph::Graph;
 use std::alloc::Global;

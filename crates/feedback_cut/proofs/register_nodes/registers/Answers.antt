@@ -2,7 +2,7 @@ use Rattle.std.proofs.Common.{◌++◌, ◌∷◌, [], map, sym, ◌∙◌, ap, 
 use Rattle.std.specs.List.{range_with_len}
 use Rattle.std.proofs.lemmas.List.FromFn.{map-range_with_len_more}
 use Rattle.feedback_cut.specs.Registers.{is_register_at}
-use Rattle.feedback_cut.proofs.registers.registers.Goals as goal
+use Rattle.feedback_cut.proofs.register_nodes.registers.Goals as goal
 
 pub loop-x-preserved : goal.loop-x-preserved
 loop-x-preserved c =
