@@ -24,4 +24,4 @@ mod trials;
 mod worst_path;
 
 pub use design::{Circuit, circuit_of};
-pub use shortening::{Shortened, shortened, shortened_from};
+pub use shortening::{CostedParts, shortened, shortened_from};

@@ -37,7 +37,7 @@ fn copied(alloc: Global, parts: &Parts) -> Result<Parts, OutOfMemory>
 
 /// Partitions, and what they cost.
 #[derive(Drop)]
-pub struct Shortened {
+pub struct CostedParts {
     pub parts: Parts,
     pub cost: u64,
 }
@@ -52,7 +52,7 @@ pub fn shortened_from(
     parts: &Parts,
     size: u32,
     before: u64,
-) -> Result<Shortened, OutOfMemory>
+) -> Result<CostedParts, OutOfMemory>
     requires size { 0 < size }
     requires readers { AreOtherReaders n.now.net readers.now }
     requires parts { KeepsSize n.now.net size parts.now }
@@ -66,13 +66,13 @@ pub fn shortened_from(
     let found = settled_parts(alloc, n, wanted.as_slice(), size)?;
     let now = cost_by(alloc, n, readers, &found)?;
     if now.saturating_sub(before) <= before / 8 {
-        Ok(Shortened {
+        Ok(CostedParts {
             parts: found,
             cost: now,
         })
     } else {
         let parts = copied(alloc, parts)?;
-        Ok(Shortened {
+        Ok(CostedParts {
             parts,
             cost: before,
         })

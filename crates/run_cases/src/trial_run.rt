@@ -104,8 +104,14 @@ fn puts_made(sink: &mut MemSink) -> Result<u64, AllocError> {
     Ok(0)
 }
 
-/// Runs the program, and hands on nothing of what it promises.
-fn run_words(alloc: Global, words: &[String], files: &mut MemFiles, sink: &mut MemSink) -> Status {
+/// Runs the program over any files and sink, and hands on nothing of what it promises. It names neither, so that no caller pays for clauses that
+/// nobody needs there.
+fn run_over<F: Files, S: Sink>(
+    alloc: Global,
+    words: &[String],
+    files: &mut F,
+    sink: &mut S,
+) -> Status {
     run(alloc, words, files, sink)
 }
 
@@ -113,7 +119,7 @@ fn run_words(alloc: Global, words: &[String], files: &mut MemFiles, sink: &mut M
 pub fn run_once(alloc: Global, given: &Given) -> Result<Seen, AllocError> {
     let mut files = files_of(alloc, given)?;
     let mut sink = sink_of(alloc, given.puts)?;
-    let status = run_words(alloc, given.words, &mut files, &mut sink);
+    let status = run_over(alloc, given.words, &mut files, &mut sink);
     let text = sink.written().to_vec(alloc)?;
     let held = held_after(alloc, given, &files)?;
     let calls = calls_made(alloc, &mut files)?;

@@ -6,12 +6,13 @@ ghost use Rattle.std.specs.IoError.{error_kind};
 ghost use Rattle.std.specs.Process.{exit_status};
 ghost use Rattle.tmr_top.specs.Codes.{code_of};
 
+use std::alloc::Global;
 use std::env::FillError;
 use std::io::{ErrorKind, IsTerminal};
 use std::process::ExitCode;
 use std::rt::Env;
 use std::{env, io};
-use tmr_outside::{DiskFiles, StdSink, WipingSink};
+use tmr_outside::{DiskFiles, Files, Sink, StdSink, WipingSink};
 use tmr_top::{Status, run};
 
 /// The words of the command line behind the program's own name.
@@ -70,13 +71,24 @@ fn real_sink(
     }
 }
 
-/// Runs the program over real files and standard output, and hands on nothing of what it promises.
+/// Runs the program over any files and sink, and hands on nothing of what it promises. It names neither, so that no caller pays for clauses that
+/// nobody needs there.
+fn run_over<F: Files, S: Sink>(
+    alloc: Global,
+    words: &[String],
+    files: &mut F,
+    out: &mut S,
+) -> Status {
+    run(alloc, words, files, out)
+}
+
+/// Runs the program over real files and standard output.
 fn run_words(rt: &HostRuntime, words: &[String]) -> Status {
     let tells = tells_progress(rt);
     // The sink is made first: what the files told is told no earlier than the sink knows that it has to be wiped away.
     let mut out = real_sink(rt, tells);
     let mut files = real_files(rt, tells);
-    run(rt.alloc(), words, &mut files, &mut out)
+    run_over(rt.alloc(), words, &mut files, &mut out)
 }
 
 fn main(rt: HostRuntime) -> ExitCode {

@@ -13,7 +13,7 @@ ghost use Rattle.triplicate.specs.Private.Chosen.{AreChosen, AreTold};
 use crate::form::Form;
 use crate::surveying::{LeanSurvey, Survey, lean_survey};
 use clustering::{Level, clusters_from};
-use critical_paths::{Shortened, shortened_from};
+use critical_paths::{CostedParts, shortened_from};
 use feedback_cut::{OrderedCut, cut_in_order, cut_registers};
 use flat_net::FlatNet;
 use partitioner::{Reads, Refined, RefinedFrom, plain, refine_from, refine_known};
@@ -106,7 +106,7 @@ fn as_they_are(
     alloc: Global,
     n: &FlatNet,
     reads: Reads,
-    short: &Shortened,
+    short: &CostedParts,
     size: u32,
 ) -> Result<RefinedFrom, OutOfMemory>
     requires size { 0 < size }
