@@ -9,7 +9,7 @@ use Rattle.blif_text.specs.Models.{PlainElement, Table, Register, Instance, Plai
 
 abbrev pub plain_element : Element → PlainElement
 plain_element (elements.Table pins out cover) = Table pins.items out cover
-plain_element (elements.Latch pin out control init) = Register pin out control init
+plain_element (elements.Latch pin out control init) = Register pin out control.value init
 plain_element (elements.Instance model bindings) = Instance model bindings.items
 
 abbrev pub plain_model : BlifModel → PlainModel

@@ -30,11 +30,11 @@ pub enum Element {
         out: Name,
         cover: Cover,
     },
-    /// `.latch`. A control `NIL` is none.
+    /// `.latch`. A control `NIL` is none. It lies apart, since a model has room for the largest element at each.
     Latch {
         pin: Name,
         out: Name,
-        control: Option<(Edge, Name)>,
+        control: Box<Option<(Edge, Name)>>,
         init: Init,
     },
     /// `.subckt`: the placed model, and its formals with their actuals in the order of the text.

@@ -6,10 +6,12 @@
 //! free value is written `3`, and the text gives the marks back too (`IsFreeNetOf`).
 #![tactic(auto)]
 
+mod ahead;
 mod marked;
 mod nodes;
 mod text;
 mod words;
 
+pub use ahead::make_room;
 pub use text::{write_flat, write_free};
 pub use words::{put_rows, put_start};

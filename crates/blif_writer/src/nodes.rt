@@ -5,6 +5,7 @@ ghost use Rattle.blif_writer.specs.Text.{lines_text};
 ghost use Rattle.blif_writer.specs.Left.{lines_at, nodes_left};
 ghost use Rattle.blif_writer.specs.Marks.{net_in, marks_in};
 
+use crate::ahead::make_room;
 use crate::marked::Marked;
 use crate::words::{put_control, put_pins, put_rows, put_start, put_word};
 use flat_net::{FlatNet, Kind};
@@ -62,6 +63,7 @@ pub fn put_nodes(out: &mut Vec<u8>, design: Marked<'_>) -> Result<(), AllocError
     let net = design.net();
     for i in 0..net.node_count() {
         let x = NetId(net.input_count() + i);
+        make_room(out, net, i)?;
         put_net(out, net, x, design.is_free(x))?;
     }
     Ok(())

@@ -16,6 +16,7 @@ ghost use Rattle.hardened_text.specs.Private.Lines.{role_lines, block_text, mark
 use crate::copies::{Room, put_copies};
 use crate::names::put_three_names;
 use crate::voters::put_voters;
+use blif_writer::make_room;
 use flat_net::{FlatNet, FreeNet};
 use std::alloc::{AllocError, Global};
 use tmr_base::{Edge, NetId};
@@ -123,6 +124,7 @@ fn put_own_copies(
     if x < inputs {
         return Ok(());
     }
+    make_room(out, n, x - inputs)?;
     put_copies(out, n, plan, x - inputs, control, free, room)?;
     Ok(())
 }

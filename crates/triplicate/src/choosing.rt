@@ -163,51 +163,17 @@ fn lean_partitions(
     Ok(RefinedFrom { refined, reads })
 }
 
-/// The same, and what was looked up for the next plan.
-fn lean_planned(
-    alloc: Global,
-    n: &FlatNet,
-    survey: Survey,
-    size: u32,
-) -> Result<Chosen, OutOfMemory>
-    requires size { 0 < size }
-    requires survey { IsSurvey n.now.net survey }
-    ensures chosen { IfOk result (λ r. AreChosen Form.Lean n.now.net size r.refined) }
-    ensures survey { IfOk result (λ r. IsSurvey n.now.net r.survey) }
+/// Partitions, with what was looked up of the design for all forms and for the lean one.
+fn chosen_with(found: RefinedFrom, lean: Option<LeanSurvey>) -> Chosen
+    ensures refined { result.refined ≡ found.refined }
+    ensures reads { result.survey.reads ≡ found.reads }
+    ensures lean { result.survey.lean ≡ lean }
 {
-    let Survey { reads, lean } = survey;
-    let mut lean = lean_survey(alloc, n, &reads.readers, lean)?;
-    let found = lean_partitions(alloc, n, reads, &mut lean, size)?;
-    Ok(Chosen {
-        refined: found.refined,
-        survey: Survey {
-            reads: found.reads,
-            lean: Some(lean),
-        },
-    })
-}
-
-/// Partitions refined from the plain cut, and what was looked up for the next plan.
-fn plain_planned(
-    alloc: Global,
-    n: &FlatNet,
-    survey: Survey,
-    size: u32,
-) -> Result<Chosen, OutOfMemory>
-    requires size { 0 < size }
-    requires survey { IsSurvey n.now.net survey }
-    ensures chosen { IfOk result (λ r. AreChosen Form.Plain n.now.net size r.refined) }
-    ensures survey { IfOk result (λ r. IsSurvey n.now.net r.survey) }
-{
-    let Survey { reads, lean } = survey;
-    let found = plain_partitions(alloc, n, reads, size)?;
-    Ok(Chosen {
-        refined: found.refined,
-        survey: Survey {
-            reads: found.reads,
-            lean,
-        },
-    })
+    let RefinedFrom { refined, reads } = found;
+    Chosen {
+        refined,
+        survey: Survey { reads, lean },
+    }
 }
 
 /// The partitions of a form, and what is told of them. `before` is what the plain cut costs.
@@ -223,9 +189,17 @@ pub(crate) fn partitions(
     ensures chosen { IfOk result (λ r. AreChosen form n.now.net size r.refined) }
     ensures survey { IfOk result (λ r. IsSurvey n.now.net r.survey) }
 {
+    let Survey { reads, lean } = survey;
     match form {
-        Form::Plain => plain_planned(alloc, n, survey, size),
-        Form::Lean => lean_planned(alloc, n, survey, size),
+        Form::Plain => {
+            let found = plain_partitions(alloc, n, reads, size)?;
+            Ok(chosen_with(found, lean))
+        }
+        Form::Lean => {
+            let mut made = lean_survey(alloc, n, &reads.readers, lean)?;
+            let found = lean_partitions(alloc, n, reads, &mut made, size)?;
+            Ok(chosen_with(found, Some(made)))
+        }
     }
 }
 

@@ -84,6 +84,7 @@ fn latch(
     let out = read_name(alloc, out)?;
     let control = read_control(alloc, clock)?;
     let init = read_init(start)?;
+    let control = Box::new(alloc, control)?;
     Ok(Element::Latch {
         pin,
         out,

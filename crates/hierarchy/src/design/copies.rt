@@ -41,6 +41,7 @@ fn copy_element(alloc: Global, element: &Element) -> Result<Element, OutOfMemory
             let pin = pin.copy(alloc)?;
             let out = out.copy(alloc)?;
             let control = copy_control(alloc, control)?;
+            let control = Box::new(alloc, control)?;
             Ok(Element::Latch {
                 pin,
                 out,

@@ -41,7 +41,7 @@ fn push_element(draft: &mut Draft, element: Element) -> Result<(), OutOfMemory>
             out,
             control,
             init,
-        } => draft.push_latch(pin, out, control, start(init)),
+        } => draft.push_latch(pin, out, Box::into_inner(control), start(init)),
         Element::Instance { .. } => Ok(()),
     }
 }

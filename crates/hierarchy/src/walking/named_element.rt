@@ -60,6 +60,7 @@ fn name_latch(
     let pin = name_net(alloc, texts, place, pin)?;
     let out = name_net(alloc, texts, place, out)?;
     let control = name_control(alloc, texts, place, control)?;
+    let control = Box::new(alloc, control)?;
     Ok(Element::Latch {
         pin,
         out,

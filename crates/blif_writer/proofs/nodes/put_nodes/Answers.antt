@@ -14,7 +14,9 @@ loop-i-preserved c =
     let same : c.net-net.result.now.net ≡ n = c.net-net.ensures in
     let x : ℕ = c.input_count.result + c.loop-i.i in
     let place : x ≡ length n.inputs + c.loop-i.i = ap (λ (m : ℕ). m + c.loop-i.i) (c.input_count.ensures.count ∙ ap (λ (m : Net). length m.inputs) same) in
-    let put : c.put_net.new.out.items ≡ c.loop-i.out.items ++ lines_text (lines_at n (node_of n x) (node_bit (length n.inputs) marks x)) = c.in_ok-put_net.ensures ∙ (ap (λ (m : Net). c.loop-i.out.items ++ lines_text (lines_at m (node_of m x) c.is_free.result)) same ∙ ap (λ (b : Bool). c.loop-i.out.items ++ lines_text (lines_at n (node_of n x) b)) c.is_free.ensures) in
+    let placed : c.put_net.new.out.items ≡ c.make_room.new.out.items ++ lines_text (lines_at n (node_of n x) (node_bit (length n.inputs) marks x)) = c.in_ok-put_net.ensures ∙ (ap (λ (m : Net). c.make_room.new.out.items ++ lines_text (lines_at m (node_of m x) c.is_free.result)) same ∙ ap (λ (b : Bool). c.make_room.new.out.items ++ lines_text (lines_at n (node_of n x) b)) c.is_free.ensures) in
+    let room = c.in_ok-make_room.ensures in
+    let put : c.put_net.new.out.items ≡ c.loop-i.out.items ++ lines_text (lines_at n (node_of n x) (node_bit (length n.inputs) marks x)) = cc in
     node_put n marks c.loop-i.i x c.loop-i.out.items c.put_net.new.out.items (c.args.out.now.items ++ nodes_left n marks 0) (omega (arith, ap (λ (m : Net). length m.nodes) same)) place put c.loop-i.invariant
 
 pub returns : goal.returns

@@ -8,5 +8,7 @@ returns-then-x-inputs c = input_copies c.args.n.now.net c.args.plan.now.parts (p
 
 pub returns : goal.returns
 returns c =
-    node_copies c.args.n.now.net c.args.plan.now.parts (plan_votes c.args.n.now.net c.args.plan.now) c.args.free c.args.x (c.args.x - c.input_count-inputs.result) (length c.args.n.now.net.inputs + (c.args.x - c.input_count-inputs.result)) c.args.out.now.items c.put_copies.new.out.items
-    (omega (arith, c.input_count-inputs.ensures.count, c.if-x-inputs.false)) (omega (arith, c.input_count-inputs.ensures.count)) (omega (arith, c.input_count-inputs.ensures.count, c.if-x-inputs.false)) c.in_ok-put_copies.ensures
+    let put = node_copies c.args.n.now.net c.args.plan.now.parts (plan_votes c.args.n.now.net c.args.plan.now) c.args.free c.args.x (c.args.x - c.input_count-inputs.result) (length c.args.n.now.net.inputs + (c.args.x - c.input_count-inputs.result)) c.make_room.new.out.items c.put_copies.new.out.items
+    (omega (arith, c.input_count-inputs.ensures.count, c.if-x-inputs.false)) (omega (arith, c.input_count-inputs.ensures.count)) (omega (arith, c.input_count-inputs.ensures.count, c.if-x-inputs.false)) c.in_ok-put_copies.ensures in
+    let room = c.in_ok-make_room.ensures in
+    cc

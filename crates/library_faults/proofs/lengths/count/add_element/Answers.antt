@@ -1,12 +1,13 @@
-use Rattle.std.proofs.Common.{◌<◌, ◌+◌, ◌∙◌, ℕ, List, [], ◌∷◌, ◌++◌, map, sym, ap, subst}
+use Rattle.std.proofs.Common.{◌<◌, ◌+◌, ◌∙◌, ℕ, Option, List, [], ◌∷◌, ◌++◌, map, sym, ap, subst}
 use Rattle.std.specs.Prelude.{option_copied}
 use Rattle.std.specs.List.{sum_by}
+use Rattle.tmr_base.specs.declared.ids.Edge.{Edge}
 use Rattle.blif_text.specs.declared.library.Element.{Element}
 use Rattle.blif_text.specs.Kind.{is_among}
 use Rattle.blif_text.specs.Models.{Instance}
 use Rattle.blif_text.specs.Views.{plain_element}
 use Rattle.library_faults.specs.FlatText.{rows_length}
-use Rattle.library_faults.specs.Private.Counts.{use_of, placed_use, least, Adds, sum_of, fixed_with, uses_with, IsTold, IsOutcome, IsCount, AreApart}
+use Rattle.library_faults.specs.Private.Counts.{use_of, placed_use, control_names, control_fixed, least, Adds, sum_of, fixed_with, uses_with, IsTold, IsOutcome, IsCount, AreApart}
 use Rattle.library_faults.specs.Private.Entries.{entry_named}
 use Rattle.library_faults.proofs.ElementCounts.{table_added, latch_added, instance_added, large_instance}
 use Rattle.library_faults.proofs.lengths.count.add_element.Goals as goal
@@ -18,7 +19,8 @@ returns-in-Table-clause-adds c = λ limit fixed uses told. subst (λ (e : Elemen
 
 pub returns-in-Latch-clause-adds : goal.returns-in-Latch-clause-adds
 returns-in-Latch-clause-adds c = λ limit fixed uses told. subst (λ (e : Element). Adds c.args.count.now c.add_latch.new.count (fixed_with fixed (plain_element e ∷ [])) (sum_of (uses_with (is_among c.args.count.now.formals.keys) uses c.args.number (plain_element e ∷ [])))) (sym c.in-Latch.is)
-    (latch_added (is_among c.args.count.now.formals.keys) c.args.count.now c.add_latch.new.count c.in-Latch.pin c.in-Latch.out c.in-Latch.control c.in-Latch.init fixed uses c.args.number c.add_latch.ensures)
+    (latch_added (is_among c.args.count.now.formals.keys) c.args.count.now c.add_latch.new.count c.in-Latch.pin c.in-Latch.out c.in-Latch.control.value c.in-Latch.init fixed uses c.args.number
+    (subst (λ (control : Option (Edge × List ℕ)). Adds c.args.count.now c.add_latch.new.count (9 + control_fixed control) (sum_of (map (use_of (is_among c.args.count.now.formals.keys)) (c.in-Latch.pin ∷ c.in-Latch.out ∷ control_names control)))) c.deref-in-Latch.ensures c.add_latch.ensures))
 
 pub returns-in_ok-add_placed-in-Some-clause-adds : goal.returns-in_ok-add_placed-in-Some-clause-adds
 returns-in_ok-add_placed-in-Some-clause-adds c = λ limit fixed uses told.
