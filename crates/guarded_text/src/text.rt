@@ -1,5 +1,5 @@
 //! The flat text of the guarded design, made step by step.
-ghost use Rattle.std.specs.Prelude.{◌≡◌, ◌≤◌, ◌+◌, ◌++◌, ℕ, length, IfOk, OnOk};
+ghost use Rattle.std.specs.Prelude.{◌≡◌, ◌<◌, ◌≤◌, ◌+◌, ◌++◌, ℕ, length, IfOk, OnOk};
 ghost use Rattle.limits.specs.Most.{widest_nets};
 ghost use Rattle.flat_net.specs.Net.{Design, net_count, pin_total};
 ghost use Rattle.blif_writer.specs.Left.{spaced};
@@ -9,11 +9,12 @@ ghost use Rattle.blif_writer.specs.Text.{control_words, flat_text};
 ghost use Rattle.dwc.specs.Guard.{guard_net};
 ghost use Rattle.dwc.specs.Tells.{Guards};
 ghost use Rattle.guarded_text.specs.Private.Lines.{guarded_clock};
-ghost use Rattle.guarded_text.specs.Private.Steps.{alarm_step, compared_step, guarded_step, guarded_steps, guarded_rest};
+ghost use Rattle.guarded_text.specs.Private.Steps.{alarm_step, compared_step, guarded_step, guarded_steps, guarded_rest, twins_at};
 
 use crate::comparing::{put_alarm_end, put_comparator_name_of, put_comparator_of};
 use crate::copies::put_twins;
 use crate::ports::{control_text, put_ports};
+use blif_writer::make_room;
 use dwc::guarded_designs_tell;
 use flat_net::{FlatNet, nodes_of};
 use std::alloc::{AllocError, Global};
@@ -86,6 +87,25 @@ fn put_compared(alloc: Global, out: &mut Vec<u8>, n: &FlatNet, step: u64) -> Res
     Ok(())
 }
 
+/// Puts both copies of node i. Room is made first for the names that it and the nodes behind it read.
+fn put_node(
+    out: &mut Vec<u8>,
+    n: &FlatNet,
+    i: u32,
+    control: &[u8],
+    rows: &mut Vec<u8>,
+) -> Result<(), AllocError>
+    requires node { i < length n.now.net.nodes }
+    requires control { control.now ≡ spaced (control_words (guarded_clock n.now.net.clock)) }
+    ensures { OnOk result (out.new.items ≡ out.old.items ++ twins_at n.now.net i) }
+{
+    let _nodes = nodes_of(n);
+    make_room(out, n, i)?;
+    let x = NetId(n.input_count() + i);
+    put_twins(out, n, x, control, rows)?;
+    Ok(())
+}
+
 /// Puts what comes at this step: the ports first, then the two copies of each node, and what stands behind these.
 fn put_step(
     alloc: Global,
@@ -105,8 +125,7 @@ fn put_step(
     let i = step - 1;
     let nodes = nodes_of(n);
     if i < u64::from(nodes) {
-        let x = NetId(n.input_count() + i as u32);
-        put_twins(out, n, x, control, rows)?;
+        put_node(out, n, i as u32, control, rows)?;
         return Ok(());
     }
     put_compared(alloc, out, n, i - u64::from(nodes))?;

@@ -7,7 +7,7 @@ use Rattle.tmr_texts.specs.Texts.{joined}
 
 -- the version of these sources
 abbrev pub version : List ℕ
-version = codes "1.9.2"
+version = codes "1.9.3"
 
 -- what `version` prints
 unfoldable pub version_text : List ℕ

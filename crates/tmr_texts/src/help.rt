@@ -8,7 +8,7 @@ use tmr_base::OutOfMemory;
 use tmr_words::{Topic, call_of};
 
 /// The version of these sources.
-const VERSION: &str = "1.9.2";
+const VERSION: &str = "1.9.3";
 
 /// What `version` prints.
 #[tactic(auto, unfolding(crate::specs::Help::version_text))]

@@ -1,5 +1,5 @@
-use Rattle.std.proofs.Common.{ℕ, List, ◌+◌, ◌-◌, ◌++◌, ap, ◌∙◌, arith}
-use Rattle.guarded_text.proofs.Steps.{ports_put, twins_put, guarded_ports, guarded_twins, guarded_compared}
+use Rattle.std.proofs.Common.{ℕ, List, ◌-◌, ◌++◌, ap, ◌∙◌, arith}
+use Rattle.guarded_text.proofs.Steps.{ports_put, guarded_ports, guarded_twins, guarded_compared}
 use Rattle.guarded_text.proofs.text.put_step.Goals as goal
 
 pub returns-then-step-eq0 : goal.returns-then-step-eq0
@@ -9,9 +9,7 @@ returns-then-step-eq0 c =
 
 pub returns-then-i-from : goal.returns-then-i-from
 returns-then-i-from c =
-    twins_put c.args.n.now.net (c.args.step - 1) (c.input_count.result + (c.args.step - 1)) c.args.out.now.items c.put_twins.new.out.items
-    (omega (arith, c.if-i-from.true, c.from.ensures, c.nodes_of-nodes.ensures.count)) (omega (arith, c.input_count.ensures.count)) c.in_ok-put_twins.ensures
-    ∙ ap (λ (t : List ℕ). c.args.out.now.items ++ t)
+    c.in_ok-put_node.ensures ∙ ap (λ (t : List ℕ). c.args.out.now.items ++ t)
     (guarded_twins c.args.n.now.net c.args.step (c.args.step - 1) (omega arith) (omega (arith, c.if-step-eq0.false)) (omega (arith, c.if-i-from.true, c.from.ensures, c.nodes_of-nodes.ensures.count)))
 
 pub returns : goal.returns
