@@ -5,6 +5,7 @@ ghost use Rattle.partitioner.specs.Private.Meeting.{is_met};
 ghost use Rattle.node_reads.specs.Sources.{AreOtherReaders};
 ghost use Rattle.partitioner.specs.Cost.{cost};
 
+use crate::costs::ahead::read_block;
 use crate::counts::tracking::parts_list;
 use flat_net::{FlatNet, nodes_of};
 use graph::Graph;
@@ -64,6 +65,7 @@ pub fn pairs_in(
     let mut last = vec![in alloc; 0u32; count as usize]?;
     let mut total = 0;
     for x in 0..nodes_of(n) {
+        read_block(n, readers, of, x, &mut last)?;
         total += met_count(of, x, readers.row(x), &mut last, x + 1);
     }
     Ok(total)

@@ -36,15 +36,16 @@ loop-x-preserved c =
     let parts : PlainParts = record { count = c.args.count; of = c.args.of.now } in
     let x = c.loop-x.x in
     let within : x < length net.nodes = omega (arith, c.nodes_of-x-end.ensures.count, c.loop-x-test.true) in
+    let long = ap (λ (xs : List ℕ). length xs) c.in_ok-read_block.ensures ∙ c.loop-x.invariant.long in
     let here : c.met_count-total.result ≡ foreign_count net parts x =
-    c.met_count-total.ensures.count ∙ (ap (λ (b : ℕ). count_below b (is_met (get_or parts.of x 0) parts.of c.row.result.now (length c.row.result.now))) c.loop-x.invariant.long
+    c.met_count-total.ensures.count ∙ (ap (λ (b : ℕ). count_below b (is_met (get_or parts.of x 0) parts.of c.row.result.now (length c.row.result.now))) long
     ∙ (ap (λ (row : List ℕ). count_below parts.count (is_met (get_or parts.of x 0) parts.of row (length row))) c.row.ensures ∙ foreign_is net parts c.args.readers.now x c.requires.readers within)) in
     let more = sum_more x (foreign_count net parts) in
     let wide = product_more x c.args.count in
     record {
       total = omega (arith, here, c.loop-x.invariant.total, more);
-      few = omega (arith, c.met_count-total.ensures.few, c.loop-x.invariant.few, c.loop-x.invariant.long, wide);
-      long = c.met_count-total.ensures.long ∙ c.loop-x.invariant.long;
+      few = omega (arith, c.met_count-total.ensures.few, c.loop-x.invariant.few, long, wide);
+      long = c.met_count-total.ensures.long ∙ long;
       past = c.met_count-total.ensures.past;
     }
 
