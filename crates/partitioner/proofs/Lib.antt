@@ -15,6 +15,7 @@ pub mod MinimalLaws
 pub mod ShiftLaws
 pub mod RefineLaws
 pub mod WideLaws
+pub mod PlacedLaws
 pub mod SetLaws
 pub mod SpotLaws
 pub mod RestLaws

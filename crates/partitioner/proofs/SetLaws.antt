@@ -1,13 +1,15 @@
 -- Sets of numbers kept in a vector.
-use Rattle.std.proofs.Common.{◌≡◌, ℕ, ◌<◌, ◌⊎◌, inl, inr, Bool, true, false, cond, eqb, ltb, ◌||◌, List, [], ◌∷◌, length, map, set, get_or, sym, ◌∙◌, ap, subst, arith}
+use Rattle.std.proofs.Common.{◌≡◌, ℕ, ◌<◌, ◌⊎◌, inl, inr, Bool, true, false, cond, eqb, ltb, ◌||◌, List, [], ◌∷◌, ◌++◌, length, set, get_or, sym, ◌∙◌, ap, subst, arith}
 use Rattle.std.specs.List.{list_any, All}
 use Rattle.std.specs.Ordering.{is_eq, nat_cmp}
 use Rattle.std.specs.declared.cmp.Ordering.TheVariants.{Less, Equal, Greater}
 use Rattle.std.specs.BTreeSet.{BTreeSet, keys}
-use Rattle.std.proofs.lemmas.Bool.{cases_Bool, cases_eq, eqb-true, ltb-true, true≢false}
-use Rattle.std.proofs.lemmas.List.{map-set, get_or-map, get_or-set_same, get_or-set_other, length-map}
+use Rattle.std.proofs.lemmas.Bool.{cases_Bool, eqb-true, ltb-true, true≢false}
+use Rattle.std.proofs.lemmas.List.{map-set, map_push, get_or-map, length-map}
 use Rattle.std.proofs.lemmas.List.Elements.{All-head, All-tail}
+use Rattle.partitioner.specs.Private.Places.{ArePlaced, placed_rows}
 use Rattle.partitioner.specs.Private.Sets.{has, lists_of}
+use Rattle.partitioner.proofs.PlacedLaws.{row_behind, row_changed}
 
 -- numbers compare equal where they are the same
 pub same_number : (q c : ℕ) → is_eq (nat_cmp q c) ≡ eqb q c
@@ -32,27 +34,30 @@ any_known f P Q (y ∷ ys) e all use' = go (cases_Bool (f y)) (λ h. any_known f
 pub has_known : (sets : List (List ℕ)) (x q : ℕ) (P : ℕ → Type 0) → has sets x q ≡ true → All P (get_or sets x []) → P q
 has_known sets x q P e all = any_known (λ c. is_eq (nat_cmp q c)) P (P q) (get_or sets x []) e all (λ c f known. subst P (sym (eqb-true q c (sym (same_number q c) ∙ f))) known)
 
--- one set of many replaced by another
-pub set_here : (sets : List (BTreeSet ℕ)) (x : ℕ) (t : BTreeSet ℕ) → x < length sets → get_or (lists_of (set sets x t)) x [] ≡ keys t
-set_here sets x t l =
-    ap (λ (r : List (List ℕ)). get_or r x []) (map-set keys sets x t) ∙ get_or-set_same (map keys sets) x (keys t) [] (subst (λ (k : ℕ). x < k) (sym (length-map sets keys)) l)
-
-pub set_there : (sets : List (BTreeSet ℕ)) (x z : ℕ) (t : BTreeSet ℕ) → (z ≡ x → ⊥) → get_or (lists_of (set sets x t)) z [] ≡ get_or (lists_of sets) z []
-set_there sets x z t ne =
-    ap (λ (r : List (List ℕ)). get_or r z []) (map-set keys sets x t) ∙ get_or-set_other (map keys sets) x z (keys t) [] ne
-
+-- a set of many as a list
 pub set_was : (sets : List (BTreeSet ℕ)) (x : ℕ) (s : BTreeSet ℕ) → x < length sets → s ≡ get_or sets x s → get_or (lists_of sets) x [] ≡ keys s
 set_was sets x s l at = get_or-map keys sets x s [] l ∙ ap keys (sym at)
 
--- what each set has is kept where the one set keeps it
-pub set_kept : (sets : List (BTreeSet ℕ)) (x : ℕ) (s t : BTreeSet ℕ) (P : ℕ → Type 0) → x < length sets → s ≡ get_or sets x s → ((r : ℕ) → P r → list_any (λ c. is_eq (nat_cmp r c)) (keys s) ≡ true → list_any (λ c. is_eq (nat_cmp r c)) (keys t) ≡ true) → (z r : ℕ) → P r → has (lists_of sets) z r ≡ true → has (lists_of (set sets x t)) z r ≡ true
-set_kept sets x s t P l at keeps z r p h = go (cases_eq z x)
+-- what holds of each set that stays, and of the one that is replaced by another, holds of all
+pub set_changed : (R : ℕ → List ℕ → List ℕ → Type 0) (places : List ℕ) (sets : List (BTreeSet ℕ)) (x p : ℕ) (s t : BTreeSet ℕ) → ArePlaced places (lists_of sets) → p ≡ get_or places x 0 → 0 < p → s ≡ get_or sets p s → ((z : ℕ) (row : List ℕ) → (z ≡ x → ⊥) → R z row row) → R x (keys s) (keys t) → (z : ℕ) → R z (get_or (placed_rows places (lists_of sets)) z []) (get_or (placed_rows places (lists_of (set sets p t))) z [])
+set_changed R places sets x p s t placed e own at stays changed z =
+    subst (λ (rows : List (List ℕ)). R z (get_or (placed_rows places (lists_of sets)) z []) (get_or (placed_rows places rows) z [])) (sym is)
+    (row_changed R places (lists_of sets) x (keys t) placed (λ h. omega (arith, own, e, h)) stays (subst (λ (row : List ℕ). R x row (keys t)) (sym was) changed) z)
   where
-    go : (z ≡ x) ⊎ (z ≡ x → ⊥) → has (lists_of (set sets x t)) z r ≡ true
-    go (inl e) =
-        let before : list_any (λ c. is_eq (nat_cmp r c)) (keys s) ≡ true = sym (ap (list_any (λ c. is_eq (nat_cmp r c))) (ap (λ (k : ℕ). get_or (lists_of sets) k []) e ∙ set_was sets x s l at)) ∙ h in
-        ap (list_any (λ c. is_eq (nat_cmp r c))) (ap (λ (k : ℕ). get_or (lists_of (set sets x t)) k []) e ∙ set_here sets x t l) ∙ keeps r p before
-    go (inr ne) = ap (list_any (λ c. is_eq (nat_cmp r c))) (set_there sets x z t ne) ∙ h
+    is : lists_of (set sets p t) ≡ set (lists_of sets) (get_or places x 0) (keys t)
+    is = map-set keys sets p t ∙ ap (λ (k : ℕ). set (lists_of sets) k (keys t)) e
+
+    was : get_or (lists_of sets) (get_or places x 0) [] ≡ keys s
+    was = ap (λ (k : ℕ). get_or (lists_of sets) k []) (sym e) ∙ set_was sets p s (omega (arith, placed.within x, e, length-map sets keys)) at
+
+pub lists_pushed : (sets sets' : List (BTreeSet ℕ)) (t : BTreeSet ℕ) → sets' ≡ sets ++ t ∷ [] → lists_of sets' ≡ lists_of sets ++ keys t ∷ []
+lists_pushed sets sets' t e = ap lists_of e ∙ map_push keys sets t
+
+-- what holds of each set that stays, and of the empty set and one that is put in its place, holds of all
+pub set_pushed : (R : ℕ → List ℕ → List ℕ → Type 0) (places : List ℕ) (sets sets' : List (BTreeSet ℕ)) (x next : ℕ) (t : BTreeSet ℕ) → ArePlaced places (lists_of sets) → x < length places → get_or places x 0 ≡ 0 → next ≡ length sets → sets' ≡ sets ++ t ∷ [] → ((z : ℕ) (row : List ℕ) → (z ≡ x → ⊥) → R z row row) → R x [] (keys t) → (z : ℕ) → R z (get_or (placed_rows places (lists_of sets)) z []) (get_or (placed_rows (set places x next) (lists_of sets')) z [])
+set_pushed R places sets sets' x next t placed l none at e stays changed =
+    row_behind R places (lists_of sets) (lists_of sets') x next (keys t) placed l (at ∙ sym (length-map sets keys)) (lists_pushed sets sets' t e) stays
+    (subst (λ (row : List ℕ). R x row (keys t)) (sym (ap (λ (k : ℕ). get_or (lists_of sets) k []) none ∙ placed.none)) changed)
 
 -- a number of a list is the first, or one of the others
 pub rest_step : (z x : ℕ) (list rest : List ℕ) → list ≡ x ∷ rest → list_any (λ c. is_eq (nat_cmp z c)) list ≡ true → (z ≡ x) ⊎ (list_any (λ c. is_eq (nat_cmp z c)) rest ≡ true)

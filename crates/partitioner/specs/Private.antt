@@ -10,6 +10,7 @@ pub mod Gaining
 pub mod Ready
 pub mod Resting
 pub mod Hinting
+pub mod Places
 pub mod Marks
 pub mod Lanes
 pub mod Scanning

@@ -4,6 +4,7 @@ pub mod counting;
 pub mod marking;
 pub mod marks;
 pub mod partitioning;
+pub mod places;
 pub mod rows;
 pub mod runs;
 pub mod sets;

@@ -1,39 +1,50 @@
 //! In which partitions nodes of very many readers are near, in rows of bits.
-ghost use Rattle.std.specs.Prelude.{◌≡◌, ◌<◌, ◌+◌, ◌*◌, ℕ, true, [], length, slice_index_or, IfOk, OnOk};
+ghost use Rattle.std.specs.Prelude.{◌≡◌, ◌<◌, ◌+◌, ◌*◌, ◌∷◌, ℕ, true, [], length, slice_index_or, IfOk, OnOk};
 ghost use Rattle.table_cover.specs.Words.{word_bit};
 ghost use Rattle.partitioner.specs.Private.Marks.{is_marked, lane_of};
+ghost use Rattle.partitioner.specs.Private.Places.{ArePlaced, placed_rows};
 
+use crate::counts::places::{next_place, no_places, place_of};
 use crate::counts::rows::{Level, Row};
 use std::alloc::Global;
 use std::marker::Model;
 use tmr_base::OutOfMemory;
 
-/// For some nodes a row of bits, one for each partition. A node without a row is taken to be marked in all of them.
+/// For some nodes a row of bits, one for each partition. A node without a row is taken to be marked in all of them. All these share the
+/// first row, which has no words.
 #[derive(Drop)]
 pub struct Marks {
+    places: Vec<u32>,
     rows: Vec<Row>,
 }
 
 impl Model for Marks {
     ghost use Rattle.std.specs.Prelude.{ℕ, List};
+    ghost use Rattle.partitioner.specs.Private.Places.{ArePlaced, placed_rows};
 
     ghost Value = { List (List ℕ) };
 
-    ghost view = { λ m. m.rows.items };
+    ghost view = { λ m. placed_rows m.places.items m.rows.items };
+
+    ghost invariant = { λ m. ArePlaced m.places.items m.rows.items };
 }
 
-/// As many empty rows.
-fn empty_rows(alloc: Global, count: u32) -> Result<Vec<Row>, OutOfMemory>
-    ensures long { IfOk result (λ rows. length rows.items ≡ count) }
-    ensures empty { IfOk result (λ rows. (x : ℕ) → length (slice_index_or rows.items x []) ≡ 0) }
+/// The row that nodes without one of their own share.
+fn no_rows(alloc: Global) -> Result<Vec<Row>, OutOfMemory>
+    ensures { IfOk result (λ rows. rows.items ≡ [] ∷ []) }
 {
     let mut rows = Vec::new(alloc);
-    let mut left = count;
-    while left > 0 {
-        rows.push(Row::none(alloc))?;
-        left -= 1;
-    }
+    rows.push(Row::none(alloc))?;
     Ok(rows)
+}
+
+/// The row of node x.
+fn row_of<'a>(places: &[u32], rows: &'a [Row], x: u32) -> &'a Row
+    requires placed { ArePlaced places.now rows.now }
+    requires node { x < length places.now }
+    ensures { result.now ≡ slice_index_or (placed_rows places.now rows.now) x [] }
+{
+    &rows[place_of(places, x)]
 }
 
 impl Marks {
@@ -42,17 +53,21 @@ impl Marks {
         ensures long { IfOk result (λ marks. length marks ≡ count) }
         ensures empty { IfOk result (λ marks. (x : ℕ) → length (slice_index_or marks x []) ≡ 0) }
     {
-        let rows = empty_rows(alloc, count)?;
-        Ok(Marks { rows })
+        let places = no_places(alloc, count)?;
+        let rows = no_rows(alloc)?;
+        Ok(Marks { places, rows })
     }
 
-    /// Gives node x a row of so many words, in which no bit is set.
+    /// Gives node x a row of so many words, in which no bit is set. One that it had before is kept, but is no node's any more.
     pub fn open(&mut self, alloc: Global, x: u32, words: usize) -> Result<(), OutOfMemory>
         requires { x < length self.old }
         ensures long { OnOk result (length self.new ≡ length self.old) }
         ensures others { OnOk result ((z : ℕ) → (z ≡ x → ⊥) → slice_index_or self.new z [] ≡ slice_index_or self.old z []) }
     {
-        self.rows[x as usize] = Row::zeros(alloc, words)?;
+        let row = Row::zeros(alloc, words)?;
+        let next = next_place(self.rows.len())?;
+        self.rows.push(row)?;
+        self.places[x as usize] = next;
         Ok(())
     }
 
@@ -60,14 +75,14 @@ impl Marks {
     pub fn has_row(&self, x: u32) -> bool
         requires { x < length self.now }
     {
-        self.rows[x as usize].has_words()
+        row_of(&self.places, &self.rows, x).has_words()
     }
 
     /// How many words of node x have a bit set, of so many, or all of them where it has no row. It may be some more.
     pub fn word_count(&self, x: u32, all: usize) -> usize
         requires { x < length self.now }
     {
-        let row = &self.rows[x as usize];
+        let row = row_of(&self.places, &self.rows, x);
         if row.has_words() {
             row.word_count()
         } else {
@@ -80,7 +95,7 @@ impl Marks {
         requires { x < length self.now }
         ensures { (c q : ℕ) → c < 64 → lane_of level q ≡ w * 64 + c → is_marked self.now x q ≡ true → word_bit c result ≡ true }
     {
-        self.rows[x as usize].word(level, w)
+        row_of(&self.places, &self.rows, x).word(level, w)
     }
 
     /// Node x is marked in partition q.
@@ -88,7 +103,7 @@ impl Marks {
         requires { x < length self.now }
         ensures { result ≡ is_marked self.now x q }
     {
-        self.rows[x as usize].has(q)
+        row_of(&self.places, &self.rows, x).has(q)
     }
 
     /// Marks node x in partition q.
@@ -99,7 +114,10 @@ impl Marks {
         ensures kept { (z r : ℕ) → is_marked self.old z r ≡ true → is_marked self.new z r ≡ true }
         ensures added { is_marked self.new x q ≡ true }
     {
-        self.rows[x as usize].set(q);
+        let place = place_of(&self.places, x);
+        if place > 0 {
+            self.rows[place].set(q);
+        }
     }
 
     /// Marks node x no longer in partition q.
@@ -110,6 +128,9 @@ impl Marks {
         ensures kept { (z r : ℕ) → (q ≡ r → ⊥) → is_marked self.old z r ≡ true → is_marked self.new z r ≡ true }
         ensures others { (z r : ℕ) → (z ≡ x → ⊥) → is_marked self.old z r ≡ true → is_marked self.new z r ≡ true }
     {
-        self.rows[x as usize].clear(q);
+        let place = place_of(&self.places, x);
+        if place > 0 {
+            self.rows[place].clear(q);
+        }
     }
 }

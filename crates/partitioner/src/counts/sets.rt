@@ -1,38 +1,62 @@
-//! A set of numbers for each number below a bound.
-ghost use Rattle.std.specs.Prelude.{◌≡◌, ◌<◌, [], ℕ, true, length, slice_index_or, IfOk, OnOk};
-ghost use Rattle.partitioner.specs.Private.Sets.{has};
+//! A set of numbers for each number below a bound, of which few have any in it.
+ghost use Rattle.std.specs.Prelude.{◌≡◌, ◌<◌, ◌∷◌, [], ℕ, true, length, slice_index_or, IfOk, OnOk};
+ghost use Rattle.std.specs.List.{list_any};
+ghost use Rattle.std.specs.Ordering.{is_eq, nat_cmp};
+ghost use Rattle.partitioner.specs.Private.Places.{ArePlaced, placed_rows};
+ghost use Rattle.partitioner.specs.Private.Sets.{has, lists_of};
 
+use crate::counts::places::{next_place, no_places, place_of};
 use std::alloc::Global;
 use std::collections::BTreeSet;
 use std::marker::Model;
 use tmr_base::OutOfMemory;
 
-/// Sets of numbers, which are walked in ascending order.
+/// Sets of numbers, which are walked in ascending order. A number gets a set of its own with the first that is put in it. All others share
+/// the first set, which stays empty.
 #[derive(Drop)]
 pub struct Sets {
+    alloc: Global,
+    places: Vec<u32>,
     sets: Vec<BTreeSet<u32>>,
 }
 
 impl Model for Sets {
     ghost use Rattle.std.specs.Prelude.{ℕ, List};
+    ghost use Rattle.partitioner.specs.Private.Places.{ArePlaced, placed_rows};
     ghost use Rattle.partitioner.specs.Private.Sets.{lists_of};
 
     ghost Value = { List (List ℕ) };
 
-    ghost view = { λ s. lists_of s.sets.items };
+    ghost view = { λ s. placed_rows s.places.items (lists_of s.sets.items) };
+
+    ghost invariant = { λ s. ArePlaced s.places.items (lists_of s.sets.items) };
 }
 
-/// As many empty sets.
-fn empty_sets(alloc: Global, count: u32) -> Result<Vec<BTreeSet<u32>>, OutOfMemory>
-    ensures { IfOk result (λ sets. length sets.items ≡ count) }
+/// The empty set that numbers without one of their own share.
+fn no_sets(alloc: Global) -> Result<Vec<BTreeSet<u32>>, OutOfMemory>
+    ensures { IfOk result (λ sets. lists_of sets.items ≡ [] ∷ []) }
 {
     let mut sets = Vec::new(alloc);
-    let mut left = count;
-    while left > 0 {
-        sets.push(BTreeSet::new(alloc))?;
-        left -= 1;
-    }
+    sets.push(BTreeSet::new(alloc))?;
     Ok(sets)
+}
+
+/// A set of q alone.
+fn set_of_one(alloc: Global, q: u32) -> Result<BTreeSet<u32>, OutOfMemory>
+    ensures { IfOk result (λ set. list_any (λ k. is_eq (nat_cmp q k)) set.keys ≡ true) }
+{
+    let mut set = BTreeSet::new(alloc);
+    set.insert(q)?;
+    Ok(set)
+}
+
+/// The set of x.
+fn set_of<'a>(places: &[u32], sets: &'a [BTreeSet<u32>], x: u32) -> &'a BTreeSet<u32>
+    requires placed { ArePlaced places.now (lists_of sets.now) }
+    requires number { x < length places.now }
+    ensures { result.now.keys ≡ slice_index_or (placed_rows places.now (lists_of sets.now)) x [] }
+{
+    &sets[place_of(places, x)]
 }
 
 impl Sets {
@@ -40,8 +64,13 @@ impl Sets {
     pub fn empty(alloc: Global, count: u32) -> Result<Sets, OutOfMemory>
         ensures { IfOk result (λ sets. length sets ≡ count) }
     {
-        let sets = empty_sets(alloc, count)?;
-        Ok(Sets { sets })
+        let places = no_places(alloc, count)?;
+        let sets = no_sets(alloc)?;
+        Ok(Sets {
+            alloc,
+            places,
+            sets,
+        })
     }
 
     /// The set of x.
@@ -49,7 +78,7 @@ impl Sets {
         requires { x < length self.now }
         ensures { result.now.keys ≡ slice_index_or self.now x [] }
     {
-        &self.sets[x as usize]
+        set_of(&self.places, &self.sets, x)
     }
 
     /// Adds q to the set of x.
@@ -59,7 +88,15 @@ impl Sets {
         ensures kept { OnOk result ((z r : ℕ) → has self.old z r ≡ true → has self.new z r ≡ true) }
         ensures added { OnOk result (has self.new x q ≡ true) }
     {
-        self.sets[x as usize].insert(q)?;
+        let place = place_of(&self.places, x);
+        if place > 0 {
+            self.sets[place].insert(q)?;
+            return Ok(());
+        }
+        let next = next_place(self.sets.len())?;
+        let set = set_of_one(self.alloc, q)?;
+        self.sets.push(set)?;
+        self.places[x as usize] = next;
         Ok(())
     }
 
@@ -70,6 +107,9 @@ impl Sets {
         ensures kept { (z r : ℕ) → (q ≡ r → ⊥) → has self.old z r ≡ true → has self.new z r ≡ true }
         ensures others { (z r : ℕ) → (z ≡ x → ⊥) → has self.old z r ≡ true → has self.new z r ≡ true }
     {
-        let _was = self.sets[x as usize].remove(&q);
+        let place = place_of(&self.places, x);
+        if place > 0 {
+            let _was = self.sets[place].remove(&q);
+        }
     }
 }
