@@ -4,6 +4,7 @@
 //! pair that a plan stands for has the hardened form. `hardened_text` writes the texts of that pair, and `hardened_pair` makes it in memory.
 #![tactic(auto)]
 
+mod ahead;
 mod blocks;
 mod choosing;
 mod depths;

@@ -10,6 +10,7 @@ ghost use Rattle.triplicate.specs.Starts.{needs};
 ghost use Rattle.triplicate.specs.Taps.{tap_of, IsTapped, AreTaps};
 ghost use Rattle.triplicate.specs.Private.Places.{HasPlaces};
 
+use crate::ahead::{Ahead, keep_readings, read_ahead};
 use crate::taps::{Taps, no_taps};
 use crate::voting::{VotedPins, is_voted};
 use flat_net::{FlatNet, nodes_of};
@@ -118,13 +119,14 @@ fn note_pins(
     Ok(())
 }
 
-/// Notes a partition for what its nodes read at voted pins.
+/// Notes a partition for what its nodes read at voted pins. What they need is read ahead.
 fn note_members(
     n: &FlatNet,
     parts: &Parts,
     votes: &VotedPins,
     rows: &mut Notes,
     taps: &mut Taps,
+    ahead: &mut Ahead,
     p: u32,
     members: &[u32],
 ) -> Result<(), OutOfMemory>
@@ -138,7 +140,10 @@ fn note_members(
     ensures members { OnOk result (All (IsTapped n.now.net parts.now (pin_is_voted n.now.net parts.now votes.now) taps.new) members.now) }
     ensures kept { OnOk result ((y : ℕ) → y < length n.now.net.nodes → IsTapped n.now.net parts.now (pin_is_voted n.now.net parts.now votes.now) taps.old y → IsTapped n.now.net parts.now (pin_is_voted n.now.net parts.now votes.now) taps.new y) }
 {
+    let mut turn: usize = 0;
     for y in members {
+        read_ahead(n, parts, rows, members, turn, ahead);
+        turn = turn.saturating_add(1);
         let first = taps.firsts[*y as usize];
         note_pins(n, parts, votes, rows, &mut taps.places, first, *y)?;
     }
@@ -162,11 +167,22 @@ fn noted_parts(
     let nets = n.input_count() + nodes_of(n);
     let mut rows = Notes::empty(alloc, nets, n.pin_total() as usize)?;
     let mut taps = no_taps(alloc, n)?;
+    let mut ahead = Ahead { sum: 0 };
     let count = parts.count();
     for p in 0..count {
-        note_members(n, parts, votes, &mut rows, &mut taps, p, members.row(p))?;
+        note_members(
+            n,
+            parts,
+            votes,
+            &mut rows,
+            &mut taps,
+            &mut ahead,
+            p,
+            members.row(p),
+        )?;
     }
-    Ok(Noted { rows, taps })
+    let kept = keep_readings(taps, ahead)?;
+    Ok(Noted { rows, taps: kept })
 }
 
 /// For each net the partitions that need a voter of it, in ascending order, and which of these voters each pin reads.
